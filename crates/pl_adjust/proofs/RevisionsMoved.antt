@@ -36,7 +36,7 @@ use Rattle.pl_bars.specs.Bars.{is_negative}
 use Rattle.pl_adjust.specs.declared.revisions.Revision.{Revision}
 use Rattle.pl_adjust.specs.Columns.{StandByDay, by_place, in_column}
 use Rattle.pl_adjust.specs.Revised.{AreKnown, ChangeAlike, IsKnown, revised, revised_by, revised_columns, revised_in}
-use Rattle.pl_adjust.specs.Revisions.{Rule, breaks, col_in, session_in, revision_in, header, is_same, is_soon, says_revision, revisions_of}
+use Rattle.pl_adjust.specs.Revisions.{Rule, breaks, col_in, session_in, revision_in, header, is_same, is_soon, revision_or_rule, revisions_of}
 use Rattle.pl_adjust.specs.Revisions as rules
 use Rattle.pl_adjust.proofs.ByColumn.{by_place-ties, rises-by_place, tied}
 use Rattle.pl_adjust.proofs.Kept.{in_front, front_order}
@@ -79,8 +79,8 @@ record Keeps (days : List ℤ) (assets : List AssetRow) (before : List Revision)
   pub own : list_any (is_same x) before ≡ false
 
 module _ (days : List ℤ) (assets : List AssetRow) where
-  keeps-said : (before : List Revision) (r : Record) (x : Revision) → says_revision days assets before r ≡ Ok x → Keeps days assets before r x
-  unfolding says_revision
+  keeps-said : (before : List Revision) (r : Record) (x : Revision) → revision_or_rule days assets before r ≡ Ok x → Keeps days assets before r x
+  unfolding revision_or_rule
   keeps-said before r x e =
       let k = told_ok rules.rules (breaks days assets before r) (ok_or (revision_in r) rules.BadField) x e in
       let at : revision_in r ≡ Some x = ok_or-Ok (revision_in r) rules.BadField x k.1 in
@@ -94,15 +94,15 @@ module _ (days : List ℤ) (assets : List AssetRow) where
         own = rw at at k.0.1.1.1.1.1.1.0;
       }
 
-  said-keeps : (before : List Revision) (r : Record) (x : Revision) → Keeps days assets before r x → says_revision days assets before r ≡ Ok x
-  unfolding says_revision
+  said-keeps : (before : List Revision) (r : Record) (x : Revision) → Keeps days assets before r x → revision_or_rule days assets before r ≡ Ok x
+  unfolding revision_or_rule
   said-keeps before r x h = rw (h.few, h.written, h.session, h.asset, h.cell, h.later, h.own) refl
 
   -- the record is this revision, whatever the others are
   abbrev IsOne : Record → Revision → Type 0
   IsOne r x = Keeps days assets [] r x
 
-  tells : (before : List Revision) (r : Record) (x : Revision) → (says_revision days assets before r ≡ Ok x) ↔ Fits most_revisions IsOne is_same before r x
+  tells : (before : List Revision) (r : Record) (x : Revision) → (revision_or_rule days assets before r ≡ Ok x) ↔ Fits most_revisions IsOne is_same before r x
   tells before r x = (there, back)
     where
       room : (n : ℕ) → nat_le most_revisions n ≡ false → n < most_revisions
@@ -111,7 +111,7 @@ module _ (days : List ℤ) (assets : List AssetRow) where
       some : (n : ℕ) → n < most_revisions → nat_le most_revisions n ≡ false
       some n h = grind (arith, nat_tests)
 
-      there : says_revision days assets before r ≡ Ok x → Fits most_revisions IsOne is_same before r x
+      there : revision_or_rule days assets before r ≡ Ok x → Fits most_revisions IsOne is_same before r x
       there e =
           let k = keeps-said before r x e in
           record {
@@ -120,7 +120,7 @@ module _ (days : List ℤ) (assets : List AssetRow) where
             own = k.own;
           }
 
-      back : Fits most_revisions IsOne is_same before r x → says_revision days assets before r ≡ Ok x
+      back : Fits most_revisions IsOne is_same before r x → revision_or_rule days assets before r ≡ Ok x
       back h =
           let k = h.is in
           said-keeps before r x (record {
@@ -137,21 +137,21 @@ module _ (days : List ℤ) (assets : List AssetRow) where
       → (found : List Revision) × (revisions_of days assets (first ∷ others) ≡ Ok found) × IsPermutation rows found
   unfolding revisions_of
   revisions-moved first records others m rows e =
-      under-permuted (says_revision days assets) most_revisions IsOne is_same flips tells header rules.BadHeader first records others m rows e
+      under-permuted (revision_or_rule days assets) most_revisions IsOne is_same flips tells header rules.BadHeader first records others m rows e
 
   -- no two of them are of one cell and known from one day on
   abbrev Apart : List Revision → Type 0
   Apart rows = AllPairs (λ x y. is_same y x ≡ false) rows
 
-  apart-more : (before : List Revision) (r : Record) (x : Revision) → Apart before → says_revision days assets before r ≡ Ok x → Apart (before ++ x ∷ [])
+  apart-more : (before : List Revision) (r : Record) (x : Revision) → Apart before → revision_or_rule days assets before r ≡ Ok x → Apart (before ++ x ∷ [])
   apart-more before r x h e =
       all_pairs_push (λ x y. is_same y x ≡ false) before x h (none-at (is_same x) before (keeps-said before r x e).own)
 
   rows-apart : (records : List Record) (rows : List Revision) → revisions_of days assets records ≡ Ok rows → Apart rows
   unfolding revisions_of
   rows-apart records rows e =
-      rows-keep Apart 2 (says_revision days assets) apart-more _ [] rows (λ i j d h l. absurd (omega arith))
-      (under_ok header rules.BadHeader (says_revision days assets) records rows e).1
+      rows-keep Apart 2 (revision_or_rule days assets) apart-more _ [] rows (λ i j d h l. absurd (omega arith))
+      (under_ok header rules.BadHeader (revision_or_rule days assets) records rows e).1
 
 -- ---- what acts on a cell
 

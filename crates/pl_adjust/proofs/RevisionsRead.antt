@@ -29,7 +29,7 @@ use Rattle.pl_bars.proofs.BarFields.{IsCellText-bar_cell, IsNegative-test, is_ne
 use Rattle.pl_bars.proofs.BarsSaid.{day_form}
 use Rattle.pl_adjust.specs.declared.revisions.Revision.{Revision}
 use Rattle.pl_spec.specs.Limits.{most_revisions}
-use Rattle.pl_adjust.specs.Revisions.{Rule, breaks, col_in, session_in, revision_in, header, is_same, is_soon, says_revision, revisions_of, AreRevisions, IsRevision}
+use Rattle.pl_adjust.specs.Revisions.{Rule, breaks, col_in, session_in, revision_in, header, is_same, is_soon, revision_or_rule, revisions_of, AreRevisions, IsRevision}
 use Rattle.pl_adjust.specs.Revisions as rules
 use Rattle.pl_adjust.specs.RevisionRules.{IsRevisionRecord, AreOfOne, IsNext, Breaks, AreRevisionsOf, IsRevisionsFault}
 use Rattle.pl_adjust.proofs.RevisionFields.{revision_form}
@@ -83,8 +83,8 @@ module _ (days : List ℤ) (assets : List AssetRow) (ud : AreDays days) (ua : Ar
   tells before r rules.TooSoon = has-tells revision_in IsRevisionRecord revision_form _ _ soon_tells r
   tells before r rules.Duplicate = has-tells revision_in IsRevisionRecord revision_form _ _ (same_tells before) r
 
-  pub revisions_judged : Judges (IsNext days assets) (λ before r. IsFirstBroken rules.rules (Breaks days assets before r)) (says_revision days assets)
-  unfolding says_revision
+  pub revisions_judged : Judges (IsNext days assets) (λ before r. IsFirstBroken rules.rules (Breaks days assets before r)) (revision_or_rule days assets)
+  unfolding revision_or_rule
   revisions_judged =
       Judges-table revision_in IsRevisionRecord revision_form rules.rules rules.BadField (breaks days assets) (Breaks days assets) tells (λ before r kept none. kept.1.0 none)
 
@@ -93,12 +93,12 @@ module _ (days : List ℤ) (assets : List AssetRow) (ud : AreDays days) (ua : Ar
   pub revisions-are : (records : List Record) (rows : List Revision) → (revisions_of days assets records ≡ Ok rows) ↔ AreRevisionsOf days assets records rows
   unfolding revisions_of
   revisions-are records rows =
-      under-are header rules.BadHeader (IsNext days assets) (λ before r. IsFirstBroken rules.rules (Breaks days assets before r)) (says_revision days assets) revisions_judged records rows
+      under-are header rules.BadHeader (IsNext days assets) (λ before r. IsFirstBroken rules.rules (Breaks days assets before r)) (revision_or_rule days assets) revisions_judged records rows
 
   pub revisions-fault : (records : List Record) (fault : Fault Rule) → (revisions_of days assets records ≡ Err fault) ↔ IsRevisionsFault days assets records fault
   unfolding revisions_of
   revisions-fault records fault =
-      under-fault header rules.BadHeader (IsNext days assets) (λ before r. IsFirstBroken rules.rules (Breaks days assets before r)) (says_revision days assets) revisions_judged records fault
+      under-fault header rules.BadHeader (IsNext days assets) (λ before r. IsFirstBroken rules.rules (Breaks days assets before r)) (revision_or_rule days assets) revisions_judged records fault
 
   -- ---- what is kept of all rows
 
@@ -124,8 +124,8 @@ module _ (days : List ℤ) (assets : List AssetRow) (ud : AreDays days) (ua : Ar
   later : (a b : ℤ) → int_le a b ≡ false → b <ℤ a
   later a b t = grind (arith, ints)
 
-  kept-more : (before : List Revision) (r : Record) (x : Revision) → AreRevisions days assets before → says_revision days assets before r ≡ Ok x → AreRevisions days assets (before ++ x ∷ [])
-  unfolding says_revision
+  kept-more : (before : List Revision) (r : Record) (x : Revision) → AreRevisions days assets before → revision_or_rule days assets before r ≡ Ok x → AreRevisions days assets (before ++ x ∷ [])
+  unfolding revision_or_rule
   kept-more before r x h s =
       let k = told_ok rules.rules (breaks days assets before r) (ok_or (revision_in r) rules.BadField) x s in
       let at : revision_in r ≡ Some x = ok_or-Ok (revision_in r) rules.BadField x k.1 in
@@ -144,6 +144,6 @@ module _ (days : List ℤ) (assets : List AssetRow) (ud : AreDays days) (ua : Ar
   pub AreRevisions-read : (records : List Record) (rows : List Revision) → revisions_of days assets records ≡ Ok rows → AreRevisions days assets rows
   unfolding revisions_of
   AreRevisions-read records rows e =
-      rows-keep (AreRevisions days assets) 2 (says_revision days assets) kept-more _ [] rows
+      rows-keep (AreRevisions days assets) 2 (revision_or_rule days assets) kept-more _ [] rows
       (record { few = omega arith; each = λ k d h. absurd (omega arith) })
-      (under_ok header rules.BadHeader (says_revision days assets) records rows e).1
+      (under_ok header rules.BadHeader (revision_or_rule days assets) records rows e).1

@@ -63,12 +63,12 @@ breaks days assets before r TooSoon = has is_soon (revision_in r)
 breaks days assets before r Duplicate = has (λ x. list_any (is_same x) before) (revision_in r)
 
 -- the revision of a record after the revisions before it, or the first rule that it breaks
-unfoldable pub says_revision : List ℤ → List AssetRow → List Revision → Record → Result Revision Rule
-says_revision days assets before r = first_broken rules (breaks days assets before r) (ok_or (revision_in r) BadField)
+unfoldable pub revision_or_rule : List ℤ → List AssetRow → List Revision → Record → Result Revision Rule
+revision_or_rule days assets before r = first_broken rules (breaks days assets before r) (ok_or (revision_in r) BadField)
 
 -- the revisions of a file in its order, or its first fault
 unfoldable pub revisions_of : List ℤ → List AssetRow → List Record → Result (List Revision) (Fault Rule)
-revisions_of days assets records = rows_under header BadHeader (says_revision days assets) records
+revisions_of days assets records = rows_under header BadHeader (revision_or_rule days assets) records
 
 -- ---- revisions as they are kept
 

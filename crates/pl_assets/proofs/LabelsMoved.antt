@@ -7,10 +7,10 @@ use Rattle.pl_spec.specs.Parts.{ColumnLabel}
 use Rattle.pl_spec.specs.declared.AssetRow.{AssetRow}
 use Rattle.pl_records.specs.Reading.{Record, Fault, ◌>>=◌}
 use Rattle.pl_records.proofs.Orders.{Fits, under-permuted}
-use Rattle.pl_assets.specs.Labels.{Rule, LabelTable, table_of, is_from, says_label, label_rows_in, labels_of, header}
+use Rattle.pl_assets.specs.Labels.{Rule, LabelTable, table_of, is_from, label_or_rule, label_rows_in, labels_of, header}
 use Rattle.pl_assets.specs.Labels as rules
 use Rattle.pl_assets.proofs.LabelKeys.{from_parts, parts_from}
-use Rattle.pl_assets.proofs.LabelsRead.{Says, says_label-ok}
+use Rattle.pl_assets.proofs.LabelsRead.{Says, label_or_rule-ok}
 
 abbrev clash : ColumnLabel → ColumnLabel → Bool
 clash r x = is_from r.name r.col r.start x
@@ -32,8 +32,8 @@ module _ (assets : List AssetRow) where
   abbrev IsOne : Record → ColumnLabel → Type 0
   IsOne r row = Says assets [] r row
 
-  tells : (before : List ColumnLabel) (r : Record) (row : ColumnLabel) → (says_label assets before r ≡ Ok row) ↔ Fits most_labels IsOne clash before r row
-  unfolding says_label
+  tells : (before : List ColumnLabel) (r : Record) (row : ColumnLabel) → (label_or_rule assets before r ≡ Ok row) ↔ Fits most_labels IsOne clash before r row
+  unfolding label_or_rule
   tells before r row = (there, back)
     where
       room : (n : ℕ) → nat_le most_labels n ≡ false → n < most_labels
@@ -42,16 +42,16 @@ module _ (assets : List AssetRow) where
       some : (n : ℕ) → n < most_labels → nat_le most_labels n ≡ false
       some n h = grind (arith, nat_tests)
 
-      there : says_label assets before r ≡ Ok row → Fits most_labels IsOne clash before r row
+      there : label_or_rule assets before r ≡ Ok row → Fits most_labels IsOne clash before r row
       there e =
-          let says = says_label-ok assets before r row e in
+          let says = label_or_rule-ok assets before r row e in
           record {
             few = room (length before) says.few;
             is = record { few = refl; label = says.label; written = says.written; short = says.short; col = says.col; own = refl; same = says.same };
             own = ap (λ (x : ColumnLabel). list_any (is_from x.name row.col x.start) before) (sym says.same) ∙ says.own;
           }
 
-      back : Fits most_labels IsOne clash before r row → says_label assets before r ≡ Ok row
+      back : Fits most_labels IsOne clash before r row → label_or_rule assets before r ≡ Ok row
       back h =
           let is = h.is in
           let own : list_any (is_from is.label.name row.col is.label.start) before ≡ false = ap (λ (x : ColumnLabel). list_any (is_from x.name row.col x.start) before) is.same ∙ h.own in
@@ -60,7 +60,7 @@ module _ (assets : List AssetRow) where
   rows-moved : (first : Record) (records others : List Record) → IsPermutation records others → (rows : List ColumnLabel) → label_rows_in assets (first ∷ records) ≡ Ok rows
       → (found : List ColumnLabel) × (label_rows_in assets (first ∷ others) ≡ Ok found) × IsPermutation rows found
   unfolding label_rows_in
-  rows-moved first records others m rows e = under-permuted (says_label assets) most_labels IsOne clash flips tells header rules.BadHeader first records others m rows e
+  rows-moved first records others m rows e = under-permuted (label_or_rule assets) most_labels IsOne clash flips tells header rules.BadHeader first records others m rows e
 
   pub labels-moved : (first : Record) (records others : List Record) → IsPermutation records others → (table : LabelTable) → labels_of assets (first ∷ records) ≡ Ok table
       → (other : LabelTable) × (labels_of assets (first ∷ others) ≡ Ok other) × IsPermutation table.rows other.rows

@@ -13,7 +13,7 @@ use Rattle.pl_spec.specs.declared.AssetRow.{AssetRow}
 use Rattle.pl_records.proofs.Readings.{rows-keep, under_ok}
 use Rattle.pl_records.proofs.RuleTables.{and_then_some, map_some, told_ok, ok_or-Ok}
 use Rattle.pl_lifetimes.specs.Assets.{sid_of}
-use Rattle.pl_assets.specs.Labels.{breaks, col_in, in_column, row_of, header, label_in, is_from, says_label, label_rows_in, IsLabelRow}
+use Rattle.pl_assets.specs.Labels.{breaks, col_in, in_column, row_of, header, label_in, is_from, label_or_rule, label_rows_in, IsLabelRow}
 use Rattle.pl_assets.specs.Labels as rules
 use Rattle.pl_spec.specs.Limits.{most_labels, most_label_bytes}
 use Rattle.pl_spec.proofs.Columns.{no_asset}
@@ -31,9 +31,9 @@ pub record Says (assets : List AssetRow) (before : List ColumnLabel) (r : Record
   pub own : list_any (is_from label.name row.col label.start) before ≡ false
   pub same : in_column label row.col ≡ row
 
-pub says_label-ok : (assets : List AssetRow) (before : List ColumnLabel) (r : Record) (row : ColumnLabel) → says_label assets before r ≡ Ok row → Says assets before r row
-unfolding says_label
-says_label-ok assets before r row e =
+pub label_or_rule-ok : (assets : List AssetRow) (before : List ColumnLabel) (r : Record) (row : ColumnLabel) → label_or_rule assets before r ≡ Ok row → Says assets before r row
+unfolding label_or_rule
+label_or_rule-ok assets before r row e =
     let k = told_ok rules.rules (breaks assets before r) (ok_or (row_of assets r) rules.BadField) row e in
     let at : row_of assets r ≡ Some row = ok_or-Ok (row_of assets r) rules.BadField row k.1 in
     let l = and_then_some (label_in r) (λ l. option_map (in_column l) (col_in assets l)) row at in
@@ -83,9 +83,9 @@ once-more rows r once e = all_pairs_push (λ r q. is_from r.name r.col r.start q
 pub right-more : (rows : List ColumnLabel) (r : ColumnLabel) → All IsLabelRow rows → IsLabelRow r → All IsLabelRow (rows ++ r ∷ [])
 right-more rows r all h = All-append IsLabelRow rows (r ∷ []) all (one_row IsLabelRow r h)
 
-read-more : (assets : List AssetRow) (before : List ColumnLabel) (r : Record) (row : ColumnLabel) → AreRead assets before → says_label assets before r ≡ Ok row → AreRead assets (before ++ row ∷ [])
+read-more : (assets : List AssetRow) (before : List ColumnLabel) (r : Record) (row : ColumnLabel) → AreRead assets before → label_or_rule assets before r ≡ Ok row → AreRead assets (before ++ row ∷ [])
 read-more assets before r row h s =
-    let ok = says_label-ok assets before r row s in
+    let ok = label_or_rule-ok assets before r row s in
     let w = IsLabelRecord-label_in r ok.label ok.written in
     let at = position-Some (λ a. sid_of a == ok.label.sid) assets row.col no_asset ok.col in
     let room : length before < most_labels = room_left (length before) ok.few in
@@ -109,4 +109,4 @@ read-none assets = record { right = λ k d h. absurd (omega arith); once = λ i 
 pub AreRead-read : (assets : List AssetRow) (records : List Record) (rows : List ColumnLabel) → label_rows_in assets records ≡ Ok rows → AreRead assets rows
 unfolding label_rows_in
 AreRead-read assets records rows e =
-    rows-keep (AreRead assets) 2 (says_label assets) (read-more assets) _ [] rows (read-none assets) (under_ok header rules.BadHeader (says_label assets) records rows e).1
+    rows-keep (AreRead assets) 2 (label_or_rule assets) (read-more assets) _ [] rows (read-none assets) (under_ok header rules.BadHeader (label_or_rule assets) records rows e).1

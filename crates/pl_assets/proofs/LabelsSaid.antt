@@ -12,7 +12,7 @@ use Rattle.pl_spec.specs.declared.AssetRow.{AssetRow}
 use Rattle.pl_records.proofs.Readings.{under-are, under-fault}
 use Rattle.pl_records.proofs.RuleTables.{and_then_some, map_some, lacks-tells, has-tells, Judges-table}
 use Rattle.pl_lifetimes.specs.Assets.{AreAssets}
-use Rattle.pl_assets.specs.Labels.{Rule, LabelTable, breaks, col_in, in_column, row_of, header, label_in, is_from, says_label, label_rows_in, labels_of, table_of}
+use Rattle.pl_assets.specs.Labels.{Rule, LabelTable, breaks, col_in, in_column, row_of, header, label_in, is_from, label_or_rule, label_rows_in, labels_of, table_of}
 use Rattle.pl_assets.specs.Labels as rules
 use Rattle.pl_lifetimes.specs.Assets.{HasSid}
 use Rattle.pl_assets.specs.LabelRules.{IsLabelRecord, IsRowRecord, StartWith, IsLabel, Breaks, AreLabelsOf, IsLabelsFault}
@@ -73,8 +73,8 @@ tells assets up before r rules.UnknownSid =
     has-tells label_in IsLabelRecord label_form _ _ (lacks-tells (col_in assets) (λ l col. HasSid assets col l.sid) (col_form assets up)) r
 tells assets up before r rules.DuplicateStart = has-tells (row_of assets) (IsRowRecord assets) (row_form assets up) _ _ (start_tells before) r
 
-pub labels_judged : (assets : List AssetRow) → AreAssets assets → Judges (IsLabel assets) (Told assets) (says_label assets)
-unfolding says_label
+pub labels_judged : (assets : List AssetRow) → AreAssets assets → Judges (IsLabel assets) (Told assets) (label_or_rule assets)
+unfolding label_or_rule
 labels_judged assets up = Judges-table (row_of assets) (IsRowRecord assets) (row_form assets up) rules.rules rules.BadField (breaks assets) (Breaks assets) (tells assets up) some
   where
     some : (before : List ColumnLabel) (r : Record) → KeepsAll rules.rules (Breaks assets before r) → ((row : ColumnLabel) → ¬ IsRowRecord assets r row) → ⊥
@@ -88,7 +88,7 @@ unfolding labels_of label_rows_in
 labels-are assets up records table = (forth (label_rows_in assets records) refl, back)
   where
     under : (rows : List ColumnLabel) → (label_rows_in assets records ≡ Ok rows) ↔ AreRowsUnder header (IsLabel assets) records rows
-    under rows = under-are header rules.BadHeader (IsLabel assets) (Told assets) (says_label assets) (labels_judged assets up) records rows
+    under rows = under-are header rules.BadHeader (IsLabel assets) (Told assets) (label_or_rule assets) (labels_judged assets up) records rows
 
     forth : (x : Result (List ColumnLabel) (Fault Rule)) → label_rows_in assets records ≡ x → (x >>= λ rows. Ok (table_of rows)) ≡ Ok table → AreLabelsOf assets records table
     forth (Ok rows) was e =
@@ -107,7 +107,7 @@ unfolding labels_of label_rows_in
 labels-fault assets up records fault = (λ e. under.0 (forth (label_rows_in assets records) refl e), λ h. back (under.1 h))
   where
     under : (label_rows_in assets records ≡ Err fault) ↔ IsLabelsFault assets records fault
-    under = under-fault header rules.BadHeader (IsLabel assets) (Told assets) (says_label assets) (labels_judged assets up) records fault
+    under = under-fault header rules.BadHeader (IsLabel assets) (Told assets) (label_or_rule assets) (labels_judged assets up) records fault
 
     forth : (x : Result (List ColumnLabel) (Fault Rule)) → label_rows_in assets records ≡ x → (x >>= λ rows. Ok (table_of rows)) ≡ Err fault → label_rows_in assets records ≡ Err fault
     forth (Ok rows) was e = absurd (let bad : Ok (table_of rows) ≡ Err fault = e in cc)

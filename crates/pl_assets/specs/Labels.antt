@@ -113,12 +113,12 @@ breaks assets before r UnknownSid = has (λ l. lacks (col_in assets l)) (label_i
 breaks assets before r DuplicateStart = has (λ row. list_any (is_from row.name row.col row.start) before) (row_of assets r)
 
 -- the row of a record after the rows before it, or the first rule that it breaks
-unfoldable pub says_label : List AssetRow → List ColumnLabel → Record → Result ColumnLabel Rule
-says_label assets before r = first_broken rules (breaks assets before r) (ok_or (row_of assets r) BadField)
+unfoldable pub label_or_rule : List AssetRow → List ColumnLabel → Record → Result ColumnLabel Rule
+label_or_rule assets before r = first_broken rules (breaks assets before r) (ok_or (row_of assets r) BadField)
 
 -- the rows of a file in its order, or its first fault
 unfoldable pub label_rows_in : List AssetRow → List Record → Result (List ColumnLabel) (Fault Rule)
-label_rows_in assets records = rows_under header BadHeader (says_label assets) records
+label_rows_in assets records = rows_under header BadHeader (label_or_rule assets) records
 
 -- the same with their texts
 unfoldable pub labels_of : List AssetRow → List Record → Result LabelTable (Fault Rule)

@@ -21,7 +21,7 @@ pub fn labels_in_plain_words()
     ensures record { (assets : List AssetRow) → AreAssets assets
         → Judges (label_rules.IsLabel assets)
         (λ before r. IsFirstBroken labels.rules (label_rules.Breaks assets before r))
-        (labels.says_label assets) }
+        (labels.label_or_rule assets) }
     ensures labels { (assets : List AssetRow) → AreAssets assets → (records : List Record)
         (table : labels.LabelTable) → (labels.labels_of assets records ≡ Ok table)
         ↔ label_rules.AreLabelsOf assets records table }

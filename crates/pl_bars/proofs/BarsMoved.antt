@@ -7,9 +7,9 @@ use Rattle.pl_spec.specs.declared.AssetRow.{AssetRow}
 use Rattle.pl_spec.specs.declared.BarRow.{BarRow}
 use Rattle.pl_records.specs.Reading.{Record}
 use Rattle.pl_records.proofs.Orders.{Fits, under-sorted}
-use Rattle.pl_bars.specs.Bars.{is_at, is_negative, says_bar, key_of, rows_in, bars_of, header}
+use Rattle.pl_bars.specs.Bars.{is_at, is_negative, bar_or_rule, key_of, rows_in, bars_of, header}
 use Rattle.pl_bars.specs.Bars as rules
-use Rattle.pl_bars.proofs.BarsRead.{Says, says_bar-ok, bar, AreKept-read}
+use Rattle.pl_bars.proofs.BarsRead.{Says, bar_or_rule-ok, bar, AreKept-read}
 
 abbrev clash : BarRow → BarRow → Bool
 clash b x = is_at b.col b.session x
@@ -25,22 +25,22 @@ module _ (days : List ℤ) (assets : List AssetRow) where
   abbrev IsOne : Record → BarRow → Type 0
   IsOne r b = Says days assets [] r b
 
-  tells : (before : List BarRow) (r : Record) (b : BarRow) → (says_bar days assets before r ≡ Ok b) ↔ Fits most_bars IsOne clash before r b
+  tells : (before : List BarRow) (r : Record) (b : BarRow) → (bar_or_rule days assets before r ≡ Ok b) ↔ Fits most_bars IsOne clash before r b
   tells before r b = (there, back)
     where
       room : (n : ℕ) → nat_le most_bars n ≡ false → n < most_bars
       room n t = grind (arith, nat_tests)
 
-      there : says_bar days assets before r ≡ Ok b → Fits most_bars IsOne clash before r b
+      there : bar_or_rule days assets before r ≡ Ok b → Fits most_bars IsOne clash before r b
       there e =
-          let says = says_bar-ok days assets before r b e in
+          let says = bar_or_rule-ok days assets before r b e in
           record {
             few = room (length before) says.few;
             is = record { few = refl; fields = says.fields; written = says.written; session = says.session; col = says.col; cells = says.cells; not_negative = says.not_negative; own_place = refl };
             own = says.own_place;
           }
 
-      back : Fits most_bars IsOne clash before r b → says_bar days assets before r ≡ Ok b
+      back : Fits most_bars IsOne clash before r b → bar_or_rule days assets before r ≡ Ok b
       back h =
           let is = h.is in
           let present : list_any is_negative is.fields.cells ≡ false = ap (list_any is_negative) (sym is.cells) ∙ is.not_negative in
@@ -51,4 +51,4 @@ module _ (days : List ℤ) (assets : List AssetRow) where
       → bars_of days assets (first ∷ records) ≡ Ok bars → bars_of days assets (first ∷ others) ≡ Ok bars
   unfolding bars_of rows_in
   bars-moved few first records others m bars e =
-      under-sorted (says_bar days assets) most_bars IsOne clash flips tells key_of header rules.BadHeader (λ rs rows was. (AreKept-read days assets rs rows few was).own) first records others m bars e
+      under-sorted (bar_or_rule days assets) most_bars IsOne clash flips tells key_of header rules.BadHeader (λ rs rows was. (AreKept-read days assets rs rows few was).own) first records others m bars e

@@ -18,7 +18,7 @@ use Rattle.pl_records.proofs.RuleTables.{and_then_some, map_some, told_ok, ok_or
 use Rattle.pl_records.proofs.Sorts.{OwnKeys-none, OwnKeys-more, sorted-rises, sorted-permutes, length-sorted_by}
 use Rattle.pl_lifetimes.specs.Assets.{sid_of}
 use Rattle.pl_bars.specs.declared.fields.Fields.{Fields}
-use Rattle.pl_bars.specs.Bars.{Rule, breaks, session_in, col_in, placed_at, bar_of, header, fields_in, is_negative, is_at, says_bar, key_of, rows_in, bars_of, is_before, is_bar_cell, AreBars}
+use Rattle.pl_bars.specs.Bars.{Rule, breaks, session_in, col_in, placed_at, bar_of, header, fields_in, is_negative, is_at, bar_or_rule, key_of, rows_in, bars_of, is_before, is_bar_cell, AreBars}
 use Rattle.pl_bars.specs.Bars as rules
 use Rattle.pl_spec.specs.Limits.{most_bars}
 use Rattle.pl_spec.specs.Limits.{most_sessions}
@@ -37,20 +37,20 @@ abbrev ColIs : List AssetRow → Fields → Option ℕ → Type 0
 ColIs assets f o = position (λ a. sid_of a == f.sid) assets ≡ o
 
 module _ (days : List ℤ) (assets : List AssetRow) (before : List BarRow) (r : Record) (f : Fields) (n : length before < most_bars) (e : fields_in r ≡ Some f) where
-  pub no_session : SessionIs days f None → says_bar days assets before r ≡ Err rules.NotSession
-  unfolding says_bar
+  pub no_session : SessionIs days f None → bar_or_rule days assets before r ≡ Err rules.NotSession
+  unfolding bar_or_rule
   no_session p =
       guard_on _ _ _ (few (length before) n) ∙ guard_on _ _ _ (ap lacks e) ∙ guard_err _ _ _ (ap (has (λ f. lacks (session_in days f))) e ∙ ap lacks p)
 
   module _ (session : ℕ) (p : SessionIs days f (Some session)) where
     -- the rules before that of the asset are kept
-    dated : says_bar days assets before r
+    dated : bar_or_rule days assets before r
         ≡ first_broken (rules.UnknownSid ∷ rules.Negative ∷ rules.Duplicate ∷ []) (breaks days assets before r) (ok_or (bar_of days assets r) rules.BadField)
-    unfolding says_bar
+    unfolding bar_or_rule
     dated =
         guard_on _ _ _ (few (length before) n) ∙ guard_on _ _ _ (ap lacks e) ∙ guard_on _ _ _ (ap (has (λ f. lacks (session_in days f))) e ∙ ap lacks p)
 
-    pub no_asset : ColIs assets f None → says_bar days assets before r ≡ Err rules.UnknownSid
+    pub no_asset : ColIs assets f None → bar_or_rule days assets before r ≡ Err rules.UnknownSid
     no_asset q = dated ∙ guard_err _ _ _ (ap (has (λ f. lacks (col_in assets f))) e ∙ ap lacks q)
 
     module _ (col : ℕ) (q : ColIs assets f (Some col)) where
@@ -60,15 +60,15 @@ module _ (days : List ℤ) (assets : List AssetRow) (before : List BarRow) (r : 
       there : bar_of days assets r ≡ Some (placed_at f session col)
       there = rw (e, p, q) refl
 
-      pub negative : list_any is_negative f.cells ≡ true → says_bar days assets before r ≡ Err rules.Negative
+      pub negative : list_any is_negative f.cells ≡ true → bar_or_rule days assets before r ≡ Err rules.Negative
       negative t = dated ∙ guard_on _ _ _ asset_on ∙ guard_err _ _ _ (ap (has (λ f. list_any is_negative f.cells)) e ∙ t)
 
-      pub duplicate : list_any is_negative f.cells ≡ false → list_any (is_at col session) before ≡ true → says_bar days assets before r ≡ Err rules.Duplicate
+      pub duplicate : list_any is_negative f.cells ≡ false → list_any (is_at col session) before ≡ true → bar_or_rule days assets before r ≡ Err rules.Duplicate
       duplicate t u =
           dated ∙ guard_on _ _ _ asset_on ∙ guard_on _ _ _ (ap (has (λ f. list_any is_negative f.cells)) e ∙ t)
           ∙ guard_err _ _ _ (ap (has (λ b. list_any (is_at b.col b.session) before)) there ∙ u)
 
-      pub bar : list_any is_negative f.cells ≡ false → list_any (is_at col session) before ≡ false → says_bar days assets before r ≡ Ok (placed_at f session col)
+      pub bar : list_any is_negative f.cells ≡ false → list_any (is_at col session) before ≡ false → bar_or_rule days assets before r ≡ Ok (placed_at f session col)
       bar t u =
           dated ∙ guard_on _ _ _ asset_on ∙ guard_on _ _ _ (ap (has (λ f. list_any is_negative f.cells)) e ∙ t)
           ∙ guard_on _ _ _ (ap (has (λ b. list_any (is_at b.col b.session) before)) there ∙ u) ∙ ap (λ o. ok_or o rules.BadField) there
@@ -85,9 +85,9 @@ pub record Says (days : List ℤ) (assets : List AssetRow) (before : List BarRow
   pub not_negative : list_any is_negative b.cells ≡ false
   pub own_place : list_any (is_at b.col b.session) before ≡ false
 
-pub says_bar-ok : (days : List ℤ) (assets : List AssetRow) (before : List BarRow) (r : Record) (b : BarRow) → says_bar days assets before r ≡ Ok b → Says days assets before r b
-unfolding says_bar
-says_bar-ok days assets before r b e =
+pub bar_or_rule-ok : (days : List ℤ) (assets : List AssetRow) (before : List BarRow) (r : Record) (b : BarRow) → bar_or_rule days assets before r ≡ Ok b → Says days assets before r b
+unfolding bar_or_rule
+bar_or_rule-ok days assets before r b e =
     let k = told_ok rules.rules (breaks days assets before r) (ok_or (bar_of days assets r) rules.BadField) b e in
     let at : bar_of days assets r ≡ Some b = ok_or-Ok (bar_of days assets r) rules.BadField b k.1 in
     let f = and_then_some (fields_in r) (λ f. option_and_then (λ session. option_map (placed_at f session) (col_in assets f)) (session_in days f)) b at in
@@ -124,9 +124,9 @@ one_row : (P : BarRow → Type 0) (b : BarRow) → P b → All P (b ∷ [])
 one_row P b p zero d h = p
 one_row P b p (suc k) d h = absurd (omega arith)
 
-kept-more : (days : List ℤ) (assets : List AssetRow) → length days ≤ most_sessions → (before : List BarRow) (r : Record) (b : BarRow) → AreKept before → says_bar days assets before r ≡ Ok b → AreKept (before ++ b ∷ [])
+kept-more : (days : List ℤ) (assets : List AssetRow) → length days ≤ most_sessions → (before : List BarRow) (r : Record) (b : BarRow) → AreKept before → bar_or_rule days assets before r ≡ Ok b → AreKept (before ++ b ∷ [])
 kept-more days assets n before r b h s =
-    let ok = says_bar-ok days assets before r b s in
+    let ok = bar_or_rule-ok days assets before r b s in
     let at = position-Some (λ d. int_eq d ok.fields.day) days b.session (pos 0) ok.session in
     let small : b.session < 2 ^ 32 = omega (arith, at.0) in
     let room : length before < most_bars = (let t = ok.few in grind (arith, nat_tests)) in
@@ -144,7 +144,7 @@ kept-none = record { own = OwnKeys-none key_of; small = λ k d h. absurd (omega 
 pub AreKept-read : (days : List ℤ) (assets : List AssetRow) (records : List Record) (rows : List BarRow) → length days ≤ most_sessions → rows_in days assets records ≡ Ok rows → AreKept rows
 unfolding rows_in
 AreKept-read days assets records rows n e =
-    rows-keep AreKept 2 (says_bar days assets) (kept-more days assets n) _ [] rows kept-none (under_ok header rules.BadHeader (says_bar days assets) records rows e).1
+    rows-keep AreKept 2 (bar_or_rule days assets) (kept-more days assets n) _ [] rows kept-none (under_ok header rules.BadHeader (bar_or_rule days assets) records rows e).1
 
 -- ---- by column and session
 
@@ -188,9 +188,9 @@ pub record AreInside (days : List ℤ) (assets : List AssetRow) (rows : List Bar
   pub cols : All (λ b. b.col < length assets) rows
   pub sessions : All (λ b. b.session < length days) rows
 
-inside-more : (days : List ℤ) (assets : List AssetRow) (before : List BarRow) (r : Record) (b : BarRow) → AreInside days assets before → says_bar days assets before r ≡ Ok b → AreInside days assets (before ++ b ∷ [])
+inside-more : (days : List ℤ) (assets : List AssetRow) (before : List BarRow) (r : Record) (b : BarRow) → AreInside days assets before → bar_or_rule days assets before r ≡ Ok b → AreInside days assets (before ++ b ∷ [])
 inside-more days assets before r b h s =
-    let ok = says_bar-ok days assets before r b s in
+    let ok = bar_or_rule-ok days assets before r b s in
     let session = position-Some (λ d. int_eq d ok.fields.day) days b.session (pos 0) ok.session in
     let col = position-Some (λ a. sid_of a == ok.fields.sid) assets b.col (record { sid = 0; start = pos 0; end = pos 0 }) ok.col in
     record {
@@ -205,8 +205,8 @@ pub AreInside-read : (days : List ℤ) (assets : List AssetRow) (records : List 
 unfolding rows_in
 AreInside-read days assets records bars e =
     let it = sorted_from days assets records bars e in
-    let kept = rows-keep (AreInside days assets) 2 (says_bar days assets) (inside-more days assets) _ [] it.0 (inside-none days assets)
-    (under_ok header rules.BadHeader (says_bar days assets) records it.0 it.1).1 in
+    let kept = rows-keep (AreInside days assets) 2 (bar_or_rule days assets) (inside-more days assets) _ [] it.0 (inside-none days assets)
+    (under_ok header rules.BadHeader (bar_or_rule days assets) records it.0 it.1).1 in
     let moved = sorted-permutes key_of it.0 in
     rw (← it.2) record {
       cols = All-permutation (λ (b : BarRow). b.col < length assets) it.0 (sorted_by key_of it.0) moved kept.cols;

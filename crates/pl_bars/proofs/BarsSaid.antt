@@ -25,7 +25,7 @@ use Rattle.pl_spec.proofs.Signed.{int_eq-true, int_eq-itself}
 use Rattle.pl_calendar.specs.Days.{AreDays}
 use Rattle.pl_lifetimes.specs.Assets.{sid_of, AreAssets}
 use Rattle.pl_bars.specs.declared.fields.Fields.{Fields}
-use Rattle.pl_bars.specs.Bars.{Rule, breaks, session_in, col_in, placed_at, bar_of, header, fields_in, is_negative, is_at, says_bar, key_of, rows_in, bars_of}
+use Rattle.pl_bars.specs.Bars.{Rule, breaks, session_in, col_in, placed_at, bar_of, header, fields_in, is_negative, is_at, bar_or_rule, key_of, rows_in, bars_of}
 use Rattle.pl_bars.specs.Bars as rules
 use Rattle.pl_bars.specs.Rules.{IsBarRecord, IsNegative, IsRowRecord, IsBar, Breaks, AreBarsOf, IsBarsFault}
 use Rattle.pl_bars.proofs.BarFields.{fields_form, IsNegative-test, is_negative-test}
@@ -126,8 +126,8 @@ module _ (days : List ℤ) (assets : List AssetRow) (ud : AreDays days) (ua : Ar
 abbrev Told : List ℤ → List AssetRow → List BarRow → Record → Rule → Type 0
 Told days assets before r rule = IsFirstBroken rules.rules (Breaks days assets before r) rule
 
-pub bars_judged : (days : List ℤ) (assets : List AssetRow) → AreDays days → AreAssets assets → Judges (IsBar days assets) (Told days assets) (says_bar days assets)
-unfolding says_bar
+pub bars_judged : (days : List ℤ) (assets : List AssetRow) → AreDays days → AreAssets assets → Judges (IsBar days assets) (Told days assets) (bar_or_rule days assets)
+unfolding bar_or_rule
 bars_judged days assets ud ua =
     Judges-table (bar_of days assets) (IsRowRecord days assets) (bar_form days assets ud ua) rules.rules rules.BadField (breaks days assets) (Breaks days assets) (tells days assets ud ua) some
   where
@@ -154,7 +154,7 @@ bars-are days assets ud ua records bars = (forth, back)
     sorted = sorted-are key_of (rows_in days assets records) bars (λ rows e. (AreKept-read days assets records rows ud.few e).own)
 
     under : (rows : List BarRow) → (rows_in days assets records ≡ Ok rows) ↔ AreRowsUnder header (IsBar days assets) records rows
-    under rows = under-are header rules.BadHeader (IsBar days assets) (Told days assets) (says_bar days assets) (bars_judged days assets ud ua) records rows
+    under rows = under-are header rules.BadHeader (IsBar days assets) (Told days assets) (bar_or_rule days assets) (bars_judged days assets ud ua) records rows
 
     small : (rows : List BarRow) → rows_in days assets records ≡ Ok rows → IsPermutation rows bars → All (λ b. b.session < 2 ^ 32) bars
     small rows e moved = All-permutation (λ (b : BarRow). b.session < 2 ^ 32) rows bars moved (AreKept-read days assets records rows ud.few e).small
@@ -176,5 +176,5 @@ bars-fault days assets ud ua records fault = (λ e. under.0 (told.0 e), λ h. to
     told : ((rows_in days assets records >>= λ rows. Ok (sorted_by key_of rows)) ≡ Err fault) ↔ (rows_in days assets records ≡ Err fault)
     told = sorted-fault key_of (rows_in days assets records) fault
 
-    under : (rows_under header rules.BadHeader (says_bar days assets) records ≡ Err fault) ↔ IsBarsFault days assets records fault
-    under = under-fault header rules.BadHeader (IsBar days assets) (Told days assets) (says_bar days assets) (bars_judged days assets ud ua) records fault
+    under : (rows_under header rules.BadHeader (bar_or_rule days assets) records ≡ Err fault) ↔ IsBarsFault days assets records fault
+    under = under-fault header rules.BadHeader (IsBar days assets) (Told days assets) (bar_or_rule days assets) (bars_judged days assets ud ua) records fault

@@ -81,8 +81,8 @@ breaks days assets before r Negative = has (λ f. list_any is_negative f.cells) 
 breaks days assets before r Duplicate = has (λ b. list_any (is_at b.col b.session) before) (bar_of days assets r)
 
 -- the bar of a record after the bars before it, or the first rule that it breaks
-unfoldable pub says_bar : List ℤ → List AssetRow → List BarRow → Record → Result BarRow Rule
-says_bar days assets before r = first_broken rules (breaks days assets before r) (ok_or (bar_of days assets r) BadField)
+unfoldable pub bar_or_rule : List ℤ → List AssetRow → List BarRow → Record → Result BarRow Rule
+bar_or_rule days assets before r = first_broken rules (breaks days assets before r) (ok_or (bar_of days assets r) BadField)
 
 -- a number that rises by column, and then by session
 abbrev pub key_of : BarRow → ℕ
@@ -90,7 +90,7 @@ key_of b = b.col * 2 ^ 32 + b.session
 
 -- the bars of a file in its order, or its first fault
 unfoldable pub rows_in : List ℤ → List AssetRow → List Record → Result (List BarRow) (Fault Rule)
-rows_in days assets records = rows_under header BadHeader (says_bar days assets) records
+rows_in days assets records = rows_under header BadHeader (bar_or_rule days assets) records
 
 -- the same by column and session
 unfoldable pub bars_of : List ℤ → List AssetRow → List Record → Result (List BarRow) (Fault Rule)

@@ -9,7 +9,7 @@ ghost use Rattle.pl_records.specs.Reading.{Record, Fault, Judges};
 ghost use Rattle.pl_records.specs.RuleTable.{IsFirstBroken};
 ghost use Rattle.pl_calendar.specs.Days.{AreDays};
 ghost use Rattle.pl_lifetimes.specs.Assets.{AreAssets};
-ghost use Rattle.pl_bars.specs.Bars.{bars_of, Rule, rules, says_bar};
+ghost use Rattle.pl_bars.specs.Bars.{bars_of, Rule, rules, bar_or_rule};
 ghost use Rattle.pl_bars.specs.Rules.{AreBarsOf, Breaks, IsBar, IsBarsFault};
 ghost use Rattle.pl_bars.specs.Worlds.{CellsAreRaw};
 
@@ -19,7 +19,7 @@ ghost use Rattle.pl_bars.specs.Worlds.{CellsAreRaw};
 pub fn bars_in_plain_words()
     ensures record { (days : List ℤ) (assets : List AssetRow) → AreDays days → AreAssets assets
         → Judges (IsBar days assets) (λ before r. IsFirstBroken rules (Breaks days assets before r))
-        (says_bar days assets) }
+        (bar_or_rule days assets) }
     ensures bars { (days : List ℤ) (assets : List AssetRow) → AreDays days → AreAssets assets
         → (records : List Record) (bars : List BarRow) → (bars_of days assets records ≡ Ok bars)
         ↔ AreBarsOf days assets records bars }

@@ -4,7 +4,7 @@ ghost use Rattle.std.specs.Prelude.{◌≡◌, ◌+◌, ◌*◌, ◌/◌, ◌^�
 ghost use Rattle.pl_records.specs.Reading.{Answers, at_line, rows_of};
 ghost use Rattle.pl_records.specs.Sorted.{HasOwnKeys, sorted_by};
 ghost use Rattle.pl_records.specs.Records.{csv_records};
-ghost use Rattle.pl_bars.specs.Bars.{bars_of, key_of, rows_in, says_bar};
+ghost use Rattle.pl_bars.specs.Bars.{bars_of, key_of, rows_in, bar_or_rule};
 ghost use Rattle.pl_bars.specs.BarPoint.{IsAfter, Rise};
 ghost use Rattle.pl_bars.specs.BarSet.{AreBarsIn};
 ghost use Rattle.pl_bars.specs.Faults.{fault_of};
@@ -120,7 +120,7 @@ fn rows_behind(
 ) -> Result<Unordered, BarsError>
     requires { rows.items ≡ [] }
     ensures { Answers (λ u. u.rows.items) fault_of result
-        (rows_of 2 (says_bar sessions.now assets.now) records.old.left) }
+        (rows_of 2 (bar_or_rule sessions.now assets.now) records.old.left) }
 {
     let dates = dates_of(alloc, sessions)?;
     let mut seen = BarSet::new(alloc, assets.len(), sessions.len())?;
@@ -156,7 +156,7 @@ fn rises(a: &BarRow, b: &BarRow) -> bool
 }
 
 // The bar of the record that was read last, after the bars before it, which are those of the set.
-#[tactic(auto, unfolding(crate::specs::Bars::says_bar))]
+#[tactic(auto, unfolding(crate::specs::Bars::bar_or_rule))]
 fn next_bar(
     before: &[BarRow],
     dates: &[Dated],
@@ -174,7 +174,7 @@ fn next_bar(
     ensures sessions { seen.new.sessions ≡ length sessions.now }
     ensures seen { IfOk result (λ b. AreBarsIn seen.new (before.now ++ b ∷ [])) }
     ensures exact { Answers (λ b. b) fault_of result
-        (at_line (2 + length before.now) (says_bar sessions.now assets.now before.now row.now.fields)) }
+        (at_line (2 + length before.now) (bar_or_rule sessions.now assets.now before.now row.now.fields)) }
 {
     let line = before.len() as u32 + 2;
     if before.len() >= MOST_BARS {

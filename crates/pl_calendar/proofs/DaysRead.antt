@@ -12,7 +12,7 @@ use Rattle.pl_spec.specs.Dates.{IsDay}
 use Rattle.pl_spec.proofs.DatesWritten.{IsDay-IsDate}
 use Rattle.std.proofs.lemmas.List.Elements.{All-push}
 use Rattle.pl_records.proofs.Readings.{rows-keep, rows-as_many, rows-are, fault-is}
-use Rattle.pl_calendar.specs.Days.{Rule, rules, day_in, last_of, is_later, says_day, sessions_of, AreDays}
+use Rattle.pl_calendar.specs.Days.{Rule, rules, day_in, last_of, is_later, day_or_rule, sessions_of, AreDays}
 use Rattle.pl_calendar.specs.Days as days
 use Rattle.pl_calendar.specs.Rules.{IsSession, Breaks, IsSessionsFault}
 use Rattle.pl_spec.specs.Limits.{most_sessions}
@@ -63,35 +63,35 @@ AreFront-more xs r y up h =
           rw (a, same, get_or-append_seam xs y [] d) (under i d (omega arith)))
     ]
 
-AreFront-read : (records : List Record) (ds : List ℤ) → rows_of 1 says_day records ≡ Ok ds → AreFront ds
+AreFront-read : (records : List Record) (ds : List ℤ) → rows_of 1 day_or_rule records ≡ Ok ds → AreFront ds
 AreFront-read records ds e =
-    rows-keep AreFront 1 says_day (λ before r day up said. AreFront-more before r day up ((days_judged.row before r day).0 said)) records [] ds AreFront-none e
+    rows-keep AreFront 1 day_or_rule (λ before r day up said. AreFront-more before r day up ((days_judged.row before r day).0 said)) records [] ds AreFront-none e
 
 -- ---- a file with and without records
 
-pub sessions_of-err : (records : List Record) (f : Fault Rule) → rows_of 1 says_day records ≡ Err f → sessions_of records ≡ Err f
+pub sessions_of-err : (records : List Record) (f : Fault Rule) → rows_of 1 day_or_rule records ≡ Err f → sessions_of records ≡ Err f
 unfolding sessions_of rows_behind
 sessions_of-err [] f e = absurd (cc)
 sessions_of-err (r ∷ rs) f e = e
 
-pub sessions_of-err_if : (records : List Record) (o : Option (Fault Rule)) → IfSome o (λ f. rows_of 1 says_day records ≡ Err f) → IfSome o (λ f. sessions_of records ≡ Err f)
+pub sessions_of-err_if : (records : List Record) (o : Option (Fault Rule)) → IfSome o (λ f. rows_of 1 day_or_rule records ≡ Err f) → IfSome o (λ f. sessions_of records ≡ Err f)
 sessions_of-err_if records None h = tt
 sessions_of-err_if records (Some f) h = sessions_of-err records f h
 
-pub sessions_of-ok : (records : List Record) (ds : List ℤ) → rows_of 1 says_day records ≡ Ok ds → 0 < length ds → sessions_of records ≡ Ok ds
+pub sessions_of-ok : (records : List Record) (ds : List ℤ) → rows_of 1 day_or_rule records ≡ Ok ds → 0 < length ds → sessions_of records ≡ Ok ds
 unfolding sessions_of rows_behind
 sessions_of-ok [] ds e h = absurd (let same : [] ≡ ds = cc in omega (arith, ap length same))
 sessions_of-ok (r ∷ rs) ds e h = e
 
-pub sessions_of-empty : (records : List Record) (ds : List ℤ) → rows_of 1 says_day records ≡ Ok ds → length ds ≡ 0 → sessions_of records ≡ Err (record { rule = days.Empty; line = 1 })
+pub sessions_of-empty : (records : List Record) (ds : List ℤ) → rows_of 1 day_or_rule records ≡ Ok ds → length ds ≡ 0 → sessions_of records ≡ Err (record { rule = days.Empty; line = 1 })
 unfolding sessions_of
 sessions_of-empty [] ds e h = refl
-sessions_of-empty (r ∷ rs) ds e h = absurd (omega (arith, rows-as_many 1 says_day (r ∷ rs) ds e))
+sessions_of-empty (r ∷ rs) ds e h = absurd (omega (arith, rows-as_many 1 day_or_rule (r ∷ rs) ds e))
 
-pub rows-sessions_of : (records : List Record) (ds : List ℤ) → sessions_of records ≡ Ok ds → (rows_of 1 says_day records ≡ Ok ds) × (0 < length ds)
+pub rows-sessions_of : (records : List Record) (ds : List ℤ) → sessions_of records ≡ Ok ds → (rows_of 1 day_or_rule records ≡ Ok ds) × (0 < length ds)
 unfolding sessions_of
 rows-sessions_of [] ds e = absurd (let bad : Err (record { rule = days.Empty; line = 1 }) ≡ Ok ds = e in cc)
-rows-sessions_of (r ∷ rs) ds e = (e, omega (arith, rows-as_many 1 says_day (r ∷ rs) ds e))
+rows-sessions_of (r ∷ rs) ds e = (e, omega (arith, rows-as_many 1 day_or_rule (r ∷ rs) ds e))
 
 pub AreDays-read : (records : List Record) (ds : List ℤ) → sessions_of records ≡ Ok ds → AreDays ds
 AreDays-read records ds e =
@@ -105,15 +105,15 @@ pub sessions-are : (records : List Record) (ds : List ℤ) → (sessions_of reco
 sessions-are records ds =
     (λ e. (let it = rows-sessions_of records ds e in (it.1, (said records ds).0 it.0)), λ h. sessions_of-ok records ds ((said records ds).1 h.1) h.0)
   where
-    said : (records : List Record) (ds : List ℤ) → (rows_of 1 says_day records ≡ Ok ds) ↔ AreRows IsSession records ds
-    said = rows-are 1 IsSession (λ before r. IsFirstBroken rules (Breaks before r)) says_day days_judged
+    said : (records : List Record) (ds : List ℤ) → (rows_of 1 day_or_rule records ≡ Ok ds) ↔ AreRows IsSession records ds
+    said = rows-are 1 IsSession (λ before r. IsFirstBroken rules (Breaks before r)) day_or_rule days_judged
 
 pub sessions-fault : (records : List Record) (f : Fault Rule) → (sessions_of records ≡ Err f) ↔ IsSessionsFault records f
 unfolding sessions_of
 sessions-fault records f = (there records, back)
   where
-    told : (records : List Record) (f : Fault Rule) → (rows_of 1 says_day records ≡ Err f) ↔ IsFirstFault 1 IsSession (λ before r. IsFirstBroken rules (Breaks before r)) records f
-    told = fault-is 1 IsSession (λ before r. IsFirstBroken rules (Breaks before r)) says_day days_judged
+    told : (records : List Record) (f : Fault Rule) → (rows_of 1 day_or_rule records ≡ Err f) ↔ IsFirstFault 1 IsSession (λ before r. IsFirstBroken rules (Breaks before r)) records f
+    told = fault-is 1 IsSession (λ before r. IsFirstBroken rules (Breaks before r)) day_or_rule days_judged
 
     there : (records : List Record) → sessions_of records ≡ Err f → IsSessionsFault records f
     there [] e = inl (refl, (let same : Err (record { rule = days.Empty; line = 1 }) ≡ Err f = e in cc))

@@ -9,7 +9,7 @@ use Rattle.pl_records.specs.RuleTable.{IsFirstBroken}
 use Rattle.pl_spec.specs.Dates.{date_in}
 use Rattle.pl_records.proofs.RuleTables.{lacks-tells, has-tells, Judges-table}
 use Rattle.pl_spec.proofs.DatesRead.{date_in-IsDate, IsDate-date_in}
-use Rattle.pl_calendar.specs.Days.{Rule, rules, breaks, day_in, last_of, is_later, says_day, sessions_of}
+use Rattle.pl_calendar.specs.Days.{Rule, rules, breaks, day_in, last_of, is_later, day_or_rule, sessions_of}
 use Rattle.pl_calendar.specs.Days as days
 use Rattle.pl_calendar.specs.Rules.{IsDayRecord, IsSession, Breaks}
 
@@ -47,6 +47,6 @@ tells before r days.BadDate = lacks-tells day_in IsDayRecord form r
 tells before r days.NotAscending = has-tells day_in IsDayRecord form _ _ (late_tells before) r
 tells before r days.Empty = (λ t. absurd (let bad : false ≡ true = t in cc), λ h. absurd h)
 
-pub days_judged : Judges IsSession (λ before r. IsFirstBroken rules (Breaks before r)) says_day
-unfolding says_day
+pub days_judged : Judges IsSession (λ before r. IsFirstBroken rules (Breaks before r)) day_or_rule
+unfolding day_or_rule
 days_judged = Judges-table day_in IsDayRecord form rules days.BadDate breaks Breaks tells (λ before r kept none. kept.1.0 none)

@@ -34,13 +34,13 @@ breaks before r NotAscending = has (λ day. not (is_later before day)) (day_in r
 breaks before r Empty = false
 
 -- the day of a record after the days before it, or the first rule that it breaks
-unfoldable pub says_day : List ℤ → Record → Result ℤ Rule
-says_day before r = first_broken rules (breaks before r) (ok_or (day_in r) BadDate)
+unfoldable pub day_or_rule : List ℤ → Record → Result ℤ Rule
+day_or_rule before r = first_broken rules (breaks before r) (ok_or (day_in r) BadDate)
 
 -- the days of a file, or its first fault
 unfoldable pub sessions_of : List Record → Result (List ℤ) (Fault Rule)
 sessions_of [] = Err (record { rule = Empty; line = 1 })
-sessions_of (r ∷ rs) = rows_of 1 says_day (r ∷ rs)
+sessions_of (r ∷ rs) = rows_of 1 day_or_rule (r ∷ rs)
 
 -- days as sessions have them
 pub record AreDays (days : List ℤ) : Type 0 where

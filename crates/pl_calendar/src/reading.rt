@@ -4,7 +4,7 @@ ghost use Rattle.std.specs.Prelude.{◌≡◌, ◌+◌, ◌<◌, ◌≤◌, leng
 ghost use Rattle.pl_spec.specs.Limits.{most_sessions};
 ghost use Rattle.pl_records.specs.Reading.{Answers, at_line, rows_of};
 ghost use Rattle.pl_records.specs.Records.{csv_records};
-ghost use Rattle.pl_calendar.specs.Days.{day_in, is_later, says_day, sessions_of};
+ghost use Rattle.pl_calendar.specs.Days.{day_in, is_later, day_or_rule, sessions_of};
 ghost use Rattle.pl_calendar.specs.Faults.{fault_of};
 
 use crate::MOST_SESSIONS;
@@ -26,7 +26,7 @@ pub(crate) fn read_sessions(alloc: Global, bytes: &[u8]) -> Result<Vec<i32>, Cal
 
 // The days of all records, of which there may be none.
 fn read_days(alloc: Global, bytes: &[u8]) -> Result<Vec<i32>, CalendarError>
-    ensures { Answers (λ v. v.items) fault_of result (rows_of 1 says_day (csv_records bytes.now)) }
+    ensures { Answers (λ v. v.items) fault_of result (rows_of 1 day_or_rule (csv_records bytes.now)) }
 {
     let mut records = Records::new(alloc, bytes);
     let mut days = Vec::new(alloc);
@@ -38,12 +38,12 @@ fn read_days(alloc: Global, bytes: &[u8]) -> Result<Vec<i32>, CalendarError>
 }
 
 // The day of the record that was read last, after the days before it.
-#[tactic(auto, unfolding(crate::specs::Days::says_day))]
+#[tactic(auto, unfolding(crate::specs::Days::day_or_rule))]
 fn next_day(before: &[i32], row: &Records) -> Result<i32, CalendarError>
     requires { length before.now ≤ most_sessions }
     ensures room { OnOk result (length before.now < most_sessions) }
     ensures exact { Answers (λ d. d) fault_of result
-        (at_line (1 + length before.now) (says_day before.now row.now.fields)) }
+        (at_line (1 + length before.now) (day_or_rule before.now row.now.fields)) }
 {
     let line = before.len() as u32 + 1;
     if before.len() >= MOST_SESSIONS {

@@ -26,7 +26,7 @@ use Rattle.pl_check.proofs.Rooted.{tree_of, meaning_of, IsIn}
 use Rattle.pl_check.proofs.Extended.{IsOver, let-extends, column-extends, head-extends, statements-extend, ended-extends}
 use Rattle.pl_check.proofs.Counted.{Same, Means, factor-settles, factor-over}
 use Rattle.pl_check.proofs.Followed.{of_meaning, of_judged, Agrees, then-agrees, weaker, AreMeant, meant-later, defined-is, worth-agrees}
-use Rattle.pl_check.specs.Standing.{ColumnsStand}
+use Rattle.pl_check.specs.Standing.{ColumnsAreInGraph}
 
 -- ---- what the statements so far say
 
@@ -36,21 +36,21 @@ NumberIn g o = (k : ℕ) → o ≡ Some k → k < length g
 record SameJudged (j : typed.Judged) (k : by_tree.Judged) : Type 0 where
   same : Same j.terms k.forest
   meant : AreMeant j.terms.graph j.definitions k.definitions
-  inside : ColumnsStand j.terms.graph j.columns
+  inside : ColumnsAreInGraph j.terms.graph j.columns
   columns : map (tree_column j.terms.graph) j.columns ≡ k.columns
   there : NumberIn j.terms.graph j.screen
   screen : option_map (term_at j.terms.graph) j.screen ≡ k.screen
 
-columns-in-later : (g h : Graph) (cs : List NamedColumn) → Later g h → ColumnsStand g cs → ColumnsStand h cs
+columns-in-later : (g h : Graph) (cs : List NamedColumn) → Later g h → ColumnsAreInGraph g cs → ColumnsAreInGraph h cs
 columns-in-later g h [] l i = tt
 columns-in-later g h (c ∷ cs) l i = (let a : c.term < length g = i.0 in let b : length g ≤ length h = l.longer in omega arith, columns-in-later g h cs l i.1)
 
-columns-later : (g h : Graph) (cs : List NamedColumn) → Later g h → ColumnsStand g cs → map (tree_column h) cs ≡ map (tree_column g) cs
+columns-later : (g h : Graph) (cs : List NamedColumn) → Later g h → ColumnsAreInGraph g cs → map (tree_column h) cs ≡ map (tree_column g) cs
 columns-later g h [] l i = refl
 columns-later g h (c ∷ cs) l i =
     ap (λ t. record { name = c.name; tree = t } ∷ map (tree_column h) cs) (l.same c.term i.0) ∙ ap (λ ts. tree_column g c ∷ ts) (columns-later g h cs l i.1)
 
-columns-append : (g : Graph) (xs ys : List NamedColumn) → ColumnsStand g xs → ColumnsStand g ys → ColumnsStand g (xs ++ ys)
+columns-append : (g : Graph) (xs ys : List NamedColumn) → ColumnsAreInGraph g xs → ColumnsAreInGraph g ys → ColumnsAreInGraph g (xs ++ ys)
 columns-append g [] ys f e = e
 columns-append g (x ∷ xs) ys f e = (f.0, columns-append g xs ys f.1 e)
 

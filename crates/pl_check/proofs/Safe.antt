@@ -16,11 +16,11 @@ use Rattle.pl_check.specs.Values.{Value, Bars, Factor, Filter, Labels, Numbers, 
 use Rattle.pl_check.specs.Operations.{parameters}
 use Rattle.pl_check.specs.Rules.{each, takes, is_safe_for}
 use Rattle.pl_check.specs.Results.{kind_for, result_for, columns_of, gives_input, input_in, input_for, inputs_for, all_safe}
-use Rattle.pl_check.specs.Standing.{Stands, AllStand}
+use Rattle.pl_check.specs.Standing.{IsInGraph, AreInGraph}
 use Rattle.pl_check.proofs.Lists.{all-has, test-given, stand-given, same-self}
 
 -- a value that is safe, as an input
-pub value-safe : (g : Graph) (v : Value) (j : ℕ) → Stands g v → is_safe v ≡ true → input_in v ≡ Some (TermInput j) → IsSafe g j
+pub value-safe : (g : Graph) (v : Value) (j : ℕ) → IsInGraph g v → is_safe v ≡ true → input_in v ≡ Some (TermInput j) → IsSafe g j
 value-safe g (Factor t s) j f h e = subst (IsSafe g) (let q : Some (TermInput t) ≡ Some (TermInput j) = e in let z : t ≡ j = cc in z) (f.1 h)
 value-safe g (Filter t) j f h e = subst (IsSafe g) (let q : Some (TermInput t) ≡ Some (TermInput j) = e in let z : t ≡ j = cc in z) f.1
 value-safe g (Labels t) j f h e = subst (IsSafe g) (let q : Some (TermInput t) ≡ Some (TermInput j) = e in let z : t ≡ j = cc in z) f.1
@@ -72,7 +72,7 @@ from-inputs o bs i j h =
     from-parameters bs (parameters o) r.0 j r.1
 
 -- where all that is given is safe, the inputs are
-pub inputs-safe : (g : Graph) (o : Operation) (bs : List Bound) → AllStand g bs → all_safe bs ≡ true → (i j : ℕ) → slice_get (inputs_for o bs) i ≡ Some (TermInput j) → IsSafe g j
+pub inputs-safe : (g : Graph) (o : Operation) (bs : List Bound) → AreInGraph g bs → all_safe bs ≡ true → (i j : ℕ) → slice_get (inputs_for o bs) i ≡ Some (TermInput j) → IsSafe g j
 inputs-safe g o bs k h i j e = here (from-inputs o bs i j e)
   where
     here : From bs (parameters o) j → IsSafe g j
@@ -115,7 +115,7 @@ filter-safe (Number n) h = refl
 filter-safe (Text t) h = refl
 filter-safe (Factor t s) h = absurd (let no : false ≡ true = h in cc)
 
-place-safe : (g : Graph) (p : Parameter) (v : Value) (j : ℕ) → in_window p ≡ true → takes p v ≡ true → is_safe_for p v ≡ true → Stands g v → input_in v ≡ Some (TermInput j) → IsSafe g j
+place-safe : (g : Graph) (p : Parameter) (v : Value) (j : ℕ) → in_window p ≡ true → takes p v ≡ true → is_safe_for p v ≡ true → IsInGraph g v → input_in v ≡ Some (TermInput j) → IsSafe g j
 unfolding in_window takes is_safe_for
 place-safe g parameter.BarColumn v j w t s k e = absurd (bars-input v j t e)
 place-safe g parameter.X v j w t s k e = value-safe g v j k s e
@@ -123,7 +123,7 @@ place-safe g parameter.Weights v j w t s k e = value-safe g v j k s e
 place-safe g parameter.WindowFilter v j w t s k e = value-safe g v j k (filter-safe v t) e
 place-safe g p v j w t s k e = absurd (let no : false ≡ true = w in cc)
 
-pub windows-safe : (g : Graph) (o : Operation) (bs : List Bound) (names : List (List ℕ)) → AllStand g bs → each takes bs ≡ true → each is_safe_for bs ≡ true → is_windowed (kind_for o bs names) ≡ true
+pub windows-safe : (g : Graph) (o : Operation) (bs : List Bound) (names : List (List ℕ)) → AreInGraph g bs → each takes bs ≡ true → each is_safe_for bs ≡ true → is_windowed (kind_for o bs names) ≡ true
     → (i j : ℕ) → slice_get (inputs_for o bs) i ≡ Some (TermInput j) → IsSafe g j
 windows-safe g o bs names k t s w i j e = here (from-inputs o bs i j e)
   where
@@ -200,7 +200,7 @@ called-cases true false false c e h = absurd (let no : false ≡ true = h in cc)
 called-cases false a b c e h = absurd (let no : false ≡ true = e in cc)
 
 -- the term of a node that is called safe
-pub result-safe : (g : Graph) (o : Operation) (bs : List Bound) (names : List (List ℕ)) (t : ℕ) (n : Node) → is_like o ≡ false → slice_get g t ≡ Some n → n.kind ≡ kind_for o bs names → n.inputs ≡ inputs_for o bs → AllStand g bs
+pub result-safe : (g : Graph) (o : Operation) (bs : List Bound) (names : List (List ℕ)) (t : ℕ) (n : Node) → is_like o ≡ false → slice_get g t ≡ Some n → n.kind ≡ kind_for o bs names → n.inputs ≡ inputs_for o bs → AreInGraph g bs
     → (v : Value) → result_for o bs t ≡ v → called_safe v ≡ true → IsSafe g t
 result-safe g o bs names t n own at k is f v e h =
     elim (called-cases (called_safe v) (is_safe_kind (kind_for o bs names)) (is_safe_over (kind_for o bs names)) (all_safe bs) h

@@ -20,10 +20,10 @@ use Rattle.pl_rings.specs.declared.columns.BarRings.{BarRings}
 use Rattle.pl_rings.specs.declared.starts.Capacities.{Capacities}
 use Rattle.pl_rings.specs.Columns.{AreBarRings, BeginColumns, HasRoom, rings_of}
 use Rattle.pl_rings.specs.Days.{IsStart}
-use Rattle.pl_day_rows.specs.declared.turn.TermCells.{TermCells}
+use Rattle.pl_day_rows.specs.declared.term_day.TermCells.{TermCells}
 use Rattle.pl_daily.specs.declared.starts.StartCells.{StartCells}
 use Rattle.pl_daily.specs.Capacities.{column_window, term_window}
-use Rattle.pl_daily.specs.Daily.{Held, Stands, start_in}
+use Rattle.pl_daily.specs.Daily.{Held, HasBeenFed, start_in}
 use Rattle.pl_daily.specs.Room.{AreBegun, AreBegunStarts, HasColumns, IsBegun, no_session}
 use Rattle.pl_daily.specs.Terms.{AreStartCells, AreStarts, AreTerms, IsStartRoom, rooms}
 use Rattle.pl_daily.proofs.Firsts.{none-first}
@@ -107,7 +107,7 @@ module _ (assets : ℕ) (p : Pipeline) (x : Capacities) (bars : BarRings) (terms
   starts_are = record { many = begun_starts.many; full = begun_starts.full }
 
   pub stands_first : (h : Held) → IsStart (start_in h) → length h.assets ≡ assets → h.pipeline ≡ p → h.fed ≡ 0 → h.answered ≡ false → BeginColumns assets h.bars → h.terms ≡ terms
-      → (m : ℕ) → h.since ≡ replicate m no_session → Stands h []
+      → (m : ℕ) → h.since ≡ replicate m no_session → HasBeenFed h []
   stands_first h start many pipeline none silent begins is m since = record {
     start = start;
     are_fed = tt;

@@ -9,7 +9,7 @@ use Rattle.pl_pipeline.specs.Table.{Pipeline}
 use Rattle.pl_terms.specs.Uses.{is_used}
 use Rattle.pl_rings.specs.Days.{Start, FedDay}
 use Rattle.pl_rings.specs.declared.columns.BarRings.{BarRings}
-use Rattle.pl_day_rows.specs.declared.turn.TermCells.{TermCells}
+use Rattle.pl_day_rows.specs.declared.term_day.TermCells.{TermCells}
 use Rattle.pl_day_rows.specs.Held.{AreTermCells, FollowTerm, HoldsTerm}
 use Rattle.pl_daily.specs.declared.starts.StartCells.{StartCells}
 use Rattle.pl_daily.specs.declared.terms.Lent.{Lent}

@@ -31,10 +31,10 @@ use Rattle.pl_values.specs.Arrays.{cell_of, Fills}
 use Rattle.pl_rings.specs.Days.{Start, FedDay, fed, IsStart, AreFed}
 use Rattle.pl_rings.specs.Changes.{Ring, AreRings, ring_at}
 use Rattle.pl_rings.specs.Columns.{HoldColumns, rings_of}
-use Rattle.pl_day_rows.specs.declared.turn.TermCells.{TermCells}
-use Rattle.pl_day_rows.specs.declared.turn.Turn.{Turn}
+use Rattle.pl_day_rows.specs.declared.term_day.TermCells.{TermCells}
+use Rattle.pl_day_rows.specs.declared.term_day.TermDay.{TermDay}
 use Rattle.pl_day_rows.specs.Rows.{capacity_of, rings_in, row_of, rows_lent}
-use Rattle.pl_day_rows.specs.Turns.{Moment, IsAlways, IsTurn, IsDayIn, HoldsRow, HoldsRings, HoldsBars, HoldsStart, assets_at, node_at, pipeline_at, sids_at, cell_on, day_window_of}
+use Rattle.pl_day_rows.specs.TermDays.{Moment, IsRowInEveryWorld, IsTermDay, IsDayIn, HoldsRow, HoldsRings, HoldsBars, HoldsStart, assets_at, node_at, pipeline_at, sids_at, cell_on, day_window_of}
 use Rattle.pl_day_rows.proofs.Sessions.{fed_days_are_sessions}
 use Rattle.pl_daily.specs.declared.starts.StartCells.{StartCells}
 use Rattle.pl_daily.specs.declared.terms.Lent.{Lent}
@@ -72,7 +72,7 @@ module _ (p : Pipeline) (checked : IsChecked p) (k : ℕ) (n : Node) (used : is_
 pub input_used : (p : Pipeline) (k : ℕ) (f : Frequency) (u : ℕ) → IsChecked p → Downsamples p k f u → (u < k) × (u < length p.graph) × (is_used p u ≡ true)
 input_used p k f u checked down = read_used p checked k down.node down.used down.at u _ (Reads.input 0 down.input)
 
-module _ (t : Turn) (next : FedDay) (days : List FedDay) (s : StartCells)
+module _ (t : TermDay) (next : FedDay) (days : List FedDay) (s : StartCells)
     (start : IsStart (start_of t.assets.now t.labels.now (rows_lent t.numbers))) (are_fed : AreFed (start_of t.assets.now t.labels.now (rows_lent t.numbers)) (next ∷ days)) (day : next.day ≡ t.day)
     (bars : HoldColumns (start_of t.assets.now t.labels.now (rows_lent t.numbers)) (next ∷ days) t.bars.now)
     (held : TermsHold (start_of t.assets.now t.labels.now (rows_lent t.numbers)) days (next ∷ days) (pipeline_at t) t.term.0 t.terms.now)
@@ -156,8 +156,8 @@ module _ (t : Turn) (next : FedDay) (days : List FedDay) (s : StartCells)
         };
       }
 
-  pub turn_is : IsTurn t v
-  turn_is = record {
+  pub term_day_is : IsTermDay t v
+  term_day_is = record {
     checked = checked;
     node = node;
     few = few;
@@ -177,8 +177,8 @@ module _ (t : Turn) (next : FedDay) (days : List FedDay) (s : StartCells)
   cells_are row f = λ i d l. let inside : i < assets_at t = (let long = f.long in omega (arith, l, long)) in subst IsCell (sym (get_or_default row i d (pos 0) l ∙ f.each i inside)) (f.cell i inside)
 
 -- what is computed for term k
-abbrev pub turn_of : Lent → Bor (List TermCells) → TermId → Bor code.Node → Bor (List ℤ) → ℤ → Turn
-turn_of l terms term node start day =
+abbrev pub term_day_of : Lent → Bor (List TermCells) → TermId → Bor code.Node → Bor (List ℤ) → ℤ → TermDay
+term_day_of l terms term node start day =
     record { checked = l.checked; assets = l.assets; labels = l.labels; numbers = l.numbers; bars = l.bars; terms = terms; term = term; node = node; start = start; day = day }
 
 abbrev pub moment_of : Lent → FedDay → List FedDay → Moment
@@ -188,16 +188,16 @@ module _ (l : Lent) (terms : Bor (List TermCells)) (term : TermId) (node : Bor c
     (same : day ≡ l.day) (lent : start.now ≡ s.row.items) (room : IsStartRoom (Terms.assets_at l) (Terms.pipeline_at l) term.0 s)
     (are : AreTerms (Terms.assets_at l) (Terms.pipeline_at l) l.bars.now terms.now) (checked : IsChecked (Terms.pipeline_at l)) (used : is_used (Terms.pipeline_at l) term.0 ≡ true)
     (is : slice_get (Terms.pipeline_at l).graph term.0 ≡ Some (node_of node.now)) (few : Terms.assets_at l ≤ 8000) (labels : AreLabels l.labels.now) where
-  abbrev t : Turn
-  t = turn_of l terms term node start day
+  abbrev t : TermDay
+  t = term_day_of l terms term node start day
 
-  pub stands_at : (next : FedDay) (days : List FedDay) → IsAt l term.0 terms.now s (next ∷ days) next days → IsTurn (turn_of l terms term node start day) (moment_of l next days)
-  stands_at next days at = turn_is t next days s at.may.start at.may.are_fed (at.may.day ∙ sym same) at.may.bars at.terms at.start lent room are checked used is few labels
+  pub stands_at : (next : FedDay) (days : List FedDay) → IsAt l term.0 terms.now s (next ∷ days) next days → IsTermDay (term_day_of l terms term node start day) (moment_of l next days)
+  stands_at next days at = term_day_is t next days s at.may.start at.may.are_fed (at.may.day ∙ sym same) at.may.bars at.terms at.start lent room are checked used is few labels
 
-  pub row_at : (row : List ℤ) → IsAlways (turn_of l terms term node start day) row → IsRowOf l term.0 terms.now s row
+  pub row_at : (row : List ℤ) → IsRowInEveryWorld (term_day_of l terms term node start day) row → IsRowOf l term.0 terms.now s row
   row_at row always next days at =
       row_is t next days s at.may.start at.may.are_fed (at.may.day ∙ sym same) at.may.bars at.terms at.start lent room are checked used is few labels row (always (moment_of l next days) (stands_at next days at))
 
-  pub cells_at : (row : List ℤ) → IsAlways (turn_of l terms term node start day) row → (next : FedDay) (days : List FedDay) → IsAt l term.0 terms.now s (next ∷ days) next days → All IsCell row
+  pub cells_at : (row : List ℤ) → IsRowInEveryWorld (term_day_of l terms term node start day) row → (next : FedDay) (days : List FedDay) → IsAt l term.0 terms.now s (next ∷ days) next days → All IsCell row
   cells_at row always next days at =
       cells_are t next days s at.may.start at.may.are_fed (at.may.day ∙ sym same) at.may.bars at.terms at.start lent room are checked used is few labels row (always (moment_of l next days) (stands_at next days at))

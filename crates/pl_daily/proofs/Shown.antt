@@ -12,12 +12,12 @@ use Rattle.pl_terms.specs.declared.checked.NamedColumn as code
 use Rattle.pl_terms.specs.declared.node.TermId.{TermId}
 use Rattle.pl_planner.proofs.Marks.{column-within}
 use Rattle.pl_rings.specs.Days.{Start, FedDay, fed, last_session}
-use Rattle.pl_day_rows.specs.declared.turn.TermCells.{TermCells}
+use Rattle.pl_day_rows.specs.declared.term_day.TermCells.{TermCells}
 use Rattle.pl_day_rows.specs.Held.{AreTermCells}
 use Rattle.pl_day_rows.specs.Rows.{sids_of}
 use Rattle.pl_day_rows.proofs.DayByDay.{fed_texts}
 use Rattle.pl_daily.specs.declared.daily.Daily.TheInside.{Inside}
-use Rattle.pl_daily.specs.Daily.{Stands, start_in, world_in}
+use Rattle.pl_daily.specs.Daily.{HasBeenFed, start_in, world_in}
 use Rattle.pl_daily.specs.View.{IsInside, held_of}
 use Rattle.pl_daily.proofs.Firsts.{column-at}
 use Rattle.pl_daily.proofs.KeptPlaces.{sid_is}
@@ -51,7 +51,7 @@ module _ (d : Inside) (i : IsInside d) (column : ℕ) (t : TermId) (named : opti
         pub is_cell : IsCell cell
         is_cell = subst IsCell (sym cell_is) (cells.cells col cell col_row)
 
-        pub is_value : (days : List FedDay) (c : NamedColumn) (a : ℕ) → Stands (held_of d) days → slice_get p.columns column ≡ Some c → slice_get d.kept.items k ≡ Some a
+        pub is_value : (days : List FedDay) (c : NamedColumn) (a : ℕ) → HasBeenFed (held_of d) days → slice_get p.columns column ≡ Some c → slice_get d.kept.items k ≡ Some a
             → cell ≡ in_array d.labels.now.texts (value_of (world_in (held_of d) days) p c.term (sid_at d.assets.now a) (last_session days))
         is_value days c a stands at_c at_a =
             let g : Start = start_in (held_of d) in

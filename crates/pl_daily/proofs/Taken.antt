@@ -20,11 +20,11 @@ use Rattle.pl_rings.specs.Changes.{IsHandedIn, column_event}
 use Rattle.pl_rings.specs.Columns.{FollowColumns}
 use Rattle.pl_rings.specs.Days.{Start, FedDay, days_of, last_day, last_session, AreFed, IsLaterThan, MayFollow}
 use Rattle.pl_rings.proofs.Fed.{fed_is_a_world, length-days}
-use Rattle.pl_day_rows.specs.declared.turn.TermCells.{TermCells}
+use Rattle.pl_day_rows.specs.declared.term_day.TermCells.{TermCells}
 use Rattle.pl_day_rows.specs.Rows.{row_of}
-use Rattle.pl_day_rows.specs.Turns.{number_row}
+use Rattle.pl_day_rows.specs.TermDays.{number_row}
 use Rattle.pl_daily.specs.declared.starts.StartCells.{StartCells}
-use Rattle.pl_daily.specs.Daily.{Held, Stands, last_of, start_in}
+use Rattle.pl_daily.specs.Daily.{Held, HasBeenFed, last_of, start_in}
 use Rattle.pl_daily.specs.Kept.{kept_places}
 use Rattle.pl_daily.specs.Reaches.{AreFirst, AreStarts, FollowFirst}
 use Rattle.pl_daily.specs.Steps.{Answers, IsMidway, TakeTerms, sessions_of}
@@ -61,7 +61,7 @@ few_in_all n day h l = omega (arith, ints)
 abbrev pub next_of : ℤ → List DayBar → List DayEvent → FedDay
 next_of day bars events = record { day = day; bars = bars; events = map column_event events }
 
-module _ (h : Held) (day : ℤ) (bars : List DayBar) (events : List DayEvent) (days : List FedDay) (later : IsLaterThan (last_of h) day) (stands : Stands h days)
+module _ (h : Held) (day : ℤ) (bars : List DayBar) (events : List DayEvent) (days : List FedDay) (later : IsLaterThan (last_of h) day) (stands : HasBeenFed h days)
     (may : MayFollow (start_in h) days (next_of day bars events)) where
   abbrev next : FedDay
   next = next_of day bars events
@@ -138,7 +138,7 @@ module _ (h : Held) (day : ℤ) (bars : List DayBar) (events : List DayEvent) (d
 
       pub stands_for : (b : BarRings) (answer : Bool) (count : ℕ) (last : ℤ) (kept : List ℕ) → FollowColumns day bars events h.fed h.bars b → Answers p since answer → count ≡ h.fed + 1 → last ≡ day
           → (answer ≡ true → kept ≡ kept_places h.assets last (number_row terms p.screen))
-          → Stands (record h { bars = b; terms = terms; starts = starts; since = since; answered = answer; fed = count; last = last; kept = kept }) xs
+          → HasBeenFed (record h { bars = b; terms = terms; starts = starts; since = since; answered = answer; fed = count; last = last; kept = kept }) xs
       stands_for b answer count last kept bars_follow told fed_is last_is kept_is = record {
         start = stands.start;
         are_fed = follows;
@@ -175,14 +175,14 @@ module _ (h h1 h2 h3 h4 : Held) (r1 : h1 ≡ record h { bars = h1.bars }) (r2 : 
       → FollowColumns day bars events h.fed h.bars h1.bars → TakeTerms day h1 h2 → length h2.terms ≡ length h1.pipeline.graph → length h2.starts ≡ length h1.pipeline.graph
       → FollowFirst h2.pipeline (sessions_of h2.starts) h2.fed h2.since h3.since → Answers h2.pipeline h3.since h3.answered → h3.fed ≡ h2.fed + 1 → h3.last ≡ day
       → (h3.answered ≡ true → h4.kept ≡ kept_places h3.assets h3.last (number_row h3.terms h3.pipeline.screen))
-      → Stands h days → MayFollow (start_in h) days (next_of day bars events) → Stands h4 (next_of day bars events ∷ days)
+      → HasBeenFed h days → MayFollow (start_in h) days (next_of day bars events) → HasBeenFed h4 (next_of day bars events ∷ days)
   stands_on day bars events days later ok bars_follow take many all follow told fed_is last_is kept stands may =
       let next : FedDay = next_of day bars events in
       let mid : IsMidway h1 day next days = subst (λ k. IsMidway k day next days) (sym r1) (midway h day bars events days later stands may h1.bars bars_follow) in
       let holds : HoldTerms (start_in h) (next ∷ days) h.pipeline h2.terms × HoldStarts (start_in h) (next ∷ days) h.pipeline h2.starts
       = subst (λ (k : Held). HoldTerms (start_in k) (next ∷ days) k.pipeline h2.terms × HoldStarts (start_in k) (next ∷ days) k.pipeline h2.starts) r1 (take next days mid) in
       let graph : length h1.pipeline.graph ≡ length h.pipeline.graph = ap (λ (k : Held). length k.pipeline.graph) r1 in
-      subst (λ k. Stands k (next ∷ days)) (sym fourth)
+      subst (λ k. HasBeenFed k (next ∷ days)) (sym fourth)
       (stands_for h day bars events days later stands may ok h2.terms h2.starts holds (many ∙ graph) (all ∙ graph) h3.since
       (subst (λ (k : Held). FollowFirst k.pipeline (sessions_of h2.starts) k.fed k.since h3.since) second follow)
       h1.bars h3.answered h3.fed h3.last h4.kept bars_follow (subst (λ (k : Held). Answers k.pipeline h3.since h3.answered) second told) (fed_is ∙ ap (λ n. n + 1) still_fed) last_is

@@ -17,7 +17,7 @@ use Rattle.pl_rings.specs.Changes.{column_event}
 use Rattle.pl_rings.specs.Columns.{HoldColumns}
 use Rattle.pl_rings.specs.Days.{Start, FedDay, fed, days_of, last_session, last_day, IsStart, AreFed}
 use Rattle.pl_rings.specs.Rings.{scaling}
-use Rattle.pl_day_rows.specs.declared.turn.TermCells.{TermCells}
+use Rattle.pl_day_rows.specs.declared.term_day.TermCells.{TermCells}
 use Rattle.pl_day_rows.specs.Held.{HoldsTerm}
 use Rattle.pl_daily.specs.Capacities.{column_window}
 use Rattle.pl_daily.specs.Reaches.{AreFirst}
@@ -61,7 +61,7 @@ handed d = record { day = d.day; bars = d.bars.now; events = map column_event d.
 -- session of the period, and for each used term the first session is known at which it reaches back to no
 -- session below 0. It has values exactly where the outputs reach back to no session below 0 on the last day,
 -- and then it keeps the assets that the screen keeps on that day.
-pub record Stands (h : Held) (days : List FedDay) : Type 0 where
+pub record HasBeenFed (h : Held) (days : List FedDay) : Type 0 where
   pub start : IsStart (start_in h)
   pub are_fed : AreFed (start_in h) days
   pub fed : h.fed ≡ length days

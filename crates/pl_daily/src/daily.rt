@@ -9,11 +9,11 @@ ghost use Rattle.pl_terms.specs.Uses.{is_used};
 ghost use Rattle.pl_rings.specs.Changes.{AreRings, IsHandedIn};
 ghost use Rattle.pl_rings.specs.Columns.{FollowColumns, rings_of};
 ghost use Rattle.pl_rings.specs.Days.{FedDay, IsLaterThan, MayFollow, last_session};
-ghost use Rattle.pl_day_rows.specs.declared.turn.TermCells.{TermCells};
+ghost use Rattle.pl_day_rows.specs.declared.term_day.TermCells.{TermCells};
 ghost use Rattle.pl_day_rows.specs.Rows.{rows_lent};
-ghost use Rattle.pl_day_rows.specs.Turns.{number_row};
+ghost use Rattle.pl_day_rows.specs.TermDays.{number_row};
 ghost use Rattle.pl_daily.specs.Capacities.{column_window, term_window};
-ghost use Rattle.pl_daily.specs.Daily.{Stands, day_work, handed, last_of, start_in, world_in};
+ghost use Rattle.pl_daily.specs.Daily.{HasBeenFed, day_work, handed, last_of, start_in, world_in};
 ghost use Rattle.pl_daily.specs.Kept.{kept_places};
 ghost use Rattle.pl_daily.specs.Reaches.{FollowFirst};
 ghost use Rattle.pl_daily.specs.Steps.{Answers, IsMidway, TakeTerms, sessions_of};
@@ -94,8 +94,8 @@ impl<'a> Model for Daily<'a> {
 }
 
 impl<'a> Daily<'a> {
-    /// An evaluation of the pipeline over these assets and labels, which stay lent to it, and over no numbers;
-    /// no day was taken in. The only error is want of memory.
+    /// An evaluation of the pipeline over these assets and labels, which stay lent to it, and over no
+    /// numbers; no day was taken in. The only error is want of memory.
     pub fn new(
         alloc: Global,
         checked: &'a Checked,
@@ -108,7 +108,7 @@ impl<'a> Daily<'a> {
         ensures labels { IfOk result (λ d. d.labels ≡ labels.entry.now) }
         ensures numbers { IfOk result (λ d. d.numbers ≡ []) }
         ensures none { IfOk result (λ d. d.fed ≡ 0) }
-        ensures stands { IfOk result (λ d. Stands d []) }
+        ensures stands { IfOk result (λ d. HasBeenFed d []) }
     {
         Daily::begin(alloc, checked, assets, labels, None)
     }
@@ -128,7 +128,7 @@ impl<'a> Daily<'a> {
         ensures labels { IfOk result (λ d. d.labels ≡ labels.entry.now) }
         ensures numbers { IfOk result (λ d. d.numbers ≡ numbers.entry.now.rows) }
         ensures none { IfOk result (λ d. d.fed ≡ 0) }
-        ensures stands { IfOk result (λ d. Stands d []) }
+        ensures stands { IfOk result (λ d. HasBeenFed d []) }
     {
         Daily::begin(alloc, checked, assets, labels, Some(numbers))
     }
@@ -148,7 +148,7 @@ impl<'a> Daily<'a> {
         ensures labels { IfOk result (λ d. d.labels ≡ labels.entry.now) }
         ensures numbers { IfOk result (λ d. d.numbers ≡ rows_lent numbers.entry) }
         ensures none { IfOk result (λ d. d.fed ≡ 0) }
-        ensures stands { IfOk result (λ d. Stands d []) }
+        ensures stands { IfOk result (λ d. HasBeenFed d []) }
     {
         let many = assets.len();
         let terms = count(checked);
@@ -265,15 +265,16 @@ impl<'a> Daily<'a> {
     pub fn advance<L: Ledger>(&mut self, day: &Day, steps: &mut Steps<L>) -> Result<bool, NotLater>
         requires day { IsDay day.now.day }
         requires may_follow { IsLaterThan (last_of self.old) day.now.day
-            → (days : List FedDay) × Stands self.old days
+            → (days : List FedDay) × HasBeenFed self.old days
             × MayFollow (start_in self.old) days (handed day.now) }
         ensures accepted { OnOk result (IsLaterThan (last_of self.old) day.now.day) }
         ensures refused { IfErr result (λ e. last_of self.old ≡ Some e.last) }
         ensures not_later { OnErr result (IsLaterThan (last_of self.old) day.now.day → ⊥) }
         ensures stays { OnErr result (self.new ≡ self.old) }
         ensures no_cost { OnErr result (steps.new ≡ steps.old) }
-        ensures follow { OnOk result ((days : List FedDay) → Stands self.old days
-            → MayFollow (start_in self.old) days (handed day.now) → Stands self.new (handed day.now ∷ days)) }
+        ensures follow { OnOk result ((days : List FedDay) → HasBeenFed self.old days
+            → MayFollow (start_in self.old) days (handed day.now)
+            → HasBeenFed self.new (handed day.now ∷ days)) }
         ensures answer { IfOk result (λ b. b ≡ self.new.answered) }
         ensures fed { OnOk result (self.new.fed ≡ self.old.fed + 1) }
         ensures cost { OnOk result (steps.new ≡ steps.old
@@ -299,7 +300,8 @@ impl<'a> Daily<'a> {
         requires { self.now.answered ≡ true }
         ensures is { result.now ≡ self.now.kept }
         ensures within { All (λ c. c < length self.now.assets) result.now }
-        ensures kept { (days : List FedDay) → Stands self.now days → map (sid_at self.now.assets) result.now
+        ensures kept { (days : List FedDay) → HasBeenFed self.now days
+            → map (sid_at self.now.assets) result.now
             ≡ kept_sids (world_in self.now days) self.now.pipeline (last_session days) }
     {
         &self.kept
@@ -312,7 +314,7 @@ impl<'a> Daily<'a> {
         requires column { column < length self.now.pipeline.columns }
         requires kept { i < length self.now.kept }
         ensures cell { IsCell result }
-        ensures value { (days : List FedDay) (c : NamedColumn) (a : ℕ) → Stands self.now days
+        ensures value { (days : List FedDay) (c : NamedColumn) (a : ℕ) → HasBeenFed self.now days
             → slice_get self.now.pipeline.columns column ≡ Some c → slice_get self.now.kept i ≡ Some a
             → result ≡ in_array self.now.labels.texts (value_of (world_in self.now days) self.now.pipeline
             c.term (sid_at self.now.assets a) (last_session days)) }

@@ -2,7 +2,7 @@
 ghost use Rattle.std.specs.Prelude.{◌≡◌, ◌≤◌, ◌<◌, length, vec_capacity, All, IfSome};
 ghost use Rattle.pl_cross.specs.Listing.{labels_in};
 ghost use Rattle.pl_terms.specs.Checked.{pipeline_of};
-ghost use Rattle.pl_day_rows.specs.Turns.{number_row};
+ghost use Rattle.pl_day_rows.specs.TermDays.{number_row};
 ghost use Rattle.pl_daily.specs.Kept.{kept_places};
 
 use pl_assets::Assets;

@@ -10,7 +10,7 @@ ghost use Rattle.pl_daily.specs.Terms.{IsRowOf, IsStartRoom, assets_at, pipeline
 use crate::starts::{StartCells, take_start};
 use pl_assets::{Assets, Labels};
 use pl_cross::Cross;
-use pl_day_rows::{TermCells, Turn, fill_row, put_term};
+use pl_day_rows::{TermCells, TermDay, fill_row, put_term};
 use pl_numbers::Numbers;
 use pl_rings::BarRings;
 use pl_terms::{Checked, TermId};
@@ -67,7 +67,7 @@ fn term_row(
     let _assets = lent.assets.len();
     let _labels = lent.labels.len();
     let graph = lent.checked.graph();
-    let turn = Turn {
+    let term_day = TermDay {
         checked: lent.checked,
         assets: lent.assets,
         labels: lent.labels,
@@ -79,7 +79,7 @@ fn term_row(
         start: &start.row,
         day: lent.day,
     };
-    fill_row(&turn, cross, first, second, third, keep, out);
+    fill_row(&term_day, cross, first, second, third, keep, out);
 }
 
 // Takes the day into a used term; those below have it already.

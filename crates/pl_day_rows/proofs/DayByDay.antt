@@ -16,9 +16,9 @@ use Rattle.pl_rings.specs.Days.{Start, FedDay, fed, last_session, IsStart, AreFe
 use Rattle.pl_rings.specs.Changes.{Ring, pushed, ring_at}
 use Rattle.pl_rings.proofs.Moves.{slides, constant, below_none, below_first}
 use Rattle.pl_day_rows.proofs.Values.{nobody, value_below, values_stay}
-use Rattle.pl_day_rows.specs.declared.turn.TermCells.{TermCells}
+use Rattle.pl_day_rows.specs.declared.term_day.TermCells.{TermCells}
 use Rattle.pl_day_rows.specs.Rows.{sids_of}
-use Rattle.pl_day_rows.specs.Turns.{cell_on}
+use Rattle.pl_day_rows.specs.TermDays.{cell_on}
 use Rattle.pl_day_rows.specs.Held.{AreTermCells, FollowTerm, BeginsTerm}
 
 -- one session back from the next day is the last one

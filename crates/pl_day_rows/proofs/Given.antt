@@ -1,4 +1,4 @@
--- What the term of a turn is worth, family by family.
+-- What a term is worth on a day, family by family.
 use Rattle.std.proofs.Common.{◌≡◌, ℕ, suc, ◌-◌, ◌<◌, ◌≤◌, true, ◌&&◌, ℤ, pos, List, [], length, get_or, Option, Some, None, slice_get, refl, sym, ◌∙◌, ap, subst, arith, All, option_map, IfSome, map}
 use Rattle.std.proofs.Math.Path.{fun_ext}
 use Rattle.std.proofs.lemmas.List.{length-map, get_or_default}
@@ -38,13 +38,13 @@ use Rattle.pl_values.proofs.KindFamilies.{window_kind}
 use Rattle.pl_rings.proofs.Moves.{ends}
 use Rattle.pl_rings.specs.Changes.{Ring, ring_at}
 use Rattle.pl_rings.specs.Columns.{rings_of}
-use Rattle.pl_day_rows.specs.declared.turn.Turn.{Turn}
-use Rattle.pl_day_rows.specs.declared.turn.TermCells.{TermCells}
+use Rattle.pl_day_rows.specs.declared.term_day.TermDay.{TermDay}
+use Rattle.pl_day_rows.specs.declared.term_day.TermCells.{TermCells}
 use Rattle.pl_day_rows.specs.Rows.{Shows, is_kept_by, row_of, rows_lent, rings_in, capacity_of, input_row, ring_window}
-use Rattle.pl_day_rows.specs.Turns.{Moment, IsTurn, IsKept, IsOut, AreGiven, HoldsStart, assets_at, sids_at, node_at, pipeline_at, keeps, number_row, cell_on, day_window_of}
+use Rattle.pl_day_rows.specs.TermDays.{Moment, IsTermDay, IsKept, IsRowOfTerm, AreGiven, HoldsStart, assets_at, sids_at, node_at, pipeline_at, keeps, number_row, cell_on, day_window_of}
 use Rattle.pl_day_rows.specs.Windows.{window_at, windowed_by}
 
-module _ (t : Turn) (v : Moment) (is : IsTurn t v) where
+module _ (t : TermDay) (v : Moment) (is : IsTermDay t v) where
   abbrev w : World
   w = v.world
 
@@ -80,14 +80,14 @@ module _ (t : Turn) (v : Moment) (is : IsTurn t v) where
 
   -- what is given for each asset, and then put away where it is not kept
   pub given_out : (keep made out : List ℤ) (none : ℤ) → IsKept t keep → none ≡ empty_cell p t.term.0 → length out ≡ assets_at t → AreGiven t made
-      → ((i : ℕ) → i < assets_at t → get_or out i (pos 0) ≡ kept_or none keep (λ j. get_or made j (pos 0)) i) → IsOut t v out
+      → ((i : ℕ) → i < assets_at t → get_or out i (pos 0) ≡ kept_or none keep (λ j. get_or made j (pos 0)) i) → IsRowOfTerm t v out
   given_out keep made out none kept empty size given picked =
       kept-cells w p sids t.term.0 n (λ i. i) (λ i. s) (assets_at t) (λ i. get_or made i (pos 0)) out none empty
       (λ i h. picked i h ∙ ap (λ b. chosen b (get_or made i (pos 0)) none) ((kept_is keep kept).each i h)) size (given v is)
 
   -- a row that shows what is given where the asset is kept
   pub shown_out : (keep out : List ℤ) (none : ℤ) (f : ℕ → ℤ) → IsKept t keep → none ≡ empty_cell p t.term.0 → Shows f none keep out
-      → ((i : ℕ) → i < assets_at t → IsGiven w p sids t.term.0 n i s (f i)) → IsOut t v out
+      → ((i : ℕ) → i < assets_at t → IsGiven w p sids t.term.0 n i s (f i)) → IsRowOfTerm t v out
   shown_out keep out none f kept empty shows given =
       shown-cells w p sids t.term.0 n (λ i. i) (λ i. s) (assets_at t) f out none empty
       (λ i h. shows.each i (omega (arith, h, kept.long)) ∙ ap (λ b. chosen b (f i) none) ((kept_is keep kept).each i h)) (shows.long ∙ kept.long) given

@@ -23,7 +23,7 @@ use Rattle.pl_values.proofs.Texts.{texts-coded}
 use Rattle.pl_rings.specs.Days.{Start, FedDay, fed, days_of, bars_of, adjustments_of, IsStart, AreFed}
 use Rattle.pl_rings.proofs.Moves.{days_are_fed}
 use Rattle.pl_day_rows.specs.Rows.{lives_at, sids_of}
-use Rattle.pl_day_rows.specs.Turns.{FedDaysAreSessions}
+use Rattle.pl_day_rows.specs.TermDays.{FedDaysAreSessions}
 use Rattle.pl_lifetimes.proofs.Among.{among-at, is_among}
 
 sids_up : (assets : List AssetRow) → AllPairs (λ a b. a.sid < b.sid) assets → AllPairs (λ a b. a < b) (sids_of assets)

@@ -6,9 +6,9 @@ use Rattle.pl_spec.specs.Window.{before, downward}
 use Rattle.pl_values.specs.Arrays.{empty_cell}
 use Rattle.pl_rings.specs.Days.{Start, FedDay, fed, last_session, IsStart, AreFed}
 use Rattle.pl_rings.specs.Changes.{AreRings, ring_at}
-use Rattle.pl_day_rows.specs.declared.turn.TermCells.{TermCells}
+use Rattle.pl_day_rows.specs.declared.term_day.TermCells.{TermCells}
 use Rattle.pl_day_rows.specs.Rows.{sids_of}
-use Rattle.pl_day_rows.specs.Turns.{cell_on}
+use Rattle.pl_day_rows.specs.TermDays.{cell_on}
 
 -- the row is full of cells, and so are the rings where there are some
 pub record AreTermCells (assets : ℕ) (t : TermCells) : Type 0 where

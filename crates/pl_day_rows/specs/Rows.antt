@@ -14,7 +14,7 @@ use Rattle.pl_values.specs.Arrays.{kept_or}
 use Rattle.pl_rings.specs.declared.columns.BarRings.{BarRings}
 use Rattle.pl_rings.specs.Changes.{Ring, ring_at}
 use Rattle.pl_rings.specs.Columns.{rings_of}
-use Rattle.pl_day_rows.specs.declared.turn.TermCells.{TermCells}
+use Rattle.pl_day_rows.specs.declared.term_day.TermCells.{TermCells}
 
 abbrev pub sids_of : List AssetRow → List ℕ
 sids_of assets = map (λ a. a.sid) assets

@@ -1,17 +1,17 @@
 //! The row of a term.
 ghost use Rattle.std.specs.Prelude.{◌≡◌, ◌≤◌, length};
-ghost use Rattle.pl_day_rows.specs.Turns.{IsAlways, IsKept, IsTurn, Moment, assets_at, node_at};
+ghost use Rattle.pl_day_rows.specs.TermDays.{IsRowInEveryWorld, IsKept, IsTermDay, Moment, assets_at, node_at};
 
 use crate::families::{given_row, number_row, section};
 use crate::leaves::keep_row;
-use crate::turn::Turn;
+use crate::term_day::TermDay;
 use crate::windows::window_row;
 use pl_cross::Cross;
 use pl_values::{Family, empty_value, family_of, keep_values, kind_of, mask_of};
 
 // The row of a term, for the assets that are kept.
 fn kind_row(
-    turn: &Turn<'_>,
+    term_day: &TermDay<'_>,
     cross: &mut Cross,
     first: &mut [i64],
     second: &mut [i64],
@@ -19,26 +19,26 @@ fn kind_row(
     keep: &[i64],
     out: &mut [i64],
 )
-    requires turn { (v : Moment) × IsTurn turn.now v }
-    requires cross { assets_at turn.now ≤ cross.old }
-    requires first { (node_at turn.now).window ≤ length first.old }
-    requires second { (node_at turn.now).window ≤ length second.old }
-    requires third { (node_at turn.now).window ≤ length third.old }
-    requires keep { IsKept turn.now keep.now }
-    requires long { length out.old ≡ assets_at turn.now }
-    ensures out { IsAlways turn.now out.new }
+    requires term_day { (v : Moment) × IsTermDay term_day.now v }
+    requires cross { assets_at term_day.now ≤ cross.old }
+    requires first { (node_at term_day.now).window ≤ length first.old }
+    requires second { (node_at term_day.now).window ≤ length second.old }
+    requires third { (node_at term_day.now).window ≤ length third.old }
+    requires keep { IsKept term_day.now keep.now }
+    requires long { length out.old ≡ assets_at term_day.now }
+    ensures out { IsRowInEveryWorld term_day.now out.new }
     ensures cross { cross.new ≡ cross.old }
     ensures first { length first.new ≡ length first.old }
     ensures second { length second.new ≡ length second.old }
     ensures third { length third.new ≡ length third.old }
 {
-    let none = empty_value(turn.checked.graph(), turn.term);
-    let family = family_of(kind_of(turn.node));
+    let none = empty_value(term_day.checked.graph(), term_day.term);
+    let family = family_of(kind_of(term_day.node));
     match family {
-        Family::Window => window_row(turn, first, second, third, none, keep, out),
-        Family::Section => section(turn, cross, keep, out),
+        Family::Window => window_row(term_day, first, second, third, none, keep, out),
+        Family::Section => section(term_day, cross, keep, out),
         _ => {
-            given_row(turn, family, out);
+            given_row(term_day, family, out);
             keep_values(keep, none, out);
         }
     }
@@ -48,7 +48,7 @@ fn kind_row(
 /// world in which the day is a session whose bars and terms the rings and rows hold. `keep` is for who is
 /// kept, three slices are for windows, and `cross` is for cross-sections. It takes no memory.
 pub fn fill_row(
-    turn: &Turn<'_>,
+    term_day: &TermDay<'_>,
     cross: &mut Cross,
     first: &mut [i64],
     second: &mut [i64],
@@ -56,21 +56,21 @@ pub fn fill_row(
     keep: &mut [i64],
     out: &mut [i64],
 )
-    requires turn { (v : Moment) × IsTurn turn.now v }
-    requires cross { assets_at turn.now ≤ cross.old }
-    requires first { (node_at turn.now).window ≤ length first.old }
-    requires second { (node_at turn.now).window ≤ length second.old }
-    requires third { (node_at turn.now).window ≤ length third.old }
-    requires keep { length keep.old ≡ assets_at turn.now }
-    requires long { length out.old ≡ assets_at turn.now }
-    ensures out { IsAlways turn.now out.new }
+    requires term_day { (v : Moment) × IsTermDay term_day.now v }
+    requires cross { assets_at term_day.now ≤ cross.old }
+    requires first { (node_at term_day.now).window ≤ length first.old }
+    requires second { (node_at term_day.now).window ≤ length second.old }
+    requires third { (node_at term_day.now).window ≤ length third.old }
+    requires keep { length keep.old ≡ assets_at term_day.now }
+    requires long { length out.old ≡ assets_at term_day.now }
+    ensures out { IsRowInEveryWorld term_day.now out.new }
     ensures keep { length keep.new ≡ length keep.old }
     ensures cross { cross.new ≡ cross.old }
     ensures first { length first.new ≡ length first.old }
     ensures second { length second.new ≡ length second.old }
     ensures third { length third.new ≡ length third.old }
 {
-    let mask = number_row(turn, mask_of(turn.node));
-    keep_row(turn.assets, turn.day, mask, keep);
-    kind_row(turn, cross, first, second, third, keep, out);
+    let mask = number_row(term_day, mask_of(term_day.node));
+    keep_row(term_day.assets, term_day.day, mask, keep);
+    kind_row(term_day, cross, first, second, third, keep, out);
 }

@@ -3,7 +3,7 @@ ghost use Rattle.std.specs.Prelude.{◌≡◌, ◌<◌, length, All, IfOk};
 ghost use Rattle.pl_spec.specs.Rounding.{IsCell};
 ghost use Rattle.pl_day_rows.specs.Held.{AreTermCells, BeginsTerm, FollowTerm};
 
-use crate::turn::TermCells;
+use crate::term_day::TermCells;
 use pl_fixed::Memory;
 use pl_rings::{Rings, push_row};
 use std::alloc::Global;

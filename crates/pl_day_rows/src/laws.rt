@@ -1,5 +1,5 @@
 //! Laws of days and sessions. The functions do nothing: the contract of each is a law.
-ghost use Rattle.pl_day_rows.specs.Turns.{FedDaysAreSessions};
+ghost use Rattle.pl_day_rows.specs.TermDays.{FedDaysAreSessions};
 ghost use Rattle.pl_day_rows.specs.Laws.{ValuesStay};
 
 /// The last of days that were fed is a session of their world.

@@ -8,10 +8,10 @@ mod fill;
 mod held;
 pub mod laws;
 mod leaves;
-mod turn;
+mod term_day;
 mod windows;
 
 pub use fill::fill_row;
 pub use held::{begin_term, put_term};
 pub use leaves::is_kept;
-pub use turn::{TermCells, Turn};
+pub use term_day::{TermCells, TermDay};

@@ -5,49 +5,50 @@ ghost use Rattle.pl_spec.specs.Cells.{is_true};
 ghost use Rattle.pl_terms.specs.Sorts.{is_windowed};
 ghost use Rattle.pl_values.specs.Arrays.{chosen, empty_cell};
 ghost use Rattle.pl_day_rows.specs.Rows.{Shows, ring_window};
-ghost use Rattle.pl_day_rows.specs.Turns.{IsAlways, IsKept, IsTurn, Moment, assets_at, node_at, pipeline_at};
+ghost use Rattle.pl_day_rows.specs.TermDays.{IsRowInEveryWorld, IsKept, IsTermDay, Moment, assets_at, node_at, pipeline_at};
 ghost use Rattle.pl_day_rows.specs.Windows.{windowed_by, window_size};
 
-use crate::turn::Turn;
+use crate::term_day::TermDay;
 use pl_rings::copy_window;
 use pl_terms::Input;
 use pl_values::{input_at, is_one, kind_of, window_of, window_value};
 
 // The window of the input in a place, for an asset; it has the length of the slice.
-fn read_window(turn: &Turn<'_>, place: usize, i: usize, window: &mut [i64])
-    requires turn { (v : Moment) × IsTurn turn.now v }
-    requires kind { is_windowed (node_at turn.now).kind ≡ true }
-    requires asset { i < assets_at turn.now }
-    requires size { length window.old ≡ window_size (node_at turn.now) place }
-    ensures { window.new ≡ ring_window turn.now.bars.now turn.now.terms.now (node_at turn.now).window
-        (slice_get (node_at turn.now).inputs place) i }
+fn read_window(term_day: &TermDay<'_>, place: usize, i: usize, window: &mut [i64])
+    requires term_day { (v : Moment) × IsTermDay term_day.now v }
+    requires kind { is_windowed (node_at term_day.now).kind ≡ true }
+    requires asset { i < assets_at term_day.now }
+    requires size { length window.old ≡ window_size (node_at term_day.now) place }
+    ensures { window.new ≡ ring_window term_day.now.bars.now term_day.now.terms.now
+        (node_at term_day.now).window
+        (slice_get (node_at term_day.now).inputs place) i }
 {
     // most kinds read fewer windows
     if window.is_empty() {
         return;
     }
-    match input_at(turn.node, place) {
+    match input_at(term_day.node, place) {
         Some(Input::Term(term)) => {
-            copy_window(&turn.terms[term.0 as usize].rings.rings[i], window);
+            copy_window(&term_day.terms[term.0 as usize].rings.rings[i], window);
         }
-        Some(Input::Column(column)) => copy_window(&turn.bars.of(column).rings[i], window),
+        Some(Input::Column(column)) => copy_window(&term_day.bars.of(column).rings[i], window),
         None => {}
     }
 }
 
 // How long the window of the input in a place is.
-fn size_of(turn: &Turn<'_>, place: usize) -> usize
-    ensures { result ≡ window_size (node_at turn.now) place }
+fn size_of(term_day: &TermDay<'_>, place: usize) -> usize
+    ensures { result ≡ window_size (node_at term_day.now) place }
 {
-    match input_at(turn.node, place) {
-        Some(_) => window_of(turn.node),
+    match input_at(term_day.node, place) {
+        Some(_) => window_of(term_day.node),
         None => 0,
     }
 }
 
 // The term's cell for an asset. The slices are for its windows.
 fn window_cell(
-    turn: &Turn<'_>,
+    term_day: &TermDay<'_>,
     i: usize,
     keep: i64,
     none: i64,
@@ -55,14 +56,14 @@ fn window_cell(
     second: &mut [i64],
     third: &mut [i64],
 ) -> i64
-    requires turn { (v : Moment) × IsTurn turn.now v }
-    requires kind { is_windowed (node_at turn.now).kind ≡ true }
-    requires asset { i < assets_at turn.now }
+    requires term_day { (v : Moment) × IsTermDay term_day.now v }
+    requires kind { is_windowed (node_at term_day.now).kind ≡ true }
+    requires asset { i < assets_at term_day.now }
     requires none { IsCell none }
-    requires first { length first.old ≡ window_size (node_at turn.now) 0 }
-    requires second { length second.old ≡ window_size (node_at turn.now) 1 }
-    requires third { length third.old ≡ window_size (node_at turn.now) 2 }
-    ensures value { result ≡ chosen (is_true keep) (windowed_by turn.now i) none }
+    requires first { length first.old ≡ window_size (node_at term_day.now) 0 }
+    requires second { length second.old ≡ window_size (node_at term_day.now) 1 }
+    requires third { length third.old ≡ window_size (node_at term_day.now) 2 }
+    ensures value { result ≡ chosen (is_true keep) (windowed_by term_day.now i) none }
     ensures cell { IsCell result }
     ensures first { length first.new ≡ length first.old }
     ensures second { length second.new ≡ length second.old }
@@ -71,15 +72,15 @@ fn window_cell(
     if !is_one(keep) {
         return none;
     }
-    read_window(turn, 0, i, first);
-    read_window(turn, 1, i, second);
-    read_window(turn, 2, i, third);
-    window_value(kind_of(turn.node), first, second, third)
+    read_window(term_day, 0, i, first);
+    read_window(term_day, 1, i, second);
+    read_window(term_day, 2, i, third);
+    window_value(kind_of(term_day.node), first, second, third)
 }
 
 // The term's cells, in slices of the windows' lengths.
 fn window_cells(
-    turn: &Turn<'_>,
+    term_day: &TermDay<'_>,
     first: &mut [i64],
     second: &mut [i64],
     third: &mut [i64],
@@ -87,24 +88,24 @@ fn window_cells(
     keep: &[i64],
     out: &mut [i64],
 )
-    requires turn { (v : Moment) × IsTurn turn.now v }
-    requires kind { is_windowed (node_at turn.now).kind ≡ true }
+    requires term_day { (v : Moment) × IsTermDay term_day.now v }
+    requires kind { is_windowed (node_at term_day.now).kind ≡ true }
     requires none { IsCell none }
-    requires first { length first.old ≡ window_size (node_at turn.now) 0 }
-    requires second { length second.old ≡ window_size (node_at turn.now) 1 }
-    requires third { length third.old ≡ window_size (node_at turn.now) 2 }
-    requires keep { length keep.now ≡ assets_at turn.now }
+    requires first { length first.old ≡ window_size (node_at term_day.now) 0 }
+    requires second { length second.old ≡ window_size (node_at term_day.now) 1 }
+    requires third { length third.old ≡ window_size (node_at term_day.now) 2 }
+    requires keep { length keep.now ≡ assets_at term_day.now }
     requires long { length out.old ≡ length keep.now }
-    ensures { Shows (windowed_by turn.now) none keep.now out.new }
+    ensures { Shows (windowed_by term_day.now) none keep.now out.new }
 {
     for i in 0..out.len() {
-        out[i] = window_cell(turn, i, keep[i], none, first, second, third);
+        out[i] = window_cell(term_day, i, keep[i], none, first, second, third);
     }
 }
 
 /// A formula or a filter over windows. The slices have room for its windows.
 pub(crate) fn window_row(
-    turn: &Turn<'_>,
+    term_day: &TermDay<'_>,
     first: &mut [i64],
     second: &mut [i64],
     third: &mut [i64],
@@ -112,24 +113,24 @@ pub(crate) fn window_row(
     keep: &[i64],
     out: &mut [i64],
 )
-    requires turn { (v : Moment) × IsTurn turn.now v }
-    requires kind { is_windowed (node_at turn.now).kind ≡ true }
-    requires none { none ≡ empty_cell (pipeline_at turn.now) turn.now.term.0 }
-    requires first { (node_at turn.now).window ≤ length first.old }
-    requires second { (node_at turn.now).window ≤ length second.old }
-    requires third { (node_at turn.now).window ≤ length third.old }
-    requires keep { IsKept turn.now keep.now }
-    requires long { length out.old ≡ assets_at turn.now }
-    ensures out { IsAlways turn.now out.new }
+    requires term_day { (v : Moment) × IsTermDay term_day.now v }
+    requires kind { is_windowed (node_at term_day.now).kind ≡ true }
+    requires none { none ≡ empty_cell (pipeline_at term_day.now) term_day.now.term.0 }
+    requires first { (node_at term_day.now).window ≤ length first.old }
+    requires second { (node_at term_day.now).window ≤ length second.old }
+    requires third { (node_at term_day.now).window ≤ length third.old }
+    requires keep { IsKept term_day.now keep.now }
+    requires long { length out.old ≡ assets_at term_day.now }
+    ensures out { IsRowInEveryWorld term_day.now out.new }
     ensures first { length first.new ≡ length first.old }
     ensures second { length second.new ≡ length second.old }
     ensures third { length third.new ≡ length third.old }
 {
-    let first_size = size_of(turn, 0);
-    let second_size = size_of(turn, 1);
-    let third_size = size_of(turn, 2);
+    let first_size = size_of(term_day, 0);
+    let second_size = size_of(term_day, 1);
+    let third_size = size_of(term_day, 2);
     window_cells(
-        turn,
+        term_day,
         &mut first[..first_size],
         &mut second[..second_size],
         &mut third[..third_size],

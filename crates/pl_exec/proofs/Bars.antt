@@ -9,12 +9,12 @@ use Rattle.pl_adjarray.specs.Stillness.{IsStill}
 use Rattle.pl_adjarray.specs.Traversals.{Traversal}
 use Rattle.pl_adjarray.specs.Worlds.{IsWindow}
 use Rattle.pl_running.specs.Lanes.{window_at}
-use Rattle.pl_exec.specs.declared.turn.Turn.{Turn}
+use Rattle.pl_exec.specs.declared.term_session.TermSession.{TermSession}
 use Rattle.pl_exec.specs.declared.windows.Bars.{Bars}
-use Rattle.pl_exec.specs.declared.job.Array.{Array}
+use Rattle.pl_exec.specs.declared.chunk_inputs.Array.{Array}
 use Rattle.pl_exec.specs.declared.windows.Source.TheVariants.{InNone, InColumn, InTerm}
 use Rattle.pl_exec.specs.Tasks.{assets_in, window_of_term}
-use Rattle.pl_exec.specs.Jobs.{AreBars, AreStill, HasBarsAt, IsColumnAt, IsColumnReach, IsLent, IsLentAt, IsLentReach, IsReach, IsTermLent, IsTurn, buffer_at, buffered, column_traversal, node_at, one_col, place_among, place_in, task_at, traversal_at}
+use Rattle.pl_exec.specs.ChunkInputs.{AreBars, AreStill, HasBarsAt, IsColumnAt, IsColumnReach, IsLent, IsLentAt, IsLentReach, IsReach, IsTermLent, IsTermSession, buffer_at, buffered, column_traversal, node_at, one_col, place_among, place_in, task_at, traversal_at}
 use Rattle.pl_exec.proofs.Places.{IsFirst, first_place, new_first, sid_of_place}
 
 empty_window : (size m : ℕ) → window_at size m [] ≡ []
@@ -32,22 +32,22 @@ column_still b n still zero = still.first
 column_still b n still (suc zero) = still.second
 column_still b n still (suc (suc q)) = still.third
 
-module _ (t : Turn) (is : IsTurn t) (i : ℕ) (asset : i < assets_in (task_at t)) (b : Bars) (has : HasBarsAt t.job.now t.term.0 (node_at t) (one_col t.job.now i) t.session b)
+module _ (t : TermSession) (is : IsTermSession t) (i : ℕ) (asset : i < assets_in (task_at t)) (b : Bars) (has : HasBarsAt t.chunk.now t.term.0 (node_at t) (one_col t.chunk.now i) t.session b)
     (c : Column) (place : ℕ) (input : slice_get (node_at t).inputs place ≡ Some (spec.BarColumn c)) (q : ℕ) (among : q ≡ place_among (node_at t).inputs c) where
   first_is : IsFirst (node_at t).inputs c q
   first_is = subst (IsFirst (node_at t).inputs c) (sym among) (first_place (node_at t).inputs c place input)
 
   three : q < 3
-  three = let f = is.job.task.checked.graph.few t.term.0 (node_at t) is.node in let w = first_is.within in omega arith
+  three = let f = is.chunk.task.checked.graph.few t.term.0 (node_at t) is.node in let w = first_is.within in omega arith
 
   abbrev rows : Buffered
-  rows = buffered t.job.now t.term.0 c (one_col t.job.now i)
+  rows = buffered t.chunk.now t.term.0 c (one_col t.chunk.now i)
 
-  rows_are : buffer_at t.job.now t.term.0 (node_at t) (one_col t.job.now i) q ≡ rows
+  rows_are : buffer_at t.chunk.now t.term.0 (node_at t) (one_col t.chunk.now i) q ≡ rows
   rows_are = rw (new_first (node_at t) c q first_is) refl
 
-  stands : place_in b q ≡ traversal_at t.job.now t.term.0 (node_at t) (one_col t.job.now i) q (suc has.advances)
-  stands = in_place t.job.now t.term.0 (node_at t) (one_col t.job.now i) (suc has.advances) b q has.bars three
+  stands : place_in b q ≡ traversal_at t.chunk.now t.term.0 (node_at t) (one_col t.chunk.now i) q (suc has.advances)
+  stands = in_place t.chunk.now t.term.0 (node_at t) (one_col t.chunk.now i) (suc has.advances) b q has.bars three
 
   session_is : rows.first + (node_at t).window + has.advances ≡ t.session
   session_is =
@@ -73,14 +73,14 @@ module _ (t : Turn) (is : IsTurn t) (i : ℕ) (asset : i < assets_in (task_at t)
       let own = subst (λ (v : Traversal). (m : ℕ) → m ≤ more → IsWindow v.array v.window 0 (v.session + m) (take v.window (drop m cells))) column_at w in
       let size = subst (λ (v : Traversal). length cells ≡ v.window + more) column_at long in
       record {
-        windows = λ m l. own m l t.job.now.world.assets.now t.job.now.world.labels.now.rows t.job.now.world.labels.now.texts t.job.now.world.numbers.now.rows is.job.made.parts (is.job.task.columns.within i 0 asset)
-            ∙ ap (λ a. bar_window (task_at t).world c (node_at t).window a (pos (t.session + m))) (sym (sid_of_place t.job.now.world.assets.now t.job.now.cols.now i asset));
+        windows = λ m l. own m l t.chunk.now.world.assets.now t.chunk.now.world.labels.now.rows t.chunk.now.world.labels.now.texts t.chunk.now.world.numbers.now.rows is.chunk.made.parts (is.chunk.task.columns.within i 0 asset)
+            ∙ ap (λ a. bar_window (task_at t).world c (node_at t).window a (pos (t.session + m))) (sym (sid_of_place t.chunk.now.world.assets.now t.chunk.now.cols.now i asset));
         long = λ some. omega (arith, size);
       }
 
 -- ---- by where they lie
 
-module _ (t : Turn) (is : IsTurn t) (i more : ℕ) (cells : List ℤ) where
+module _ (t : TermSession) (is : IsTermSession t) (i more : ℕ) (cells : List ℤ) where
   pub none_reach : cells ≡ [] → IsLentReach t InNone i more cells
   none_reach e p lent = here (slice_get (node_at t).inputs p) lent
     where
@@ -107,14 +107,14 @@ module _ (t : Turn) (is : IsTurn t) (i more : ℕ) (cells : List ℤ) where
       here o e l = absurd l
 
 -- the input whose windows lie in a traversal or in an array
-pub column_of : (t : Turn) (q : ℕ) → IsLentAt t (InColumn q) → IsColumnAt t q
+pub column_of : (t : TermSession) (q : ℕ) → IsLentAt t (InColumn q) → IsColumnAt t q
 column_of t q lent = here (slice_get (node_at t).inputs lent.0) refl lent.1
   where
     here : (o : Option spec.Input) → slice_get (node_at t).inputs lent.0 ≡ o → IsLent (task_at t) (node_at t) o (InColumn q) → IsColumnAt t q
     here (Some (spec.BarColumn c)) e l = (lent.0, (c, (e, l)))
     here o e l = absurd l
 
-pub term_of : (t : Turn) → IsTurn t → (a : Array) → IsLentAt t (InTerm a) → (u : ℕ) × IsTermLent t u a
+pub term_of : (t : TermSession) → IsTermSession t → (a : Array) → IsLentAt t (InTerm a) → (u : ℕ) × IsTermLent t u a
 term_of t is a lent = here (slice_get (node_at t).inputs lent.0) refl lent.1
   where
     here : (o : Option spec.Input) → slice_get (node_at t).inputs lent.0 ≡ o → IsLent (task_at t) (node_at t) o (InTerm a) → (u : ℕ) × IsTermLent t u a

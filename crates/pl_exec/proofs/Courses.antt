@@ -10,19 +10,19 @@ use borrow.Rule.Slice.PartMut.{put_mid}
 use Rattle.pl_bars.proofs.BarFilling.{part_within, part_written}
 use Rattle.pl_values.specs.Arrays.{Holds, Fills, is_kept}
 use Rattle.pl_values.specs.Laws.{IsNode}
-use Rattle.pl_exec.specs.declared.job.Array.{Array}
+use Rattle.pl_exec.specs.declared.chunk_inputs.Array.{Array}
 use Rattle.pl_exec.specs.declared.course.Course.{Course}
 use Rattle.pl_exec.specs.declared.windows.Source.TheVariants.{InTerm}
-use Rattle.pl_exec.specs.declared.turn.Turn.{Turn}
+use Rattle.pl_exec.specs.declared.term_session.TermSession.{TermSession}
 use Rattle.pl_exec.specs.Tasks.{Task, IsArray, assets_in, cell_in, count_in, low_in, sids_in}
-use Rattle.pl_exec.specs.Jobs.{IsArrayOf, IsCourse, IsLent, IsMaskLent, IsOperand, IsReadFrom, IsTurn, IsWritten, node_at, node_in, task_at, task_in, turn_in}
-use Rattle.pl_exec.proofs.Held.{turn_is, held}
+use Rattle.pl_exec.specs.ChunkInputs.{IsArrayOf, IsCourse, IsLent, IsMaskLent, IsOperand, IsReadFrom, IsTermSession, IsWritten, node_at, node_in, task_at, task_in, session_in}
+use Rattle.pl_exec.proofs.Held.{term_session_is, held}
 
-pub course_turn : (c : Course) → IsCourse c → (j : ℕ) → j < c.count → IsTurn (turn_in c j)
-course_turn c is j h = turn_is (turn_in c j) is.job is.run is.node (let l = is.low in omega arith) (let e = is.end in omega arith) is.none
+pub course_session : (c : Course) → IsCourse c → (j : ℕ) → j < c.count → IsTermSession (session_in c j)
+course_session c is j h = term_session_is (session_in c j) is.chunk is.run is.node (let l = is.low in omega arith) (let e = is.end in omega arith) is.none
 
 pub course_node : (c : Course) → IsCourse c → IsNode (task_in c).pipeline c.term.0 (node_in c)
-course_node c is = record { checked = is.job.task.checked; node = is.node }
+course_node c is = record { checked = is.chunk.task.checked; node = is.node }
 
 -- the mask that is there
 pub masked_by : (t : Task) (m : Option ℕ) (a : Array) → IsMaskLent t m (Some a) → (u : ℕ) × ((m ≡ Some u) × IsArrayOf t u a)
@@ -55,9 +55,9 @@ course_array c is cells h =
     subst (λ m. Holds (cell_in (task_in c) c.term.0) (assets_in (task_in c)) (low_in (task_in c) c.term.0) m cells) n
     (subst (λ l. Holds (cell_in (task_in c) c.term.0) (assets_in (task_in c)) l c.count cells) is.low h)
 
-pub kept_on : (c : Course) (t : Turn) (i j : ℕ) (k : Bool) → t ≡ turn_in c j → k ≡ is_kept (task_at t).world (task_at t).pipeline (sids_in (task_at t)) (node_at t).mask i t.session
+pub kept_on : (c : Course) (t : TermSession) (i j : ℕ) (k : Bool) → t ≡ session_in c j → k ≡ is_kept (task_at t).world (task_at t).pipeline (sids_in (task_at t)) (node_at t).mask i t.session
     → k ≡ is_kept (task_in c).world (task_in c).pipeline (sids_in (task_in c)) (node_in c).mask i (c.low + j)
-kept_on c t i j k e h = subst (λ (u : Turn). k ≡ is_kept (task_at u).world (task_at u).pipeline (sids_in (task_at u)) (node_at u).mask i u.session) e h
+kept_on c t i j k e h = subst (λ (u : TermSession). k ≡ is_kept (task_at u).world (task_at u).pipeline (sids_in (task_at u)) (node_at u).mask i u.session) e h
 
 pub count_of : (c : Course) → IsCourse c → c.count ≡ count_in (task_in c) c.term.0
 count_of c is = let l = is.low in let e = is.end in omega arith

@@ -1,4 +1,4 @@
--- What the term of a turn is worth, family by family.
+-- What a term is worth on a session, family by family.
 use Rattle.std.proofs.Common.{◌≡◌, ℕ, ◌<◌, true, ℤ, pos, List, length, get_or, Option, Some, slice_get, sym, ◌∙◌, ap, subst, arith, unwrap_or, option_map}
 use Rattle.std.specs.Option.{option_and_then}
 use Rattle.std.proofs.lemmas.List.{length-map}
@@ -27,13 +27,13 @@ use Rattle.pl_assets.proofs.LabelWorlds.{labels_those}
 use Rattle.pl_numbers.specs.Numbers.{number_on}
 use Rattle.pl_numbers.proofs.NumberWorlds.{numbers_those}
 use Rattle.pl_exec.proofs.Places.{sid_of_place}
-use Rattle.pl_exec.specs.declared.turn.Turn.{Turn}
+use Rattle.pl_exec.specs.declared.term_session.TermSession.{TermSession}
 use Rattle.pl_exec.specs.Tasks.{assets_in, sids_in}
-use Rattle.pl_exec.specs.Jobs.{IsRead, IsTurn, IsKept, IsOut, task_at, node_at}
+use Rattle.pl_exec.specs.ChunkInputs.{IsRead, IsTermSession, IsKept, IsRowOfTerm, task_at, node_at}
 
--- ---- the rows of a turn
+-- ---- the rows of a term on a session
 
-module _ (t : Turn) (is : IsTurn t) where
+module _ (t : TermSession) (is : IsTermSession t) where
   abbrev w : World
   w = (task_at t).world
 
@@ -47,14 +47,14 @@ module _ (t : Turn) (is : IsTurn t) where
   n = node_at t
 
   pub node_is : IsNode p t.term.0 n
-  node_is = record { checked = is.job.task.checked; node = is.node }
+  node_is = record { checked = is.chunk.task.checked; node = is.node }
 
   pub sids_long : length sids ≡ assets_in (task_at t)
   sids_long = length-map (task_at t).cols (sid_at w.assets)
 
   -- the input of a downsampled term, and its cells of the first session of the period
   pub start_input : is_downsampled n.kind ≡ true → (u : ℕ) × (slice_get n.inputs 0 ≡ Some (TermInput u))
-  start_input e = let o = over p is.job.task.checked t.term.0 n is.node e in (o.input, o.first)
+  start_input e = let o = over p is.chunk.task.checked t.term.0 n is.node e in (o.input, o.first)
 
   pub start_given : (f : Frequency) (u r : ℕ) (row : List ℤ) → n.kind ≡ Downsample f → slice_get n.inputs 0 ≡ Some (TermInput u) → pos r ≡ period_start f w.days (pos t.session)
       → Fills (λ i. cell_of w p sids u i r) (assets_in (task_at t)) row
@@ -69,22 +69,22 @@ module _ (t : Turn) (is : IsTurn t) where
 
   -- the label of a place is that of its column
   pub label_here : (i : ℕ) (name : List ℕ) (day : ℤ) → i < assets_in (task_at t) → slice_get w.days t.session ≡ Some day
-      → label_at w name (sid_in sids i) (pos t.session) ≡ label_on t.job.now.world.labels.now.rows name (get_or t.job.now.cols.now i 0) day
+      → label_at w name (sid_in sids i) (pos t.session) ≡ label_on t.chunk.now.world.labels.now.rows name (get_or t.chunk.now.cols.now i 0) day
   label_here i name day asset dated =
-      let parts = is.job.made.parts in
-      ap (λ a. label_at w name a (pos t.session)) (sid_of_place t.job.now.world.assets.now t.job.now.cols.now i asset)
-      ∙ labels_those t.job.now.world.sessions.now t.job.now.world.assets.now t.job.now.world.labels.now.rows t.job.now.world.labels.now.texts t.job.now.world.bars.now t.job.now.world.adjustments.now t.job.now.world.numbers.now.rows
-      parts.sids_ascend parts.labels_in name (get_or t.job.now.cols.now i 0) (pos t.session) (is.job.task.columns.within i 0 asset)
-      ∙ ap (option_and_then (label_on t.job.now.world.labels.now.rows name (get_or t.job.now.cols.now i 0))) dated
+      let parts = is.chunk.made.parts in
+      ap (λ a. label_at w name a (pos t.session)) (sid_of_place t.chunk.now.world.assets.now t.chunk.now.cols.now i asset)
+      ∙ labels_those t.chunk.now.world.sessions.now t.chunk.now.world.assets.now t.chunk.now.world.labels.now.rows t.chunk.now.world.labels.now.texts t.chunk.now.world.bars.now t.chunk.now.world.adjustments.now t.chunk.now.world.numbers.now.rows
+      parts.sids_ascend parts.labels_in name (get_or t.chunk.now.cols.now i 0) (pos t.session) (is.chunk.task.columns.within i 0 asset)
+      ∙ ap (option_and_then (label_on t.chunk.now.world.labels.now.rows name (get_or t.chunk.now.cols.now i 0))) dated
 
   -- so is the number
   pub number_here : (i : ℕ) (name : List ℕ) (day : ℤ) → i < assets_in (task_at t) → slice_get w.days t.session ≡ Some day
-      → known_number w name (sid_in sids i) (pos t.session) ≡ number_on t.job.now.world.numbers.now.rows name (get_or t.job.now.cols.now i 0) day
+      → known_number w name (sid_in sids i) (pos t.session) ≡ number_on t.chunk.now.world.numbers.now.rows name (get_or t.chunk.now.cols.now i 0) day
   number_here i name day asset dated =
-      let parts = is.job.made.parts in
-      ap (λ a. known_number w name a (pos t.session)) (sid_of_place t.job.now.world.assets.now t.job.now.cols.now i asset)
-      ∙ ap (λ o. unwrap_or (option_map (number_at w.numbers name (sid_at w.assets (get_or t.job.now.cols.now i 0))) o) MISSING) dated
-      ∙ numbers_those t.job.now.world.assets.now t.job.now.world.numbers.now.rows parts.sids_ascend parts.numbers_in name (get_or t.job.now.cols.now i 0) day (is.job.task.columns.within i 0 asset)
+      let parts = is.chunk.made.parts in
+      ap (λ a. known_number w name a (pos t.session)) (sid_of_place t.chunk.now.world.assets.now t.chunk.now.cols.now i asset)
+      ∙ ap (λ o. unwrap_or (option_map (number_at w.numbers name (sid_at w.assets (get_or t.chunk.now.cols.now i 0))) o) MISSING) dated
+      ∙ numbers_those t.chunk.now.world.assets.now t.chunk.now.world.numbers.now.rows parts.sids_ascend parts.numbers_in name (get_or t.chunk.now.cols.now i 0) day (is.chunk.task.columns.within i 0 asset)
 
   -- ---- rows of inputs
 
@@ -94,7 +94,7 @@ module _ (t : Turn) (is : IsTurn t) where
   -- what is computed for all assets, and then put away where they are not kept
   pub kept_out : (keep made out : List ℤ) → IsKept t keep → ((i : ℕ) → i < assets_in (task_at t) → IsGivenCell w p sids t.term.0 n i t.session (get_or made i (pos 0)))
       → length out ≡ assets_in (task_at t)
-      → ((i : ℕ) → i < assets_in (task_at t) → get_or out i (pos 0) ≡ kept_or t.none keep (λ j. get_or made j (pos 0)) i) → IsOut t out
+      → ((i : ℕ) → i < assets_in (task_at t) → get_or out i (pos 0) ≡ kept_or t.none keep (λ j. get_or made j (pos 0)) i) → IsRowOfTerm t out
   kept_out keep made out kept given size picked =
       kept-cells w p sids t.term.0 n (λ i. i) (λ i. t.session) (assets_in (task_at t)) (λ i. get_or made i (pos 0)) out t.none is.none
       (λ i h. picked i h ∙ ap (λ b. chosen b (get_or made i (pos 0)) t.none) (kept.each i h)) size given
@@ -105,9 +105,9 @@ module _ (t : Turn) (is : IsTurn t) where
   section_is values keep labels read kept grouped e = record {
     node = node_is;
     kind = e;
-    texts = is.job.task.texts;
+    texts = is.chunk.task.texts;
     long = sids_long;
-    ascend = is.job.task.up;
+    ascend = is.chunk.task.up;
     all = is.all;
     values = read;
     keep = kept;

@@ -11,9 +11,9 @@ use Rattle.pl_cross.specs.Arrays.{sid_in}
 use Rattle.pl_values.specs.Arrays.{Holds, Fills, IsKeep, is_kept, kept_or, cell_of, empty_cell}
 use Rattle.pl_workspace.specs.Slots.{Slots}
 use Rattle.pl_exec.specs.Tasks.{Task, graph_in, assets_in, cell_in, count_in, low_in}
-use Rattle.pl_exec.specs.declared.job.Array.{Array}
-use Rattle.pl_exec.specs.declared.turn.Turn.{Turn}
-use Rattle.pl_exec.specs.Jobs.{IsArrayOf, IsJob, IsRead, IsReady, IsRun, IsTurn, node_at, task_at}
+use Rattle.pl_exec.specs.declared.chunk_inputs.Array.{Array}
+use Rattle.pl_exec.specs.declared.term_session.TermSession.{TermSession}
+use Rattle.pl_exec.specs.ChunkInputs.{IsArrayOf, AreChunkInputs, IsRead, IsReady, IsRun, IsTermSession, node_at, task_at}
 use Rattle.pl_exec.proofs.Places.{both_told}
 
 pub read_less : (t : Task) (w : Slots) (s size u : ℕ) → IsRead t w s size u → IsRead t w s 1 u
@@ -31,15 +31,15 @@ later_ready t w low s n up h r = record {
     later : (size u : ℕ) → IsRead t w low size u → IsRead t w s size u
     later size u x = record { known = x.known; used = x.used; held = x.held; some = x.some; early = (let y = x.early in omega arith) }
 
-pub turn_is : (t : Turn) → IsJob t.job.now → IsRun (task_at t) t.workspace.now t.term.0 → slice_get (graph_in (task_at t)) t.term.0 ≡ Some (node_at t) → low_in (task_at t) t.term.0 ≤ t.session → t.session ≤ t.job.now.to
-    → t.none ≡ empty_cell (task_at t).pipeline t.term.0 → IsTurn t
-turn_is t job run node low late none = record {
-  job = job;
+pub term_session_is : (t : TermSession) → AreChunkInputs t.chunk.now → IsRun (task_at t) t.workspace.now t.term.0 → slice_get (graph_in (task_at t)) t.term.0 ≡ Some (node_at t) → low_in (task_at t) t.term.0 ≤ t.session → t.session ≤ t.chunk.now.to
+    → t.none ≡ empty_cell (task_at t).pipeline t.term.0 → IsTermSession t
+term_session_is t chunk run node low late none = record {
+  chunk = chunk;
   node = node;
-  ready = later_ready (task_at t) t.workspace.now _ t.session (node_at t) job.task.days low (run.ready (node_at t) node);
+  ready = later_ready (task_at t) t.workspace.now _ t.session (node_at t) chunk.task.days low (run.ready (node_at t) node);
   late = late;
   deep = (let d = run.deep (node_at t) node in omega arith);
-  all = job.task.columns.all t.term.0 t.session run.used low late;
+  all = chunk.task.columns.all t.term.0 t.session run.used low late;
   none = none;
 }
 

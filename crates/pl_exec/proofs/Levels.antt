@@ -18,12 +18,12 @@ use Rattle.pl_values.proofs.Typed.{fit-at, no_column, no-takes, points-free, cro
 use Rattle.pl_planner.specs.Plans.{column_slot}
 use Rattle.pl_planner.proofs.Pipelines.{is-pipeline}
 use Rattle.pl_workspace.specs.Slots.{Slots, Free, Begun, Live, slot_at, with_slot, live_count}
-use Rattle.pl_exec.specs.declared.job.Job.{Job}
+use Rattle.pl_exec.specs.declared.chunk_inputs.ChunkInputs.{ChunkInputs}
 use Rattle.pl_exec.specs.declared.compute.Filled.{Filled}
 use Rattle.pl_exec.specs.declared.compute.Term.{Term}
 use Rattle.pl_exec.specs.Filling.{HaveRows, IsFilled, new_from, node_for, task_for}
 use Rattle.pl_exec.specs.Tasks.{Task, assets_in, columns_of, columns_of_term, first_row, graph_in, row_count, sids_in, term_steps}
-use Rattle.pl_exec.specs.Jobs.{AreFree, HasRows, IsColumnRun, IsJob, IsRun, columns_before, new_before, new_column, one_new, task_of, unless}
+use Rattle.pl_exec.specs.ChunkInputs.{AreFree, HasRows, IsColumnRun, AreChunkInputs, IsRun, columns_before, new_before, new_column, one_new, task_of, unless}
 use Rattle.pl_exec.proofs.Mentions.{run_still, free_still, asked}
 use Rattle.pl_exec.proofs.NewColumns.{columns_few, columns_count, columns_sum, part}
 use Rattle.pl_exec.proofs.Trips.{now_used, now_peak, there, long, trip_slots, trip_peak}
@@ -49,8 +49,8 @@ from_none n p e = let s = before_next n p in omega (arith, s, e)
 pub from_one : (n : spec.Node) (p : ℕ) → p < 3 → one_new (new_column n p) ≡ 1 → new_from n p ≡ 1 + new_from n (p + 1)
 from_one n p h e = let s = before_next n p in let a = before_all n p h in omega (arith, s, a, e)
 
-pub columns_are : (j : Job) → IsJob j → (k : ℕ) (n : spec.Node) → slice_get (graph_in (task_of j)) k ≡ Some n → columns_at (graph_in (task_of j)) k ≡ new_before n 3
-columns_are j job k n node = let c = columns_count (graph_in (task_of j)) k n node (job.task.checked.graph.few k n node) in omega (arith, c)
+pub columns_are : (j : ChunkInputs) → AreChunkInputs j → (k : ℕ) (n : spec.Node) → slice_get (graph_in (task_of j)) k ≡ Some n → columns_at (graph_in (task_of j)) k ≡ new_before n 3
+columns_are j chunk k n node = let c = columns_count (graph_in (task_of j)) k n node (chunk.task.checked.graph.few k n node) in omega (arith, c)
 
 -- ---- the cells of one place more
 
@@ -80,15 +80,15 @@ module _ (t : Term) (p : ℕ) (a b c d : List ℤ) (rows : HaveRows t p a b c) w
 
 -- ---- the slot of the new column of a place
 
-module _ (j : Job) (w : Slots) (k : ℕ) (n : spec.Node) (run : IsColumnRun j w k n) (p : ℕ) (place : p < 3) (one : one_new (new_column n p) ≡ 1) where
+module _ (j : ChunkInputs) (w : Slots) (k : ℕ) (n : spec.Node) (run : IsColumnRun j w k n) (p : ℕ) (place : p < 3) (one : one_new (new_column n p) ≡ 1) where
   abbrev i : ℕ
   i = new_before n p
 
   few : columns_at (graph_in (task_of j)) k ≤ 3
-  few = columns_few (graph_in (task_of j)) k n run.node (run.job.task.checked.graph.few k n run.node)
+  few = columns_few (graph_in (task_of j)) k n run.node (run.chunk.task.checked.graph.few k n run.node)
 
   below : i < columns_at (graph_in (task_of j)) k
-  below = let c = columns_are j run.job k n run.node in let a = before_all n p place in omega (arith, c, a, one)
+  below = let c = columns_are j run.chunk k n run.node in let a = before_all n p place in omega (arith, c, a, one)
 
   pub below_three : i < 3
   below_three = let a = below in let b = few in omega (arith, a, b)
@@ -102,12 +102,12 @@ module _ (j : Job) (w : Slots) (k : ℕ) (n : spec.Node) (run : IsColumnRun j w 
 
     module _ (w1 : Slots) (begun : w1 ≡ with_slot w s Begun) where
       pub run_next : IsColumnRun j w1 k n
-      run_next = record { job = run.job; run = run_still (task_of j) run.job.task w w1 k s run.run slot_free begun; node = run.node; kind = run.kind; some = run.some; deep = run.deep }
+      run_next = record { chunk = run.chunk; run = run_still (task_of j) run.chunk.task w w1 k s run.run slot_free begun; node = run.node; kind = run.kind; some = run.some; deep = run.deep }
 
       pub free_next : AreFree (task_of j) w1 k (new_before n (p + 1))
       free_next =
           let e : i + 1 ≡ new_before n (p + 1) = (let b = before_next n p in omega (arith, b, one)) in
-          subst (AreFree (task_of j) w1 k) e (free_still (task_of j) run.job.task w w1 k i run.run.used few below free (begun ∙ ap (λ x. with_slot w x Begun) slot))
+          subst (AreFree (task_of j) w1 k) e (free_still (task_of j) run.chunk.task w w1 k i run.run.used few below free (begun ∙ ap (λ x. with_slot w x Begun) slot))
 
       live_next : live_count w1.slots ≡ live_count w.slots + 1
       live_next = let u = now_used w w1 s Begun Free begun slot_free slot_in in omega arith
@@ -156,11 +156,11 @@ kinds_free (kind.Point f) = inr (points-free f)
 kinds_free (kind.Cross f) = inr (crosses-free f)
 kinds_free k = inr refl
 
-module _ (j : Job) (job : IsJob j) (k : ℕ) (n : spec.Node) (node : slice_get (graph_in (task_of j)) k ≡ Some n) where
+module _ (j : ChunkInputs) (chunk : AreChunkInputs j) (k : ℕ) (n : spec.Node) (node : slice_get (graph_in (task_of j)) k ≡ Some n) where
   bar_windowed : (p : ℕ) (c : Column) → slice_get n.inputs p ≡ Some (BarColumn c) → is_windowed n.kind ≡ true
   bar_windowed p c e = elim (kinds_free n.kind) [
     | inl w ↦ w
-    | inr f ↦ (let x = fit-at (graph_in (task_of j)) (places n.kind) n.inputs p (BarColumn c) (job.task.checked.nodes k n node).inputs e in absurd
+    | inr f ↦ (let x = fit-at (graph_in (task_of j)) (places n.kind) n.inputs p (BarColumn c) (chunk.task.checked.nodes k n node).inputs e in absurd
         (no-takes x.0 c (all-at no_column (places n.kind) p x.0 f x.1) x.2))
   ]
 
@@ -189,16 +189,16 @@ module _ (j : Job) (job : IsJob j) (k : ℕ) (n : spec.Node) (node : slice_get (
   column_run w run h =
       let b = has_bar h in
       record {
-        job = job;
+        chunk = chunk;
         run = run;
         node = node;
         kind = bar_windowed b.0 b.1 b.2;
-        some = ((is-pipeline (task_of j).pipeline job.task.checked).windows k n node).0;
-        deep = (let d = job.task.plan.lows.bars k j.from n (asked (task_of j) job.task k run.used) node b in let r = job.task.plan.early in omega (arith, ints, d, r));
+        some = ((is-pipeline (task_of j).pipeline chunk.task.checked).windows k n node).0;
+        deep = (let d = chunk.task.plan.lows.bars k j.from n (asked (task_of j) chunk.task k run.used) node b in let r = chunk.task.plan.early in omega (arith, ints, d, r));
       }
 
   pub count_is : columns_at (graph_in (task_of j)) k ≡ new_before n 3
-  count_is = columns_are j job k n node
+  count_is = columns_are j chunk k n node
 
   none_part : (f : Column → ℕ) (o : Option Column) → one_new o ≡ 0 → part f o ≡ 0
   none_part f None e = refl
@@ -208,7 +208,7 @@ module _ (j : Job) (job : IsJob j) (k : ℕ) (n : spec.Node) (node : slice_get (
   unfolding term_steps
   no_steps e =
       let f : Column → ℕ = λ c. applied_steps (task_of j).world c (first_row (task_of j) k) (row_count (task_of j) k) (sids_in (task_of j)) in
-      let s = columns_sum n (λ c. applied_steps (task_of j).world c (first_row (task_of j) k) (row_count (task_of j) k) (sids_in (task_of j))) (job.task.checked.graph.few k n node) in
+      let s = columns_sum n (λ c. applied_steps (task_of j).world c (first_row (task_of j) k) (row_count (task_of j) k) (sids_in (task_of j))) (chunk.task.checked.graph.few k n node) in
       let t : sum_by (λ c. applied_steps (task_of j).world c (first_row (task_of j) k) (row_count (task_of j) k) (sids_in (task_of j))) (columns_of_term (graph_in (task_of j)) k) ≡ sum_by (λ c. applied_steps (task_of j).world c (first_row (task_of j) k) (row_count (task_of j) k) (sids_in (task_of j))) (columns_of n) = rw node refl in
       let a = none_part (λ c. applied_steps (task_of j).world c (first_row (task_of j) k) (row_count (task_of j) k) (sids_in (task_of j))) (new_column n 0) (omega arith) in
       let b = none_part (λ c. applied_steps (task_of j).world c (first_row (task_of j) k) (row_count (task_of j) k) (sids_in (task_of j))) (new_column n 1) (omega arith) in

@@ -13,7 +13,7 @@ use Rattle.pl_values.specs.Arrays.{is_kept}
 use Rattle.pl_world.proofs.Lifetimes.{exists-at}
 use Rattle.pl_exec.specs.declared.course.Course.{Course}
 use Rattle.pl_exec.specs.Tasks.{assets_in, sids_in}
-use Rattle.pl_exec.specs.Jobs.{IsCourse, IsMaskLent, node_in, task_in}
+use Rattle.pl_exec.specs.ChunkInputs.{IsCourse, IsMaskLent, node_in, task_in}
 use Rattle.pl_exec.proofs.Courses.{unmasked}
 use Rattle.pl_exec.proofs.Places.{sid_of_place}
 
@@ -51,13 +51,13 @@ pub kept_throughout : (c : Course) → IsCourse c → (i : ℕ) → i < assets_i
     → (j : ℕ) → j < c.count → is_kept (task_in c).world (task_in c).pipeline (sids_in (task_in c)) (node_in c).mask i (c.low + j) ≡ true
 kept_throughout c is i asset lent first last j h =
     let w = (task_in c).world in
-    let parts = is.job.made.parts in
-    let sid = sid_of_place c.job.now.world.assets.now c.job.now.cols.now i asset in
-    let plan = is.job.task.plan.within in
-    let to = is.job.task.to in
+    let parts = is.chunk.made.parts in
+    let sid = sid_of_place c.chunk.now.world.assets.now c.chunk.now.cols.now i asset in
+    let plan = is.chunk.task.plan.within in
+    let to = is.chunk.task.to in
     let end = is.end in
     ap (λ m. is_kept w (task_in c).pipeline (sids_in (task_in c)) m i (c.low + j)) (unmasked (task_in c) (node_in c).mask lent)
     ∙ ap (λ a. exists w a (pos (c.low + j))) sid
-    ∙ lives_between w parts.sids_ascend parts.days_ascend (get_or c.job.now.cols.now i 0) (is.job.task.columns.within i 0 asset) (c.low + 0) (c.low + j) (c.low + (c.count - 1))
+    ∙ lives_between w parts.sids_ascend parts.days_ascend (get_or c.chunk.now.cols.now i 0) (is.chunk.task.columns.within i 0 asset) (c.low + 0) (c.low + j) (c.low + (c.count - 1))
     (omega arith) (omega (arith, h)) (omega (arith, plan, to, end, h))
     (sym (ap (λ a. exists w a (pos (c.low + 0))) sid) ∙ first) (sym (ap (λ a. exists w a (pos (c.low + (c.count - 1)))) sid) ∙ last)

@@ -28,7 +28,7 @@ use Rattle.pl_values.proofs.Formulas.{first-place}
 use Rattle.pl_workspace.specs.Slots.{Slots, Free, Begun, slot_at, with_slot}
 use Rattle.pl_exec.specs.Slotted.{AreApart, AreLive, ends_at}
 use Rattle.pl_exec.specs.Tasks.{Task, IsArray, graph_in, kept_in, low_in}
-use Rattle.pl_exec.specs.Jobs.{AreFree, IsRead, IsReady, IsRun, IsTask}
+use Rattle.pl_exec.specs.ChunkInputs.{AreFree, IsRead, IsReady, IsRun, IsTask}
 use Rattle.pl_exec.proofs.Listed.{used_within}
 use Rattle.pl_exec.proofs.Trips.{still_free, still_held, long}
 

@@ -13,7 +13,7 @@ use Rattle.pl_pipeline.specs.Graph.{contains, columns_at, input_column}
 use Rattle.pl_pipeline.specs.Term as spec
 use Rattle.pl_pipeline.specs.Term.Input.{BarColumn, TermInput}
 use Rattle.pl_exec.specs.Tasks.{columns_of}
-use Rattle.pl_exec.specs.Jobs.{columns_before, new_column, one_new, place_among, unless}
+use Rattle.pl_exec.specs.ChunkInputs.{columns_before, new_column, one_new, place_among, unless}
 use Rattle.pl_exec.proofs.Listed.{sum_filter}
 use Rattle.pl_exec.proofs.Places.{IsFirst, first_place, new_first}
 

@@ -9,7 +9,7 @@ use Rattle.pl_pipeline.specs.Graph.{contains, input_column}
 use Rattle.pl_pipeline.specs.Term as spec
 use Rattle.pl_terms.specs.declared.node.Input.{Input}
 use Rattle.pl_terms.specs.Nodes.{input_of}
-use Rattle.pl_exec.specs.Jobs.{is_column, place_among, new_column}
+use Rattle.pl_exec.specs.ChunkInputs.{is_column, place_among, new_column}
 use Rattle.pl_spec.proofs.Columns.{column_number-one}
 use Rattle.std.proofs.lemmas.Bool.{true≢false, eqb-true, eq-eqb}
 use Rattle.pl_lifetimes.specs.Assets.{sid_of}

@@ -14,7 +14,7 @@ use Rattle.pl_workspace.specs.Slots.{Slots, Free, Live, live_count, with_slot}
 use Rattle.pl_workspace.proofs.Tables.{within}
 use Rattle.pl_exec.specs.Slotted.{AreLive, AreApart, ends_at, left}
 use Rattle.pl_exec.specs.Tasks.{Task, IsArray, graph_in, held_in, kept_in}
-use Rattle.pl_exec.specs.Jobs.{IsTask}
+use Rattle.pl_exec.specs.ChunkInputs.{IsTask}
 use Rattle.pl_exec.proofs.Living.{one_less, live_below, left_same, left_was, left_is, left_else, left_kept}
 use Rattle.pl_exec.proofs.Mentions.{own_kept}
 use Rattle.pl_exec.proofs.NewColumns.{columns_few}

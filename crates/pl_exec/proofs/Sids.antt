@@ -11,7 +11,7 @@ use Rattle.pl_planner.specs.Plans.{is_used, last_user, is_read_by, slot_of}
 use Rattle.pl_workspace.specs.Slots.{Slots}
 use Rattle.pl_exec.specs.Slotted.{AreLive}
 use Rattle.pl_exec.specs.Tasks.{Task, HoldsOutputs, IsArray, chunk_steps, graph_in, held_in, kept_in, steps_in, term_steps}
-use Rattle.pl_exec.specs.Jobs.{IsTask}
+use Rattle.pl_exec.specs.ChunkInputs.{IsTask}
 use Rattle.pl_exec.proofs.ArrayLists.{array_is}
 use Rattle.pl_exec.proofs.Living.{live_below}
 use Rattle.pl_exec.proofs.Mentions.{live_at_last, output_known}

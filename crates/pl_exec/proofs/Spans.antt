@@ -8,7 +8,7 @@ use Rattle.pl_spec.specs.Window.{downward}
 use Rattle.pl_spec.proofs.Windows.{length-downward}
 use Rattle.pl_spec.proofs.Places.{row-within}
 use Rattle.pl_values.specs.Arrays.{Holds, Fills, IsRow, window_up_to}
-use Rattle.pl_exec.specs.Jobs.{IsWritten}
+use Rattle.pl_exec.specs.ChunkInputs.{IsWritten}
 
 pub at_downward : {X : Type 0} (f : ℕ → X) (size j : ℕ) (d : X) → j < size → get_or (map f (downward size)) j d ≡ f (size - 1 - j)
 at_downward f zero j d h = absurd (omega arith)

@@ -10,10 +10,10 @@ use Rattle.pl_spec.specs.Limits.{cut}
 use Rattle.pl_adjarray.specs.Buffered.{Buffered, applied_at, row_count as applied_row}
 use Rattle.pl_adjarray.specs.Traversals.{Traversal, advances}
 use Rattle.pl_adjarray.proofs.Worlds.{whole_counts}
-use Rattle.pl_exec.specs.declared.job.Job.{Job}
+use Rattle.pl_exec.specs.declared.chunk_inputs.ChunkInputs.{ChunkInputs}
 use Rattle.pl_exec.specs.declared.windows.Bars.{Bars}
 use Rattle.pl_exec.specs.Tasks.{first_row, row_count, count_in, graph_in, low_in, sids_in, term_steps, columns_of, columns_of_term, window_of_term}
-use Rattle.pl_exec.specs.Jobs.{AreBars, AreMoved, GoOn, GoesOn, HasBarsAt, HasBegun, HaveBegun, IsColumnRun, advanced, buffer_at, buffer_for, buffered, counted, new_column, one_col, passed, stand_at, steps_at, steps_of, task_of, traversal_at}
+use Rattle.pl_exec.specs.ChunkInputs.{AreBars, AreMoved, GoOn, GoesOn, HasBarsAt, HasBegun, HaveBegun, IsColumnRun, advanced, buffer_at, buffer_for, buffered, counted, new_column, one_col, passed, stand_at, steps_at, steps_of, task_of, traversal_at}
 use Rattle.pl_workspace.specs.Slots.{Slots}
 use Rattle.pl_exec.proofs.NewColumns.{part, columns_sum}
 
@@ -24,7 +24,7 @@ stand_advances : (b : Buffered) (size m : ℕ) → 1 ≤ size → advances (reco
 stand_advances b size zero h = rw (eq-eqb b.first b.first refl) refl
 stand_advances b size (suc i) h = let e = not_first b.first (b.first + size + i) (omega arith) in rw e (let r : b.first + size + i + 1 - (b.first + size) ≡ suc i = omega arith in r)
 
-module _ (j : Job) (w : Slots) (k : ℕ) (n : spec.Node) (run : IsColumnRun j w k n) (cols : List ℕ) where
+module _ (j : ChunkInputs) (w : Slots) (k : ℕ) (n : spec.Node) (run : IsColumnRun j w k n) (cols : List ℕ) where
   window_is : window_of_term (graph_in (task_of j)) k ≡ n.window
   window_is = rw run.node refl
 
@@ -38,8 +38,8 @@ module _ (j : Job) (w : Slots) (k : ℕ) (n : spec.Node) (run : IsColumnRun j w 
 
   some_count : 1 ≤ count_in (task_of j) k
   some_count =
-      let l = (run.job.task.plan.lows.few k j.from (run.run.used, (run.job.task.from, (let a = run.job.task.order in let b = run.job.task.to in omega arith)))).0 in
-      let o = run.job.task.order in omega arith
+      let l = (run.chunk.task.plan.lows.few k j.from (run.run.used, (run.chunk.task.from, (let a = run.chunk.task.order in let b = run.chunk.task.to in omega arith)))).0 in
+      let o = run.chunk.task.order in omega arith
 
   stands_on : (p m : ℕ) → m < count_in (task_of j) k → (v : Traversal) → v ≡ traversal_at j k n cols p m → GoesOn v
   stands_on p m h v e =
@@ -109,12 +109,12 @@ sum_more f xs i h =
     let o : sum_by f (get_or xs i 0 ∷ []) ≡ f (get_or xs i 0) = omega arith in
     omega (arith, e, a, o)
 
-part_more : (j : Job) (k i d : ℕ) → i < length j.cols.now → (o : Option Column)
+part_more : (j : ChunkInputs) (k i d : ℕ) → i < length j.cols.now → (o : Option Column)
     → applied_at (buffer_for j k (take (i + 1) j.cols.now) o) d ≡ applied_at (buffer_for j k (take i j.cols.now) o) d + applied_at (buffer_for j k (one_col j i) o) d
 part_more j k i d h None = refl
 part_more j k i d h (Some c) = sum_more (applied_row (buffered j k c []) d) j.cols.now i h
 
-pub steps_more : (j : Job) (k : ℕ) (n : spec.Node) (i : ℕ) → i < length j.cols.now
+pub steps_more : (j : ChunkInputs) (k : ℕ) (n : spec.Node) (i : ℕ) → i < length j.cols.now
     → steps_of j k n (take (i + 1) j.cols.now) ≡ steps_of j k n (take i j.cols.now) + steps_of j k n (one_col j i)
 steps_more j k n i h =
     let a = part_more j k i (first_row (task_of j) k + row_count (task_of j) k) h (new_column n 0) in
@@ -122,25 +122,25 @@ steps_more j k n i h =
     let c = part_more j k i (first_row (task_of j) k + row_count (task_of j) k) h (new_column n 2) in
     omega (arith, a, b, c)
 
-part_none : (j : Job) (k d : ℕ) (o : Option Column) → applied_at (buffer_for j k [] o) d ≡ 0
+part_none : (j : ChunkInputs) (k d : ℕ) (o : Option Column) → applied_at (buffer_for j k [] o) d ≡ 0
 part_none j k d None = refl
 part_none j k d (Some c) = refl
 
-pub steps_none : (j : Job) (k : ℕ) (n : spec.Node) → steps_of j k n [] ≡ 0
+pub steps_none : (j : ChunkInputs) (k : ℕ) (n : spec.Node) → steps_of j k n [] ≡ 0
 steps_none j k n =
     let a = part_none j k (first_row (task_of j) k + row_count (task_of j) k) (new_column n 0) in
     let b = part_none j k (first_row (task_of j) k + row_count (task_of j) k) (new_column n 1) in
     let c = part_none j k (first_row (task_of j) k + row_count (task_of j) k) (new_column n 2) in
     omega (arith, a, b, c)
 
-module _ (j : Job) (w : Slots) (k : ℕ) (n : spec.Node) (run : IsColumnRun j w k n) where
+module _ (j : ChunkInputs) (w : Slots) (k : ℕ) (n : spec.Node) (run : IsColumnRun j w k n) where
   abbrev column_steps : Column → ℕ
   column_steps c = applied_steps (task_of j).world c (first_row (task_of j) k) (row_count (task_of j) k) (sids_in (task_of j))
 
   part_counted : (o : Option Column) → applied_at (buffer_for j k j.cols.now o) (first_row (task_of j) k + row_count (task_of j) k) ≡ part column_steps o
   part_counted None = refl
   part_counted (Some c) =
-      whole_counts (buffered j k c j.cols.now) j.world.assets.now j.world.labels.now.rows j.world.labels.now.texts j.world.numbers.now.rows run.job.made.parts run.job.task.columns.within
+      whole_counts (buffered j k c j.cols.now) j.world.assets.now j.world.labels.now.rows j.world.labels.now.texts j.world.numbers.now.rows run.chunk.made.parts run.chunk.task.columns.within
 
   pub steps_all : steps_of j k n j.cols.now ≡ term_steps (task_of j) k
   unfolding term_steps
@@ -148,7 +148,7 @@ module _ (j : Job) (w : Slots) (k : ℕ) (n : spec.Node) (run : IsColumnRun j w 
       let a = part_counted (new_column n 0) in
       let c = part_counted (new_column n 1) in
       let d = part_counted (new_column n 2) in
-      let few = run.job.task.checked.graph.few k n run.node in
+      let few = run.chunk.task.checked.graph.few k n run.node in
       let s = columns_sum n column_steps few in
       let t : sum_by column_steps (columns_of_term (graph_in (task_of j)) k) ≡ sum_by column_steps (columns_of n) = rw run.node refl in
       omega (arith, a, c, d, s, t)

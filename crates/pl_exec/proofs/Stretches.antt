@@ -21,11 +21,11 @@ use Rattle.pl_values.specs.Laws.{IsGiven}
 use Rattle.pl_values.proofs.Given.{window-cell}
 use Rattle.pl_values.proofs.KindFamilies.{window_kind}
 use Rattle.pl_exec.specs.declared.course.Course.{Course}
-use Rattle.pl_exec.specs.declared.turn.Turn.{Turn}
-use Rattle.pl_exec.specs.declared.job.Array.{Array}
+use Rattle.pl_exec.specs.declared.term_session.TermSession.{TermSession}
+use Rattle.pl_exec.specs.declared.chunk_inputs.Array.{Array}
 use Rattle.pl_exec.specs.Tasks.{assets_in, cell_in, sids_in}
-use Rattle.pl_exec.specs.Jobs.{IsCourse, IsGivenOn, FillsLane, IsReach, IsTermLent, IsTurn, node_at, node_in, task_at, task_in, turn_in}
-use Rattle.pl_exec.proofs.Courses.{course_turn}
+use Rattle.pl_exec.specs.ChunkInputs.{IsCourse, IsGivenOn, FillsLane, IsReach, IsTermLent, IsTermSession, node_at, node_in, task_at, task_in, session_in}
+use Rattle.pl_exec.proofs.Courses.{course_session}
 use Rattle.pl_values.proofs.Rows.{kept-cells}
 use Rattle.pl_exec.proofs.Givens.{node_is}
 use Rattle.pl_exec.proofs.Held.{held}
@@ -49,7 +49,7 @@ up_to_at f size more s m h =
     ∙ ap f at
     ∙ sym (at_downward (λ n. f (s + m - n)) size k (pos 0) inside))
 
-module _ (t : Turn) (is : IsTurn t) (i u : ℕ) (a : Array) (lent : IsTermLent t u a) (asset : i < assets_in (task_at t)) (more size : ℕ) (same : size ≡ (node_at t).window + more) (late : t.session + more ≤ t.job.now.to) where
+module _ (t : TermSession) (is : IsTermSession t) (i u : ℕ) (a : Array) (lent : IsTermLent t u a) (asset : i < assets_in (task_at t)) (more size : ℕ) (same : size ≡ (node_at t).window + more) (late : t.session + more ≤ t.chunk.now.to) where
   own : Holds (cell_in (task_at t) u) (assets_in (task_at t)) a.low a.count a.cells.now
   own = held (task_at t) u a lent.array
 
@@ -87,7 +87,7 @@ module _ (t : Turn) (is : IsTurn t) (i u : ℕ) (a : Array) (lent : IsTermLent t
 formula_windowed : (k : Kind) (a b c : List ℤ) → is_windowed k ≡ true → formula_of k a b c ≡ windowed k a b c
 formula_windowed k a b c e = let f = window_kind k e in subst (λ q. formula_of q a b c ≡ windowed q a b c) (sym f.1) refl
 
-module _ (t : Turn) (is : IsTurn t) (i : ℕ) (a b c : List ℤ) (kind : is_windowed (node_at t).kind ≡ true)
+module _ (t : TermSession) (is : IsTermSession t) (i : ℕ) (a b c : List ℤ) (kind : is_windowed (node_at t).kind ≡ true)
     (ea : a ≡ input_window (task_at t).world (task_at t).pipeline (sids_in (task_at t)) (node_at t).window (slice_get (node_at t).inputs 0) i t.session)
     (eb : b ≡ input_window (task_at t).world (task_at t).pipeline (sids_in (task_at t)) (node_at t).window (slice_get (node_at t).inputs 1) i t.session)
     (ec : c ≡ input_window (task_at t).world (task_at t).pipeline (sids_in (task_at t)) (node_at t).window (slice_get (node_at t).inputs 2) i t.session)
@@ -107,27 +107,27 @@ module _ (t : Turn) (is : IsTurn t) (i : ℕ) (a b c : List ℤ) (kind : is_wind
 -- ---- on sessions in a row
 
 module _ (c : Course) (is : IsCourse c) (i j n : ℕ) (within : j + n ≤ c.count) (kind : is_windowed (node_in c).kind ≡ true) (a b d : List ℤ)
-    (ra : IsReach (turn_in c j) (slice_get (node_in c).inputs 0) i (n - 1) a) (rb : IsReach (turn_in c j) (slice_get (node_in c).inputs 1) i (n - 1) b) (rd : IsReach (turn_in c j) (slice_get (node_in c).inputs 2) i (n - 1) d)
+    (ra : IsReach (session_in c j) (slice_get (node_in c).inputs 0) i (n - 1) a) (rb : IsReach (session_in c j) (slice_get (node_in c).inputs 1) i (n - 1) b) (rd : IsReach (session_in c j) (slice_get (node_in c).inputs 2) i (n - 1) d)
     (ca : All IsCell a) (cb : All IsCell b) (cd : All IsCell d) where
-  window_on : (o : Option spec.Input) (xs : List ℤ) → IsReach (turn_in c j) o i (n - 1) xs → (m : ℕ) → m < n
+  window_on : (o : Option spec.Input) (xs : List ℤ) → IsReach (session_in c j) o i (n - 1) xs → (m : ℕ) → m < n
       → window_at (node_in c).window m xs ≡ input_window (task_in c).world (task_in c).pipeline (sids_in (task_in c)) (node_in c).window o i (c.low + (j + m))
   window_on o xs r m h =
       let e : c.low + j + m ≡ c.low + (j + m) = omega arith in
       r.windows m (omega (arith, h)) ∙ ap (input_window (task_in c).world (task_in c).pipeline (sids_in (task_in c)) (node_in c).window o i) e
 
-  long_on : (o : Option spec.Input) (xs : List ℤ) → IsReach (turn_in c j) o i (n - 1) xs → 0 < n → 0 < length xs → (node_in c).window + n ≤ length xs + 1
+  long_on : (o : Option spec.Input) (xs : List ℤ) → IsReach (session_in c j) o i (n - 1) xs → 0 < n → 0 < length xs → (node_in c).window + n ≤ length xs + 1
   long_on o xs r some has = let l = r.long has in omega (arith, l, some)
 
   module _ (m : ℕ) (h : m < n) where
     taken_at : TakesWindows (node_in c).kind (window_at (node_in c).window m a) (window_at (node_in c).window m b) (window_at (node_in c).window m d)
     taken_at =
-        takes_windows (turn_in c (j + m)) (course_turn c is (j + m) (omega (arith, h, within))) i _ _ _ kind (window_on _ a ra m h) (window_on _ b rb m h) (window_on _ d rd m h)
+        takes_windows (session_in c (j + m)) (course_session c is (j + m) (omega (arith, h, within))) i _ _ _ kind (window_on _ a ra m h) (window_on _ b rb m h) (window_on _ d rd m h)
         (cells_at (node_in c).window m a ca) (cells_at (node_in c).window m b cb) (cells_at (node_in c).window m d cd)
 
     given_at : IsGiven (task_in c).world (task_in c).pipeline (sids_in (task_in c)) c.term.0 (node_in c) i (c.low + (j + m))
         (formula_of (node_in c).kind (window_at (node_in c).window m a) (window_at (node_in c).window m b) (window_at (node_in c).window m d))
     given_at =
-        formula_given (turn_in c (j + m)) (course_turn c is (j + m) (omega (arith, h, within))) i _ _ _ kind (window_on _ a ra m h) (window_on _ b rb m h) (window_on _ d rd m h)
+        formula_given (session_in c (j + m)) (course_session c is (j + m) (omega (arith, h, within))) i _ _ _ kind (window_on _ a ra m h) (window_on _ b rb m h) (window_on _ d rd m h)
         (cells_at (node_in c).window m a ca) (cells_at (node_in c).window m b cb) (cells_at (node_in c).window m d cd)
 
   pub lanes_taken : 0 < n → TakesLanes (node_in c).kind (node_in c).window n a b d

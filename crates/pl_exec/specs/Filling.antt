@@ -7,10 +7,10 @@ use Rattle.pl_workspace.specs.Slots.{Slots, live_count}
 use Rattle.pl_exec.specs.declared.compute.Filled.{Filled}
 use Rattle.pl_exec.specs.declared.compute.Term.{Term}
 use Rattle.pl_exec.specs.Tasks.{Task, IsArray, term_steps}
-use Rattle.pl_exec.specs.Jobs.{HasRows, new_before, task_of}
+use Rattle.pl_exec.specs.ChunkInputs.{HasRows, new_before, task_of}
 
 abbrev pub task_for : Term → Task
-task_for t = task_of t.job.now
+task_for t = task_of t.chunk.now
 
 abbrev pub node_for : Term → spec.Node
 node_for t = node_of t.node.now

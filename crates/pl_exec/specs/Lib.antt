@@ -1,6 +1,6 @@
 pub mod Chunks
 pub mod Filling
-pub mod Jobs
+pub mod ChunkInputs
 pub mod RowsInside
 pub mod Slotted
 pub mod Tasks

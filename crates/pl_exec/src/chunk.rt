@@ -10,11 +10,11 @@ ghost use Rattle.pl_planner.specs.Plans.{IsPlanOf, is_used, last_user, slot_of};
 ghost use Rattle.pl_workspace.specs.Slots.{Free, live_count, slot_at};
 ghost use Rattle.pl_exec.specs.Slotted.{AreApart, AreLive, ends_at, left};
 ghost use Rattle.pl_exec.specs.Tasks.{AreColumns, HasRoom, HoldsOutputs, IsArray, assets_in, chunk_steps, graph_in, held_in, kept_in, steps_in, term_steps};
-ghost use Rattle.pl_exec.specs.Jobs.{IsJob, task_of};
+ghost use Rattle.pl_exec.specs.ChunkInputs.{AreChunkInputs, task_of};
 ghost use Rattle.pl_exec.specs.Chunks.{task};
 
+use crate::chunk_inputs::ChunkInputs;
 use crate::compute::{Filled, compute};
-use crate::job::Job;
 use crate::rows::Rows;
 use pl_cross::Cross;
 use pl_fixed::Steps;
@@ -51,163 +51,164 @@ fn is_last(last: Option<TermId>, k: usize) -> bool
 }
 
 // Is term k the last one that uses a used term?
-fn ends(job: &Job<'_>, term: TermId, k: usize) -> bool
-    ensures { result ≡ (is_used job.now.plan.now term.0 && ends_at (last_user job.now.plan.now term.0) k) }
+fn ends(chunk: &ChunkInputs<'_>, term: TermId, k: usize) -> bool
+    ensures { result ≡ (is_used chunk.now.plan.now term.0
+        && ends_at (last_user chunk.now.plan.now term.0) k) }
 {
-    if job.plan.is_used(term) {
-        is_last(job.plan.last_user(term), k)
+    if chunk.plan.is_used(term) {
+        is_last(chunk.plan.last_user(term), k)
     } else {
         false
     }
 }
 
 // Term t is released where it ends with term k.
-fn release_one(job: &Job<'_>, t: usize, k: usize, workspace: &mut Workspace)
-    requires job { IsJob job.now }
-    requires term { k < length (graph_in (task_of job.now)) }
+fn release_one(chunk: &ChunkInputs<'_>, t: usize, k: usize, workspace: &mut Workspace)
+    requires chunk { AreChunkInputs chunk.now }
+    requires term { k < length (graph_in (task_of chunk.now)) }
     requires low { t < k + 1 }
-    requires live { AreLive (slot_of job.now.plan.now) (IsArray (task_of job.now))
-        (left (is_used job.now.plan.now) (last_user job.now.plan.now) k (t)) (k + 1) workspace.old }
-    requires apart { AreApart (slot_of job.now.plan.now)
-        (left (is_used job.now.plan.now) (last_user job.now.plan.now) k 0) (k + 1) }
+    requires live { AreLive (slot_of chunk.now.plan.now) (IsArray (task_of chunk.now))
+        (left (is_used chunk.now.plan.now) (last_user chunk.now.plan.now) k (t)) (k + 1) workspace.old }
+    requires apart { AreApart (slot_of chunk.now.plan.now)
+        (left (is_used chunk.now.plan.now) (last_user chunk.now.plan.now) k 0) (k + 1) }
     requires counted { live_count workspace.old.slots ≤ workspace.old.peak }
-    ensures live { AreLive (slot_of job.now.plan.now) (IsArray (task_of job.now))
-        (left (is_used job.now.plan.now) (last_user job.now.plan.now) k (t + 1)) (k + 1) workspace.new }
+    ensures live { AreLive (slot_of chunk.now.plan.now) (IsArray (task_of chunk.now))
+        (left (is_used chunk.now.plan.now) (last_user chunk.now.plan.now) k (t + 1)) (k + 1) workspace.new }
     ensures len { workspace.new.len ≡ workspace.old.len }
     ensures slots { length workspace.new.slots ≡ length workspace.old.slots }
     ensures peak { workspace.new.peak ≡ workspace.old.peak }
     ensures counted { live_count workspace.new.slots ≤ workspace.new.peak }
 {
     let term = TermId(t as u8);
-    if !ends(job, term, k) {
+    if !ends(chunk, term, k) {
         return;
     }
-    workspace.release(job.plan.slot(term));
+    workspace.release(chunk.plan.slot(term));
 }
 
 // What term k reads last is released.
-fn release_ended(job: &Job<'_>, k: usize, workspace: &mut Workspace)
-    requires job { IsJob job.now }
-    requires term { k < length (graph_in (task_of job.now)) }
-    requires live { AreLive (slot_of job.now.plan.now) (IsArray (task_of job.now))
-        (left (is_used job.now.plan.now) (last_user job.now.plan.now) k (0)) (k + 1) workspace.old }
-    requires apart { AreApart (slot_of job.now.plan.now)
-        (left (is_used job.now.plan.now) (last_user job.now.plan.now) k 0) (k + 1) }
+fn release_ended(chunk: &ChunkInputs<'_>, k: usize, workspace: &mut Workspace)
+    requires chunk { AreChunkInputs chunk.now }
+    requires term { k < length (graph_in (task_of chunk.now)) }
+    requires live { AreLive (slot_of chunk.now.plan.now) (IsArray (task_of chunk.now))
+        (left (is_used chunk.now.plan.now) (last_user chunk.now.plan.now) k (0)) (k + 1) workspace.old }
+    requires apart { AreApart (slot_of chunk.now.plan.now)
+        (left (is_used chunk.now.plan.now) (last_user chunk.now.plan.now) k 0) (k + 1) }
     requires counted { live_count workspace.old.slots ≤ workspace.old.peak }
-    ensures live { AreLive (slot_of job.now.plan.now) (IsArray (task_of job.now))
-        (left (is_used job.now.plan.now) (last_user job.now.plan.now) k (k + 1)) (k + 1) workspace.new }
+    ensures live { AreLive (slot_of chunk.now.plan.now) (IsArray (task_of chunk.now))
+        (left (is_used chunk.now.plan.now) (last_user chunk.now.plan.now) k (k + 1)) (k + 1) workspace.new }
     ensures len { workspace.new.len ≡ workspace.old.len }
     ensures slots { length workspace.new.slots ≡ length workspace.old.slots }
     ensures peak { workspace.new.peak ≡ workspace.old.peak }
     ensures counted { live_count workspace.new.slots ≤ workspace.new.peak }
 {
     for t in 0..k + 1 {
-        release_one(job, t, k, workspace);
+        release_one(chunk, t, k, workspace);
     }
 }
 
 // A used term is begun in its slot, computed and finished.
 fn add_term<'x, L: Ledger>(
-    job: &'x Job<'x>,
+    chunk: &'x ChunkInputs<'x>,
     term: TermId,
     workspace: &mut Workspace,
     cross: &mut Cross,
     rows: &mut Rows,
     steps: &mut Steps<L>,
 ) -> Filled
-    requires job { IsJob job.now }
-    requires used { is_used job.now.plan.now term.0 ≡ true }
-    requires live { AreLive (slot_of job.now.plan.now) (IsArray (task_of job.now))
-        (kept_in (task_of job.now) (term.0)) (term.0) workspace.old }
+    requires chunk { AreChunkInputs chunk.now }
+    requires used { is_used chunk.now.plan.now term.0 ≡ true }
+    requires live { AreLive (slot_of chunk.now.plan.now) (IsArray (task_of chunk.now))
+        (kept_in (task_of chunk.now) (term.0)) (term.0) workspace.old }
     requires counted { live_count workspace.old.slots ≤ workspace.old.peak }
-    requires slots { job.now.plan.now.bound ≤ length workspace.old.slots }
-    requires room { HasRoom (task_of job.now) workspace.old.len }
-    requires cross { assets_in (task_of job.now) ≤ cross.old }
-    requires rows { assets_in (task_of job.now) ≤ rows.old }
-    ensures live { AreLive (slot_of job.now.plan.now) (IsArray (task_of job.now))
-        (kept_in (task_of job.now) (term.0)) (term.0 + 1) workspace.new }
+    requires slots { chunk.now.plan.now.bound ≤ length workspace.old.slots }
+    requires room { HasRoom (task_of chunk.now) workspace.old.len }
+    requires cross { assets_in (task_of chunk.now) ≤ cross.old }
+    requires rows { assets_in (task_of chunk.now) ≤ rows.old }
+    ensures live { AreLive (slot_of chunk.now.plan.now) (IsArray (task_of chunk.now))
+        (kept_in (task_of chunk.now) (term.0)) (term.0 + 1) workspace.new }
     ensures peak { workspace.new.peak ≡ max workspace.old.peak
-        (live_count workspace.old.slots + 1 + columns_at (graph_in (task_of job.now)) term.0) }
+        (live_count workspace.old.slots + 1 + columns_at (graph_in (task_of chunk.now)) term.0) }
     ensures held { result.held ≡ live_count workspace.old.slots + 1
-        + columns_at (graph_in (task_of job.now)) term.0 }
-    ensures cost { steps.new ≡ steps.old + term_steps (task_of job.now) term.0 }
-    ensures applied { result.applied ≡ cut (term_steps (task_of job.now) term.0) }
+        + columns_at (graph_in (task_of chunk.now)) term.0 }
+    ensures cost { steps.new ≡ steps.old + term_steps (task_of chunk.now) term.0 }
+    ensures applied { result.applied ≡ cut (term_steps (task_of chunk.now) term.0) }
     ensures len { workspace.new.len ≡ workspace.old.len }
     ensures slots { length workspace.new.slots ≡ length workspace.old.slots }
     ensures cross { cross.new ≡ cross.old }
     ensures rows { rows.new ≡ rows.old }
 {
-    let slot = job.plan.slot(term);
+    let slot = chunk.plan.slot(term);
     let mut own = workspace.begin(slot);
-    let filled = compute(job, term, workspace, &mut own, cross, rows, steps);
+    let filled = compute(chunk, term, workspace, &mut own, cross, rows, steps);
     workspace.finish(slot, own);
     filled
 }
 
 // Term k, and what it reads last is released.
 fn run_term<'x, L: Ledger>(
-    job: &'x Job<'x>,
+    chunk: &'x ChunkInputs<'x>,
     k: usize,
     workspace: &mut Workspace,
     cross: &mut Cross,
     rows: &mut Rows,
     steps: &mut Steps<L>,
 ) -> Filled
-    requires job { IsJob job.now }
-    requires term { k < length (graph_in (task_of job.now)) }
-    requires live { AreLive (slot_of job.now.plan.now) (IsArray (task_of job.now))
-        (kept_in (task_of job.now) (k)) (k) workspace.old }
+    requires chunk { AreChunkInputs chunk.now }
+    requires term { k < length (graph_in (task_of chunk.now)) }
+    requires live { AreLive (slot_of chunk.now.plan.now) (IsArray (task_of chunk.now))
+        (kept_in (task_of chunk.now) (k)) (k) workspace.old }
     requires counted { live_count workspace.old.slots ≤ workspace.old.peak }
-    requires slots { job.now.plan.now.bound ≤ length workspace.old.slots }
-    requires room { HasRoom (task_of job.now) workspace.old.len }
-    requires cross { assets_in (task_of job.now) ≤ cross.old }
-    requires rows { assets_in (task_of job.now) ≤ rows.old }
-    ensures live { AreLive (slot_of job.now.plan.now) (IsArray (task_of job.now))
-        (kept_in (task_of job.now) (k + 1)) (k + 1) workspace.new }
+    requires slots { chunk.now.plan.now.bound ≤ length workspace.old.slots }
+    requires room { HasRoom (task_of chunk.now) workspace.old.len }
+    requires cross { assets_in (task_of chunk.now) ≤ cross.old }
+    requires rows { assets_in (task_of chunk.now) ≤ rows.old }
+    ensures live { AreLive (slot_of chunk.now.plan.now) (IsArray (task_of chunk.now))
+        (kept_in (task_of chunk.now) (k + 1)) (k + 1) workspace.new }
     ensures counted { live_count workspace.new.slots ≤ workspace.new.peak }
-    ensures peak { workspace.new.peak ≡ max workspace.old.peak (held_in (task_of job.now) k) }
-    ensures held { result.held ≡ held_in (task_of job.now) k }
-    ensures cost { steps.new ≡ steps.old + steps_in (task_of job.now) k }
-    ensures applied { result.applied ≡ cut (steps_in (task_of job.now) k) }
+    ensures peak { workspace.new.peak ≡ max workspace.old.peak (held_in (task_of chunk.now) k) }
+    ensures held { result.held ≡ held_in (task_of chunk.now) k }
+    ensures cost { steps.new ≡ steps.old + steps_in (task_of chunk.now) k }
+    ensures applied { result.applied ≡ cut (steps_in (task_of chunk.now) k) }
     ensures len { workspace.new.len ≡ workspace.old.len }
     ensures slots { length workspace.new.slots ≡ length workspace.old.slots }
     ensures cross { cross.new ≡ cross.old }
     ensures rows { rows.new ≡ rows.old }
 {
     let term = TermId(k as u8);
-    if !job.plan.is_used(term) {
+    if !chunk.plan.is_used(term) {
         return Filled {
             held: 0,
             applied: 0,
         };
     }
-    let filled = add_term(job, term, workspace, cross, rows, steps);
-    release_ended(job, k, workspace);
+    let filled = add_term(chunk, term, workspace, cross, rows, steps);
+    release_ended(chunk, k, workspace);
     filled
 }
 
 // All used terms.
 fn run_terms<'x, L: Ledger>(
-    job: &'x Job<'x>,
+    chunk: &'x ChunkInputs<'x>,
     workspace: &mut Workspace,
     cross: &mut Cross,
     rows: &mut Rows,
     steps: &mut Steps<L>,
 ) -> ChunkReport
-    requires job { IsJob job.now }
-    requires live { AreLive (slot_of job.now.plan.now) (IsArray (task_of job.now))
-        (kept_in (task_of job.now) (0)) (0) workspace.old }
+    requires chunk { AreChunkInputs chunk.now }
+    requires live { AreLive (slot_of chunk.now.plan.now) (IsArray (task_of chunk.now))
+        (kept_in (task_of chunk.now) (0)) (0) workspace.old }
     requires counted { live_count workspace.old.slots ≤ workspace.old.peak }
-    requires slots { job.now.plan.now.bound ≤ length workspace.old.slots }
-    requires room { HasRoom (task_of job.now) workspace.old.len }
-    requires cross { assets_in (task_of job.now) ≤ cross.old }
-    requires rows { assets_in (task_of job.now) ≤ rows.old }
-    ensures outputs { HoldsOutputs (task_of job.now) workspace.new }
+    requires slots { chunk.now.plan.now.bound ≤ length workspace.old.slots }
+    requires room { HasRoom (task_of chunk.now) workspace.old.len }
+    requires cross { assets_in (task_of chunk.now) ≤ cross.old }
+    requires rows { assets_in (task_of chunk.now) ≤ rows.old }
+    ensures outputs { HoldsOutputs (task_of chunk.now) workspace.new }
     ensures workspace { workspace.new.peak ≡ max workspace.old.peak
-        (bound (graph_in (task_of job.now)) (outputs (task_of job.now).pipeline)) }
-    ensures peak { result.peak ≡ bound (graph_in (task_of job.now)) (outputs (task_of job.now).pipeline) }
-    ensures applied { result.applied ≡ cut (chunk_steps (task_of job.now)) }
-    ensures cost { steps.new ≡ steps.old + chunk_steps (task_of job.now) }
+        (bound (graph_in (task_of chunk.now)) (outputs (task_of chunk.now).pipeline)) }
+    ensures peak { result.peak ≡ bound (graph_in (task_of chunk.now)) (outputs (task_of chunk.now).pipeline) }
+    ensures applied { result.applied ≡ cut (chunk_steps (task_of chunk.now)) }
+    ensures cost { steps.new ≡ steps.old + chunk_steps (task_of chunk.now) }
     ensures len { workspace.new.len ≡ workspace.old.len }
     ensures slots { length workspace.new.slots ≡ length workspace.old.slots }
     ensures cross { cross.new ≡ cross.old }
@@ -215,8 +216,8 @@ fn run_terms<'x, L: Ledger>(
 {
     let mut peak = 0;
     let mut applied = 0u64;
-    for k in 0..term_count(job) {
-        let filled = run_term(job, k, workspace, cross, rows, steps);
+    for k in 0..term_count(chunk) {
+        let filled = run_term(chunk, k, workspace, cross, rows, steps);
         peak = greater(peak, filled.held);
         applied = capped_sum(applied, filled.applied);
     }
@@ -235,10 +236,10 @@ fn capped_sum(a: u64, b: u64) -> u64
     a.saturating_add(b)
 }
 
-fn term_count(job: &Job<'_>) -> usize
-    ensures { result ≡ length (graph_in (task_of job.now)) }
+fn term_count(chunk: &ChunkInputs<'_>) -> usize
+    ensures { result ≡ length (graph_in (task_of chunk.now)) }
 {
-    job.checked.graph().len()
+    chunk.checked.graph().len()
 }
 
 /// Computes the used terms of a planned pipeline in ascending number over the sessions that a chunk needs,
@@ -285,7 +286,7 @@ pub fn execute_chunk<L: Ledger>(
     let _labels = world.labels.len();
     let _assets = world.assets.len();
     let _terms = checked.graph().len();
-    let job = Job {
+    let inputs = ChunkInputs {
         world: *world,
         checked,
         plan,
@@ -293,5 +294,5 @@ pub fn execute_chunk<L: Ledger>(
         from: chunk.from,
         to: chunk.to,
     };
-    run_terms(&job, workspace, cross, rows, steps)
+    run_terms(&inputs, workspace, cross, rows, steps)
 }

@@ -3,7 +3,7 @@ ghost use Rattle.std.specs.Prelude.{◌≡◌, ◌≤◌, length, filter_map, ma
 ghost use Rattle.pl_spec.specs.World.{column_number};
 ghost use Rattle.pl_pipeline.specs.Graph.{contains, input_column};
 ghost use Rattle.pl_terms.specs.Nodes.{input_of, node_of};
-ghost use Rattle.pl_exec.specs.Jobs as spec;
+ghost use Rattle.pl_exec.specs.ChunkInputs as spec;
 
 use pl_fixed::Column;
 use pl_terms::{Input, Node};

@@ -4,13 +4,13 @@ ghost use Rattle.pl_pipeline.specs.Graph.{columns_at};
 ghost use Rattle.pl_terms.specs.Nodes.{node_of};
 ghost use Rattle.pl_workspace.specs.Slots.{live_count};
 ghost use Rattle.pl_exec.specs.Tasks.{assets_in, count_in, graph_in, row_count};
-ghost use Rattle.pl_exec.specs.Jobs.{AreFree, HasRows, IsColumnRun, IsJob, IsRun, new_before, task_of};
+ghost use Rattle.pl_exec.specs.ChunkInputs.{AreFree, HasRows, IsColumnRun, AreChunkInputs, IsRun, new_before, task_of};
 ghost use Rattle.pl_exec.specs.Filling.{HaveRows, IsFilled, node_for, new_from, task_for};
 
+use crate::chunk_inputs::{ChunkInputs, node_of};
 use crate::columns::{new_count, one_new};
 use crate::course::course_of;
 use crate::fill::{fill_bars, fill_plain};
-use crate::job::{Job, node_of};
 use crate::rows::Rows;
 use pl_cross::Cross;
 use pl_fixed::Steps;
@@ -27,10 +27,10 @@ pub(crate) struct Filled {
     pub(crate) applied: u64,
 }
 
-/// Term `id` of a job, which is `node`.
+/// Term `id` of a chunk, which is `node`.
 #[derive(Clone, Copy)]
 pub(crate) struct Term<'x> {
-    pub(crate) job: &'x Job<'x>,
+    pub(crate) chunk: &'x ChunkInputs<'x>,
     pub(crate) id: TermId,
     pub(crate) node: &'x Node,
 }
@@ -54,7 +54,7 @@ fn fill_last<L: Ledger>(
     third: &mut [i64],
     steps: &mut Steps<L>,
 ) -> Filled
-    requires run { IsColumnRun term.now.job.now workspace.now term.now.id.0 (node_for term.now) }
+    requires run { IsColumnRun term.now.chunk.now workspace.now term.now.id.0 (node_for term.now) }
     requires counted { live_count workspace.now.slots ≤ workspace.now.peak }
     requires room { assets_in (task_for term.now) * count_in (task_for term.now) term.now.id.0
         ≤ length own.old }
@@ -65,7 +65,7 @@ fn fill_last<L: Ledger>(
         steps.new result }
 {
     let held = workspace.live();
-    let course = course_of(term.job, term.id, term.node, workspace);
+    let course = course_of(term.chunk, term.id, term.node, workspace);
     let applied = fill_bars(&course, own, first, second, third, steps);
     Filled { held, applied }
 }
@@ -80,7 +80,7 @@ fn fill_from<L: Ledger>(
     cells: Cells<'_>,
     steps: &mut Steps<L>,
 ) -> Filled
-    requires run { IsColumnRun term.now.job.now workspace.old term.now.id.0 (node_for term.now) }
+    requires run { IsColumnRun term.now.chunk.now workspace.old term.now.id.0 (node_for term.now) }
     requires place { place ≤ 3 }
     requires free { AreFree (task_for term.now) workspace.old term.now.id.0
         (new_before (node_for term.now) place) }
@@ -110,7 +110,7 @@ fn fill_from<L: Ledger>(
         return fill_from(term, place + 1, workspace, own, next, steps);
     }
     let slot = term
-        .job
+        .chunk
         .plan
         .column_slot(term.id, new_count(term.node, place));
     let mut column = workspace.begin(slot);
@@ -132,7 +132,7 @@ fn fill_columns<L: Ledger>(
     own: &mut [i64],
     steps: &mut Steps<L>,
 ) -> Filled
-    requires run { IsColumnRun term.now.job.now workspace.old term.now.id.0 (node_for term.now) }
+    requires run { IsColumnRun term.now.chunk.now workspace.old term.now.id.0 (node_for term.now) }
     requires free { AreFree (task_for term.now) workspace.old term.now.id.0 0 }
     requires counted { live_count workspace.old.slots ≤ workspace.old.peak }
     requires columns { assets_in (task_for term.now) * row_count (task_for term.now) term.now.id.0
@@ -152,7 +152,7 @@ fn fill_columns<L: Ledger>(
 
 /// The array of a term, with its bar columns in their slots while it is computed.
 pub(crate) fn compute<'x, L: Ledger>(
-    job: &'x Job<'x>,
+    chunk: &'x ChunkInputs<'x>,
     id: TermId,
     workspace: &mut Workspace,
     own: &mut Buffer,
@@ -160,28 +160,28 @@ pub(crate) fn compute<'x, L: Ledger>(
     rows: &mut Rows,
     steps: &mut Steps<L>,
 ) -> Filled
-    requires job { IsJob job.now }
-    requires run { IsRun (task_of job.now) workspace.old id.0 }
-    requires free { AreFree (task_of job.now) workspace.old id.0 0 }
+    requires chunk { AreChunkInputs chunk.now }
+    requires run { IsRun (task_of chunk.now) workspace.old id.0 }
+    requires free { AreFree (task_of chunk.now) workspace.old id.0 0 }
     requires counted { live_count workspace.old.slots ≤ workspace.old.peak }
-    requires columns { 0 < columns_at (graph_in (task_of job.now)) id.0
-        → assets_in (task_of job.now) * row_count (task_of job.now) id.0 ≤ workspace.old.len }
-    requires room { assets_in (task_of job.now) * count_in (task_of job.now) id.0 ≤ length own.old.cells }
-    requires cross { assets_in (task_of job.now) ≤ cross.old }
-    requires rows { assets_in (task_of job.now) ≤ rows.old }
+    requires columns { 0 < columns_at (graph_in (task_of chunk.now)) id.0
+        → assets_in (task_of chunk.now) * row_count (task_of chunk.now) id.0 ≤ workspace.old.len }
+    requires room { assets_in (task_of chunk.now) * count_in (task_of chunk.now) id.0 ≤ length own.old.cells }
+    requires cross { assets_in (task_of chunk.now) ≤ cross.old }
+    requires rows { assets_in (task_of chunk.now) ≤ rows.old }
     ensures own { (own.new.slot ≡ own.old.slot) × (length own.new.cells ≡ length own.old.cells) }
-    ensures filled { IsFilled (task_of job.now) id.0 (columns_at (graph_in (task_of job.now)) id.0)
+    ensures filled { IsFilled (task_of chunk.now) id.0 (columns_at (graph_in (task_of chunk.now)) id.0)
         workspace.old workspace.new own.new.cells steps.old steps.new result }
     ensures cross { cross.new ≡ cross.old }
     ensures rows { rows.new ≡ rows.old }
 {
-    let node = node_of(job, id);
+    let node = node_of(chunk, id);
     if new_count(node, 3) > 0 {
-        let term = Term { job, id, node };
+        let term = Term { chunk, id, node };
         return fill_columns(&term, workspace, own.cells_mut(), steps);
     }
     let held = workspace.live();
-    let course = course_of(job, id, node, workspace);
+    let course = course_of(chunk, id, node, workspace);
     fill_plain(&course, own.cells_mut(), cross, rows);
     Filled { held, applied: 0 }
 }

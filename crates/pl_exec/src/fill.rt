@@ -8,16 +8,16 @@ ghost use Rattle.pl_adjarray.specs.Buffered.{applied_at};
 ghost use Rattle.pl_values.specs.Arrays.{IsRow};
 ghost use Rattle.pl_values.specs.Families.{IsOf};
 ghost use Rattle.pl_exec.specs.Tasks.{IsArray, assets_in, graph_in, term_steps};
-ghost use Rattle.pl_exec.specs.Jobs.{AreBars, AreGiven, FillsLane, HasNoBars, HasRows, IsColumnRun, IsCourse, IsLane, IsOut, IsTurn, buffer_at, by_rows, counted, node_at, node_in, one_col, rows_at, steps_of, task_at, task_in, traversal_at};
+ghost use Rattle.pl_exec.specs.ChunkInputs.{AreBars, AreGiven, FillsLane, HasNoBars, HasRows, IsColumnRun, IsCourse, IsLane, IsRowOfTerm, IsTermSession, buffer_at, by_rows, counted, node_at, node_in, one_col, rows_at, steps_of, task_at, task_in, traversal_at};
 
 use crate::columns::new_column;
-use crate::course::{Course, Lane, turn_on};
+use crate::course::{Course, Lane, on_session};
 use crate::keep::keep_lane;
 use crate::kinds::{is_by_rows, kind_row};
 use crate::leaves::{constant_lane, label_lane, label_test_lane, number_lane, sids_lane};
 use crate::points::point_lane;
 use crate::rows::Rows;
-use crate::turn::{Turn, keep_row};
+use crate::term_session::{TermSession, keep_row};
 use crate::windows::{Bars, advance_all, applied, fill_stretch, pass, sources_of, still};
 use pl_adjarray::{AdjustedArray, Windows};
 use pl_cross::Cross;
@@ -55,7 +55,7 @@ fn put_row(row: &[i64], cells: &mut [i64], count: usize, session: usize)
 
 // The cells on a session, where they come row by row.
 fn row_on(
-    turn: &Turn<'_>,
+    term_session: &TermSession<'_>,
     family: Family,
     cross: &mut Cross,
     first: &mut [i64],
@@ -63,19 +63,19 @@ fn row_on(
     keep: &mut [i64],
     out: &mut [i64],
 )
-    requires turn { IsTurn turn.now }
-    requires family { IsOf (node_at turn.now).kind family }
+    requires term_session { IsTermSession term_session.now }
+    requires family { IsOf (node_at term_session.now).kind family }
     requires rows { by_rows family ≡ true }
-    requires cross { assets_in (task_at turn.now) ≤ cross.old }
-    requires first { length first.old ≡ assets_in (task_at turn.now) }
-    requires second { length second.old ≡ assets_in (task_at turn.now) }
-    requires keep { length keep.old ≡ assets_in (task_at turn.now) }
-    requires long { length out.old ≡ assets_in (task_at turn.now) }
-    ensures out { IsOut turn.now out.new }
+    requires cross { assets_in (task_at term_session.now) ≤ cross.old }
+    requires first { length first.old ≡ assets_in (task_at term_session.now) }
+    requires second { length second.old ≡ assets_in (task_at term_session.now) }
+    requires keep { length keep.old ≡ assets_in (task_at term_session.now) }
+    requires long { length out.old ≡ assets_in (task_at term_session.now) }
+    ensures out { IsRowOfTerm term_session.now out.new }
     ensures cross { cross.new ≡ cross.old }
 {
-    keep_row(turn, first, keep);
-    kind_row(turn, family, cross, first, second, keep, out);
+    keep_row(term_session, first, keep);
+    kind_row(term_session, family, cross, first, second, keep, out);
 }
 
 // What a term that reads no bar columns is worth for an asset, whether that is kept or not.
@@ -124,8 +124,8 @@ fn fill_lanes<'x>(course: &Course<'x>, family: Family, own: &mut [i64])
 {
     let sources = sources_of(course);
     let count = course.count;
-    let job = course.job;
-    for i in 0..job.cols.len() {
+    let chunk = course.chunk;
+    for i in 0..chunk.cols.len() {
         let start = start_in(own, i, count);
         let lane = Lane {
             course: &*course,
@@ -161,12 +161,12 @@ fn fill_over(
     if !is_by_rows(family) {
         return fill_lanes(course, family, own);
     }
-    let assets = course.job.cols.len();
+    let assets = course.chunk.cols.len();
     for j in 0..course.count {
-        let turn = turn_on(course, j);
+        let term_session = on_session(course, j);
         let row = &mut out[..assets];
         row_on(
-            &turn,
+            &term_session,
             family,
             cross,
             &mut first[..assets],
@@ -209,12 +209,12 @@ fn column_array<'a>(course: &Course<'a>, place: usize, cols: &'a [u32]) -> Adjus
     requires course { IsCourse course.now }
     requires deep { (node_in course.now).window ≤ course.now.low }
     requires some { 1 ≤ (node_in course.now).window }
-    ensures { result ≡ buffer_at course.now.job.now course.now.term.0 (node_in course.now) cols.now place }
+    ensures { result ≡ buffer_at course.now.chunk.now course.now.term.0 (node_in course.now) cols.now place }
 {
     let size = window_of(course.node);
     let first = course.low - size;
-    let rows = course.job.to - course.low + size;
-    let world = course.job.world;
+    let rows = course.chunk.to - course.low + size;
+    let world = course.chunk.world;
     match new_column(course.node, place) {
         Some(column) => AdjustedArray::new(
             world.bars,
@@ -248,7 +248,7 @@ fn cells_for(lane: &Lane<'_>, place: usize, cells: &[i64]) -> usize
 {
     let course = lane.course;
     match new_column(course.node, place) {
-        Some(_) => course.job.to - course.low + window_of(course.node),
+        Some(_) => course.chunk.to - course.low + window_of(course.node),
         None => 0,
     }
 }
@@ -260,14 +260,14 @@ fn begin_bars<'s>(
     array: &'s AdjustedArray<'_>,
     cells: &'s mut [i64],
 ) -> Windows<'s>
-    requires run { IsColumnRun lane.now.course.now.job.now lane.now.course.now.workspace.now
+    requires run { IsColumnRun lane.now.course.now.chunk.now lane.now.course.now.workspace.now
         lane.now.course.now.term.0 (node_in lane.now.course.now) }
     requires lane { IsLane lane.now }
     requires array { array.now ≡ rows_at lane.now place }
     requires has { HasRows (task_in lane.now.course.now) lane.now.course.now.term.0
         (node_in lane.now.course.now) place cells.old }
-    ensures begins { result ≡ traversal_at lane.now.course.now.job.now lane.now.course.now.term.0
-        (node_in lane.now.course.now) (one_col lane.now.course.now.job.now lane.now.i) place 0 }
+    ensures begins { result ≡ traversal_at lane.now.course.now.chunk.now lane.now.course.now.term.0
+        (node_in lane.now.course.now) (one_col lane.now.course.now.chunk.now lane.now.i) place 0 }
     ensures none { applied_at result.array result.session ≡ 0 }
 {
     let many = cells_for(lane, place, cells);
@@ -277,16 +277,16 @@ fn begin_bars<'s>(
 // The cells of an asset, by traversals of its bars that begin: from one change of the bars to the next at
 // once.
 fn walk_bars<L: Ledger>(lane: &Lane<'_>, out: &mut [i64], bars: &mut Bars<'_>, steps: &mut Steps<L>)
-    requires run { IsColumnRun lane.now.course.now.job.now lane.now.course.now.workspace.now
+    requires run { IsColumnRun lane.now.course.now.chunk.now lane.now.course.now.workspace.now
         lane.now.course.now.term.0 (node_in lane.now.course.now) }
     requires lane { IsLane lane.now }
     requires long { length out.old ≡ lane.now.course.now.count }
-    requires bars { AreBars lane.now.course.now.job.now lane.now.course.now.term.0
-        (node_in lane.now.course.now) (one_col lane.now.course.now.job.now lane.now.i) 0 bars.old }
+    requires bars { AreBars lane.now.course.now.chunk.now lane.now.course.now.term.0
+        (node_in lane.now.course.now) (one_col lane.now.course.now.chunk.now lane.now.i) 0 bars.old }
     requires none { counted bars.old ≡ 0 }
     ensures out { FillsLane lane.now.course.now lane.now.i out.new }
-    ensures bars { AreBars lane.now.course.now.job.now lane.now.course.now.term.0
-        (node_in lane.now.course.now) (one_col lane.now.course.now.job.now lane.now.i)
+    ensures bars { AreBars lane.now.course.now.chunk.now lane.now.course.now.term.0
+        (node_in lane.now.course.now) (one_col lane.now.course.now.chunk.now lane.now.i)
         lane.now.course.now.count bars.new }
     ensures cost { steps.new ≡ steps.old + counted bars.new }
 {
@@ -311,7 +311,7 @@ fn fill_asset<L: Ledger>(
     third: &mut [i64],
     steps: &mut Steps<L>,
 ) -> u64
-    requires run { IsColumnRun lane.now.course.now.job.now lane.now.course.now.workspace.now
+    requires run { IsColumnRun lane.now.course.now.chunk.now lane.now.course.now.workspace.now
         lane.now.course.now.term.0 (node_in lane.now.course.now) }
     requires lane { IsLane lane.now }
     requires long { length out.old ≡ lane.now.course.now.count }
@@ -322,14 +322,14 @@ fn fill_asset<L: Ledger>(
     requires third { HasRows (task_in lane.now.course.now) lane.now.course.now.term.0
         (node_in lane.now.course.now) 2 third.old }
     ensures out { FillsLane lane.now.course.now lane.now.i out.new }
-    ensures cost { steps.new ≡ steps.old + steps_of lane.now.course.now.job.now lane.now.course.now.term.0
-        (node_in lane.now.course.now) (one_col lane.now.course.now.job.now lane.now.i) }
-    ensures applied { result ≡ cut (steps_of lane.now.course.now.job.now lane.now.course.now.term.0
-        (node_in lane.now.course.now) (one_col lane.now.course.now.job.now lane.now.i)) }
+    ensures cost { steps.new ≡ steps.old + steps_of lane.now.course.now.chunk.now lane.now.course.now.term.0
+        (node_in lane.now.course.now) (one_col lane.now.course.now.chunk.now lane.now.i) }
+    ensures applied { result ≡ cut (steps_of lane.now.course.now.chunk.now lane.now.course.now.term.0
+        (node_in lane.now.course.now) (one_col lane.now.course.now.chunk.now lane.now.i)) }
 {
     let course = lane.course;
-    let job = course.job;
-    let cols = one_of(job.cols, lane.i);
+    let chunk = course.chunk;
+    let cols = one_of(chunk.cols, lane.i);
     let first_array = column_array(course, 0, cols);
     let second_array = column_array(course, 1, cols);
     let third_array = column_array(course, 2, cols);
@@ -353,7 +353,7 @@ pub(crate) fn fill_bars<'x, L: Ledger>(
     third: &mut [i64],
     steps: &mut Steps<L>,
 ) -> u64
-    requires run { IsColumnRun course.now.job.now course.now.workspace.now course.now.term.0
+    requires run { IsColumnRun course.now.chunk.now course.now.workspace.now course.now.term.0
         (node_in course.now) }
     requires course { IsCourse course.now }
     requires room { assets_in (task_in course.now) * course.now.count ≤ length own.old }
@@ -366,9 +366,9 @@ pub(crate) fn fill_bars<'x, L: Ledger>(
 {
     let sources = sources_of(course);
     let count = course.count;
-    let job = course.job;
+    let chunk = course.chunk;
     let mut applied = 0u64;
-    for i in 0..job.cols.len() {
+    for i in 0..chunk.cols.len() {
         let start = start_in(own, i, count);
         let lane = Lane {
             course: &*course,

@@ -2,10 +2,10 @@
 ghost use Rattle.std.specs.Prelude.{◌≡◌, ◌+◌, ◌<◌, ℕ, true, length, pos, get_or};
 ghost use Rattle.pl_values.specs.Arrays.{chosen, is_kept};
 ghost use Rattle.pl_exec.specs.Tasks.{sids_in};
-ghost use Rattle.pl_exec.specs.Jobs.{IsLane, node_in, task_in};
+ghost use Rattle.pl_exec.specs.ChunkInputs.{IsLane, node_in, task_in};
 
-use crate::course::{Lane, turn_on};
-use crate::turn::{choose, is_kept, lives};
+use crate::course::{Lane, on_session};
+use crate::term_session::{choose, is_kept, lives};
 
 // Is the asset in a place kept on all sessions of the course? Its life is one stretch, so it exists on all of
 // them where it exists on the first and on the last. A mask is not looked at.
@@ -19,7 +19,8 @@ fn is_kept_throughout(lane: &Lane<'_>) -> bool
     let course = lane.course;
     match lane.sources.mask {
         None => {
-            lives(&turn_on(course, 0), lane.i) && lives(&turn_on(course, course.count - 1), lane.i)
+            lives(&on_session(course, 0), lane.i)
+                && lives(&on_session(course, course.count - 1), lane.i)
         }
         Some(_) => false,
     }
@@ -36,7 +37,7 @@ fn keep_cells(lane: &Lane<'_>, out: &mut [i64])
         (lane.now.course.now.low + j)) (get_or out.old j (pos 0)) lane.now.course.now.none }
 {
     for j in 0..out.len() {
-        let keep = is_kept(&turn_on(lane.course, j), &lane.sources.mask, lane.i);
+        let keep = is_kept(&on_session(lane.course, j), &lane.sources.mask, lane.i);
         out[j] = choose(keep, out[j], lane.course.none);
     }
 }

@@ -2,7 +2,7 @@
 ghost use Rattle.std.specs.Prelude.{◌≡◌, true, length};
 ghost use Rattle.pl_pipeline.specs.Kind.Kind.{Constant, Label, Number};
 ghost use Rattle.pl_values.specs.Families.{is_label_test, is_sids};
-ghost use Rattle.pl_exec.specs.Jobs.{AreGiven, IsLane, node_in};
+ghost use Rattle.pl_exec.specs.ChunkInputs.{AreGiven, IsLane, node_in};
 
 use crate::course::Lane;
 use crate::points::operand;
@@ -25,8 +25,8 @@ pub(crate) fn sids_lane(lane: &Lane<'_>, out: &mut [i64])
     requires long { length out.old ≡ lane.now.course.now.count }
     ensures { AreGiven lane.now.course.now lane.now.i out.new }
 {
-    let job = lane.course.job;
-    let sid = job.world.assets.sid(job.cols[lane.i] as usize);
+    let chunk = lane.course.chunk;
+    let sid = chunk.world.assets.sid(chunk.cols[lane.i] as usize);
     out.fill(sids_value(kind_of(lane.course.node), sid));
 }
 
@@ -37,13 +37,13 @@ pub(crate) fn label_lane(lane: &Lane<'_>, name: u32, out: &mut [i64])
     requires long { length out.old ≡ lane.now.course.now.count }
     ensures { AreGiven lane.now.course.now lane.now.i out.new }
 {
-    let job = lane.course.job;
-    let labels = job.world.labels;
-    let name = job.checked.label_name(name);
+    let chunk = lane.course.chunk;
+    let labels = chunk.world.labels;
+    let name = chunk.checked.label_name(name);
     let number = labels.name_of(name);
-    let col = job.cols[lane.i] as usize;
+    let col = chunk.cols[lane.i] as usize;
     for j in 0..out.len() {
-        let day = job.world.sessions.day(lane.course.low + j);
+        let day = chunk.world.sessions.day(lane.course.low + j);
         out[j] = label_value(labels, name, number, col, day);
     }
 }
@@ -55,12 +55,13 @@ pub(crate) fn number_lane(lane: &Lane<'_>, name: u32, out: &mut [i64])
     requires long { length out.old ≡ lane.now.course.now.count }
     ensures { AreGiven lane.now.course.now lane.now.i out.new }
 {
-    let job = lane.course.job;
-    let name = job.checked.label_name(name);
-    let col = job.cols[lane.i] as usize;
-    job.world
+    let chunk = lane.course.chunk;
+    let name = chunk.checked.label_name(name);
+    let col = chunk.cols[lane.i] as usize;
+    chunk
+        .world
         .numbers
-        .fill_under(name, col, job.world.sessions, lane.course.low, out);
+        .fill_under(name, col, chunk.world.sessions, lane.course.low, out);
 }
 
 /// What the test says of the asset's labels, which are the first input.
@@ -71,6 +72,6 @@ pub(crate) fn label_test_lane(lane: &Lane<'_>, out: &mut [i64])
     ensures { AreGiven lane.now.course.now lane.now.i out.new }
 {
     let codes = operand(lane, &lane.sources.first, 0);
-    let job = lane.course.job;
-    label_test_values(kind_of(lane.course.node), job.world.labels, codes, out);
+    let chunk = lane.course.chunk;
+    label_test_values(kind_of(lane.course.node), chunk.world.labels, codes, out);
 }

@@ -3,17 +3,17 @@
 #![tactic(auto)]
 
 mod chunk;
+mod chunk_inputs;
 mod columns;
 mod compute;
 mod course;
 mod fill;
-mod job;
 mod keep;
 mod kinds;
 mod leaves;
 mod points;
 mod rows;
-mod turn;
+mod term_session;
 mod windows;
 
 pub use chunk::{Chunk, ChunkReport, execute_chunk};

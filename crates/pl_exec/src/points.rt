@@ -1,10 +1,10 @@
 //! Operations on the values of one place, for an asset on all sessions at once.
 ghost use Rattle.std.specs.Prelude.{◌≡◌, ℕ, true, length, slice_get};
 ghost use Rattle.pl_values.specs.Families.{is_point};
-ghost use Rattle.pl_exec.specs.Jobs.{AreGiven, IsLane, IsLent, IsOperand, IsOperandOf, IsReadFrom, node_in, task_in};
+ghost use Rattle.pl_exec.specs.ChunkInputs.{AreGiven, IsLane, IsLent, IsOperand, IsOperandOf, IsReadFrom, node_in, task_in};
 
+use crate::chunk_inputs::{Array, cells_from};
 use crate::course::Lane;
-use crate::job::{Array, cells_from};
 use crate::windows::Source;
 use pl_pointwise::pointwise;
 use pl_values::kind_of;

@@ -6,12 +6,12 @@ ghost use Rattle.pl_adjarray.specs.Buffered.{applied_at};
 ghost use Rattle.pl_adjarray.specs.Stillness.{IsStill};
 ghost use Rattle.pl_terms.specs.Sorts.{is_windowed};
 ghost use Rattle.pl_exec.specs.Tasks.{assets_in};
-ghost use Rattle.pl_exec.specs.Jobs.{AreLent, AreMoved, AreStill, AreStillNow, GoOn, GoesOn, HasBars, HasBegun, HaveBegun, IsColumnAt, IsColumnReach, IsCourse, IsGivenOn, IsLane, IsLent, IsLentAt, IsLentReach, IsMaskLent, IsTurn, advanced, bars_now, counted, node_at, node_in, one_col, passed, place_in, task_at, task_in};
+ghost use Rattle.pl_exec.specs.ChunkInputs.{AreLent, AreMoved, AreStill, AreStillNow, GoOn, GoesOn, HasBars, HasBegun, HaveBegun, IsColumnAt, IsColumnReach, IsCourse, IsGivenOn, IsLane, IsLent, IsLentAt, IsLentReach, IsMaskLent, IsTermSession, advanced, bars_now, counted, node_at, node_in, one_col, passed, place_in, task_at, task_in};
 
+use crate::chunk_inputs::{Array, array_of};
 use crate::columns::place_of;
-use crate::course::{Course, Lane, turn_on};
-use crate::job::{Array, array_of};
-use crate::turn::{Turn, term_reach};
+use crate::course::{Course, Lane, on_session};
+use crate::term_session::{TermSession, term_reach};
 use pl_adjarray::Windows;
 use pl_fixed::Steps;
 use pl_running::fill_values;
@@ -126,7 +126,7 @@ fn source_in<'t>(course: &Course<'t>, place: usize) -> Source<'t>
         result }
 {
     match input_at(course.node, place) {
-        Some(Input::Term(term)) => Source::InTerm(array_of(course.job, course.workspace, term)),
+        Some(Input::Term(term)) => Source::InTerm(array_of(course.chunk, course.workspace, term)),
         Some(Input::Column(column)) => Source::InColumn(place_of(course.node, column)),
         None => Source::InNone,
     }
@@ -138,7 +138,7 @@ fn mask_in<'t>(course: &Course<'t>) -> Option<Array<'t>>
     ensures { IsMaskLent (task_in course.now) (node_in course.now).mask result }
 {
     match mask_of(course.node) {
-        Some(term) => Some(array_of(course.job, course.workspace, term)),
+        Some(term) => Some(array_of(course.chunk, course.workspace, term)),
         None => None,
     }
 }
@@ -159,19 +159,20 @@ pub(crate) fn sources_of<'t>(course: &Course<'t>) -> Sources<'t>
 // The bars of a column for an asset, which is the only one of the traversals, in its windows on the session
 // and on `more` later ones.
 fn column_reach<'b>(
-    turn: &Turn<'_>,
+    term_session: &TermSession<'_>,
     bars: Option<&'b Bars<'_>>,
     q: usize,
     i: usize,
     more: usize,
 ) -> &'b [i64]
-    requires turn { IsTurn turn.now }
-    requires bars { HasBars turn.now.job.now turn.now.term.0 (node_at turn.now) (one_col turn.now.job.now i)
-        turn.now.session (bars_now bars) }
+    requires term_session { IsTermSession term_session.now }
+    requires bars { HasBars term_session.now.chunk.now term_session.now.term.0
+        (node_at term_session.now) (one_col term_session.now.chunk.now i)
+        term_session.now.session (bars_now bars) }
     requires still { AreStillNow (bars_now bars) more }
-    requires asset { i < assets_in (task_at turn.now) }
-    requires lent { IsColumnAt turn.now q }
-    ensures value { IsColumnReach turn.now i q more result.now }
+    requires asset { i < assets_in (task_at term_session.now) }
+    requires lent { IsColumnAt term_session.now q }
+    ensures value { IsColumnReach term_session.now i q more result.now }
     ensures cells { All IsCell result.now }
 {
     match bars {
@@ -183,26 +184,27 @@ fn column_reach<'b>(
 // The cells of an input for an asset in its windows on the session and on `more` later ones; none where there
 // is no input.
 fn reach_in<'t>(
-    turn: &Turn<'_>,
+    term_session: &TermSession<'_>,
     source: &Source<'t>,
     bars: Option<&'t Bars<'_>>,
     i: usize,
     more: usize,
 ) -> &'t [i64]
-    requires turn { IsTurn turn.now }
-    requires bars { HasBars turn.now.job.now turn.now.term.0 (node_at turn.now) (one_col turn.now.job.now i)
-        turn.now.session (bars_now bars) }
+    requires term_session { IsTermSession term_session.now }
+    requires bars { HasBars term_session.now.chunk.now term_session.now.term.0
+        (node_at term_session.now) (one_col term_session.now.chunk.now i)
+        term_session.now.session (bars_now bars) }
     requires still { AreStillNow (bars_now bars) more }
-    requires asset { i < assets_in (task_at turn.now) }
-    requires lent { IsLentAt turn.now source.now }
-    requires late { turn.now.session + more ≤ turn.now.job.now.to }
-    ensures value { IsLentReach turn.now source.now i more result.now }
+    requires asset { i < assets_in (task_at term_session.now) }
+    requires lent { IsLentAt term_session.now source.now }
+    requires late { term_session.now.session + more ≤ term_session.now.chunk.now.to }
+    ensures value { IsLentReach term_session.now source.now i more result.now }
     ensures cells { All IsCell result.now }
 {
     match source {
         Source::InNone => &[],
-        Source::InColumn(place) => column_reach(turn, bars, *place, i, more),
-        Source::InTerm(array) => term_reach(turn, array, i, more),
+        Source::InColumn(place) => column_reach(term_session, bars, *place, i, more),
+        Source::InTerm(array) => term_reach(term_session, array, i, more),
     }
 }
 
@@ -211,8 +213,8 @@ fn reach_in<'t>(
 pub(crate) fn fill_stretch(lane: &Lane<'_>, bars: Option<&Bars<'_>>, j: usize, out: &mut [i64])
     requires lane { IsLane lane.now }
     requires kind { is_windowed (node_in lane.now.course.now).kind ≡ true }
-    requires bars { HasBars lane.now.course.now.job.now lane.now.course.now.term.0
-        (node_in lane.now.course.now) (one_col lane.now.course.now.job.now lane.now.i)
+    requires bars { HasBars lane.now.course.now.chunk.now lane.now.course.now.term.0
+        (node_in lane.now.course.now) (one_col lane.now.course.now.chunk.now lane.now.i)
         (lane.now.course.now.low + j) (bars_now bars) }
     requires still { AreStillNow (bars_now bars) (length out.old - 1) }
     requires some { 0 < length out.old }
@@ -221,11 +223,18 @@ pub(crate) fn fill_stretch(lane: &Lane<'_>, bars: Option<&Bars<'_>>, j: usize, o
     ensures values { (m : ℕ) → m < length out.old
         → IsGivenOn lane.now.course.now lane.now.i (j + m) (get_or out.new m (pos 0)) }
 {
-    let turn = turn_on(lane.course, j);
+    let term_session = on_session(lane.course, j);
     let more = out.len() - 1;
-    let first = reach_in(&turn, &lane.sources.first, bars, lane.i, more);
-    let second = reach_in(&turn, &lane.sources.second, bars, lane.i, more);
-    let third = reach_in(&turn, &lane.sources.third, bars, lane.i, more);
-    let kind = kind_of(turn.node);
-    fill_values(kind, window_of(turn.node), first, second, third, out);
+    let first = reach_in(&term_session, &lane.sources.first, bars, lane.i, more);
+    let second = reach_in(&term_session, &lane.sources.second, bars, lane.i, more);
+    let third = reach_in(&term_session, &lane.sources.third, bars, lane.i, more);
+    let kind = kind_of(term_session.node);
+    fill_values(
+        kind,
+        window_of(term_session.node),
+        first,
+        second,
+        third,
+        out,
+    );
 }

@@ -12,7 +12,7 @@ use Rattle.pl_spec.specs.Parts.{sid_at}
 use Rattle.pl_pipeline.specs.Graph.Used.{output}
 use Rattle.pl_pipeline.specs.Table.{Pipeline, NamedColumn}
 use Rattle.pl_spec.specs.World.{World}
-use Rattle.pl_derivation.specs.Facts.Fact.{Worth}
+use Rattle.pl_derivation.specs.Facts.Fact.{TermValue}
 use Rattle.pl_derivation.specs.Walks.{facts_for}
 use Rattle.pl_laws.proofs.Uses.{used_terms-complete}
 use Rattle.pl_terms.specs.declared.node.TermId.{TermId}
@@ -136,10 +136,10 @@ within : (n : ℕ) → n ≤ most_lines → first_fault (counted n ∷ []) ≡ N
 within n l = rw (le-ltb most_lines n l) refl
 
 module _ (w : World) (p : Pipeline) (q : ExplainRequest) (t d : ℕ) (is : column_term p q.column ≡ Some t) (on : session_of w.days q.date.day ≡ Some d) where
-  pub too-long : most_lines < length (facts_for w p (Worth t q.sid (pos d))) → first_fault (lines_step w p q ∷ []) ≡ Some (Passed limits.Derivation)
+  pub too-long : most_lines < length (facts_for w p (TermValue t q.sid (pos d))) → first_fault (lines_step w p q ∷ []) ≡ Some (Passed limits.Derivation)
   unfolding lines_step
-  too-long l = rw (is, on) (past (length (facts_for w p (Worth t q.sid (pos d)))) l)
+  too-long l = rw (is, on) (past (length (facts_for w p (TermValue t q.sid (pos d)))) l)
 
-  pub short : length (facts_for w p (Worth t q.sid (pos d))) ≤ most_lines → first_fault (lines_step w p q ∷ []) ≡ None
+  pub short : length (facts_for w p (TermValue t q.sid (pos d))) ≤ most_lines → first_fault (lines_step w p q ∷ []) ≡ None
   unfolding lines_step
-  short l = rw (is, on) (within (length (facts_for w p (Worth t q.sid (pos d)))) l)
+  short l = rw (is, on) (within (length (facts_for w p (TermValue t q.sid (pos d)))) l)

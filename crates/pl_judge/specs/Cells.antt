@@ -8,7 +8,7 @@ use Rattle.pl_pipeline.specs.Term.{term_at}
 use Rattle.pl_pipeline.specs.Table.{Pipeline}
 use Rattle.pl_spec.specs.World.{World}
 use Rattle.pl_lifetimes.specs.Assets.{sid_of}
-use Rattle.pl_derivation.specs.Facts.Fact.{Worth}
+use Rattle.pl_derivation.specs.Facts.Fact.{TermValue}
 use Rattle.pl_derivation.specs.Walks.{facts_for}
 use Rattle.pl_words.specs.declared.request.RangeDate.TheVariants.{At}
 use Rattle.pl_words.specs.Request.{ExplainRequest}
@@ -46,5 +46,5 @@ cell_steps p days assets q =
 -- the derivation of the cell has no more lines than a derivation may have
 unfoldable pub lines_step : World → Pipeline → ExplainRequest → Step
 lines_step w p q =
-    let cell = Worth (term_asked p q) q.sid (pos (index_of w.days q.date.day)) in
+    let cell = TermValue (term_asked p q) q.sid (pos (index_of w.days q.date.day)) in
     rule (when (nat_lt most_lines (length (facts_for w p cell))) (Passed limits.Derivation))

@@ -15,7 +15,7 @@ use Rattle.pl_records.proofs.Readings.{rows-keep, under_ok}
 use Rattle.pl_records.proofs.RuleTables.{told_ok, ok_or-Ok}
 use Rattle.pl_records.proofs.Sorts.{OwnKeys-none, OwnKeys-more, sorted-rises, sorted-permutes, length-sorted_by}
 use Rattle.pl_spec.proofs.SidsRead.{decimal-sid_in}
-use Rattle.pl_lifetimes.specs.Assets.{Rule, breaks, asset_in, says_asset, rows_in, assets_of, AreAssets, sid_of, header}
+use Rattle.pl_lifetimes.specs.Assets.{Rule, breaks, asset_in, asset_or_rule, rows_in, assets_of, AreAssets, sid_of, header}
 use Rattle.pl_lifetimes.specs.Assets as rules
 use Rattle.pl_spec.specs.Limits.{most_assets}
 
@@ -26,9 +26,9 @@ pub record Says (before : List AssetRow) (r : Record) (a : AssetRow) : Type 0 wh
   pub in_order : int_lt a.end a.start ≡ false
   pub own_sid : list_any (λ x. sid_of x == a.sid) before ≡ false
 
-pub says_asset-ok : (before : List AssetRow) (r : Record) (a : AssetRow) → says_asset before r ≡ Ok a → Says before r a
-unfolding says_asset
-says_asset-ok before r a e =
+pub asset_or_rule-ok : (before : List AssetRow) (r : Record) (a : AssetRow) → asset_or_rule before r ≡ Ok a → Says before r a
+unfolding asset_or_rule
+asset_or_rule-ok before r a e =
     let k = told_ok rules.rules (breaks before r) (ok_or (asset_in r) rules.BadField) a e in
     let at : asset_in r ≡ Some a = ok_or-Ok (asset_in r) rules.BadField a k.1 in
     record { few = k.0.0; fields = at; in_order = rw at at k.0.1.1.0; own_sid = rw at at k.0.1.1.1.0 }
@@ -36,8 +36,8 @@ says_asset-ok before r a e =
 pub OwnSids-read : (records : List Record) (rows : List AssetRow) → rows_in records ≡ Ok rows → HasOwnKeys sid_of rows
 unfolding rows_in
 OwnSids-read records rows e =
-    rows-keep (HasOwnKeys sid_of) 2 says_asset (λ before r a own s. OwnKeys-more sid_of before a own (says_asset-ok before r a s).own_sid) _ [] rows (OwnKeys-none sid_of)
-    (under_ok header rules.BadHeader says_asset records rows e).1
+    rows-keep (HasOwnKeys sid_of) 2 asset_or_rule (λ before r a own s. OwnKeys-more sid_of before a own (asset_or_rule-ok before r a s).own_sid) _ [] rows (OwnKeys-none sid_of)
+    (under_ok header rules.BadHeader asset_or_rule records rows e).1
 
 few_more : (before : List AssetRow) (a : AssetRow) → nat_le most_assets (length before) ≡ false → length (before ++ a ∷ []) ≤ most_assets
 few_more before a n = let small : length before < most_assets = grind (arith, nat_tests) in omega (arith, length-append before (a ∷ []))
@@ -45,8 +45,8 @@ few_more before a n = let small : length before < most_assets = grind (arith, na
 few-read : (records : List Record) (rows : List AssetRow) → rows_in records ≡ Ok rows → length rows ≤ most_assets
 unfolding rows_in
 few-read records rows e =
-    rows-keep (λ rs. length rs ≤ most_assets) 2 says_asset (λ before r a n s. few_more before a (says_asset-ok before r a s).few) _ [] rows (omega arith)
-    (under_ok header rules.BadHeader says_asset records rows e).1
+    rows-keep (λ rs. length rs ≤ most_assets) 2 asset_or_rule (λ before r a n s. few_more before a (asset_or_rule-ok before r a s).few) _ [] rows (omega arith)
+    (under_ok header rules.BadHeader asset_or_rule records rows e).1
 
 -- the sid of a record is one of 32 bits
 small_sid : (r : Record) (a : AssetRow) → asset_in r ≡ Some a → a.sid < 2 ^ 32
@@ -76,9 +76,9 @@ SmallSids rows = All (λ a. a.sid < 2 ^ 32) rows
 small-read : (records : List Record) (rows : List AssetRow) → rows_in records ≡ Ok rows → SmallSids rows
 unfolding rows_in
 small-read records rows e =
-    rows-keep SmallSids 2 says_asset
-    (λ before r a all s. All-append (λ (b : AssetRow). b.sid < 2 ^ 32) before (a ∷ []) all (All-one a (small_sid r a (says_asset-ok before r a s).fields))) _ [] rows (λ k d h. absurd (omega arith))
-    (under_ok header rules.BadHeader says_asset records rows e).1
+    rows-keep SmallSids 2 asset_or_rule
+    (λ before r a all s. All-append (λ (b : AssetRow). b.sid < 2 ^ 32) before (a ∷ []) all (All-one a (small_sid r a (asset_or_rule-ok before r a s).fields))) _ [] rows (λ k d h. absurd (omega arith))
+    (under_ok header rules.BadHeader asset_or_rule records rows e).1
   where
     All-one : (a : AssetRow) → a.sid < 2 ^ 32 → SmallSids (a ∷ [])
     All-one a h zero d l = h

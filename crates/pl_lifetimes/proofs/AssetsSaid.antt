@@ -18,7 +18,7 @@ use Rattle.pl_records.proofs.RuleTables.{and_then_some, map_some, lacks-tells, h
 use Rattle.pl_records.proofs.Sorts.{sorted-are, sorted-fault}
 use Rattle.pl_spec.proofs.DatesRead.{date_in-IsDate, IsDate-date_in}
 use Rattle.pl_spec.proofs.SidsRead.{sid_in-decimal, decimal-sid_in}
-use Rattle.pl_lifetimes.specs.Assets.{Rule, breaks, asset_in, says_asset, rows_in, assets_of, sid_of, header}
+use Rattle.pl_lifetimes.specs.Assets.{Rule, breaks, asset_in, asset_or_rule, rows_in, assets_of, sid_of, header}
 use Rattle.pl_lifetimes.specs.Assets as rules
 use Rattle.pl_lifetimes.specs.Rules.{IsAssetRecord, IsAsset, Breaks, AreAssetsOf, IsAssetsFault}
 use Rattle.pl_lifetimes.proofs.AssetsRead.{OwnSids-read}
@@ -89,8 +89,8 @@ tells before r rules.BadField = lacks-tells asset_in IsAssetRecord form r
 tells before r rules.StartAfterEnd = has-tells asset_in IsAssetRecord form _ _ late_tells r
 tells before r rules.DuplicateSid = has-tells asset_in IsAssetRecord form _ _ (sid_tells before) r
 
-pub assets_judged : Judges IsAsset (λ before r. IsFirstBroken rules.rules (Breaks before r)) says_asset
-unfolding says_asset
+pub assets_judged : Judges IsAsset (λ before r. IsFirstBroken rules.rules (Breaks before r)) asset_or_rule
+unfolding asset_or_rule
 assets_judged = Judges-table asset_in IsAssetRecord form rules.rules rules.BadField breaks Breaks tells (λ before r kept none. kept.1.0 none)
 
 -- ---- and of a file
@@ -103,7 +103,7 @@ assets-are records assets = (there, back)
     sorted = sorted-are sid_of (rows_in records) assets (OwnSids-read records)
 
     under : (rows : List AssetRow) → (rows_in records ≡ Ok rows) ↔ AreRowsUnder header IsAsset records rows
-    under rows = under-are header rules.BadHeader IsAsset (λ before r. IsFirstBroken rules.rules (Breaks before r)) says_asset assets_judged records rows
+    under rows = under-are header rules.BadHeader IsAsset (λ before r. IsFirstBroken rules.rules (Breaks before r)) asset_or_rule assets_judged records rows
 
     there : assets_of records ≡ Ok assets → AreAssetsOf records assets
     there e = let it = sorted.0 e in record { rows = it.0; read = (under it.0).0 it.1; same = it.2; ascend = it.3 }
@@ -119,5 +119,5 @@ assets-fault records fault =
     told : ((rows_in records >>= λ rows. Ok (sorted_by sid_of rows)) ≡ Err fault) ↔ (rows_in records ≡ Err fault)
     told = sorted-fault sid_of (rows_in records) fault
 
-    under : (rows_under header rules.BadHeader says_asset records ≡ Err fault) ↔ IsAssetsFault records fault
-    under = under-fault header rules.BadHeader IsAsset (λ before r. IsFirstBroken rules.rules (Breaks before r)) says_asset assets_judged records fault
+    under : (rows_under header rules.BadHeader asset_or_rule records ≡ Err fault) ↔ IsAssetsFault records fault
+    under = under-fault header rules.BadHeader IsAsset (λ before r. IsFirstBroken rules.rules (Breaks before r)) asset_or_rule assets_judged records fault

@@ -41,12 +41,12 @@ breaks before r StartAfterEnd = has (λ a. int_lt a.end a.start) (asset_in r)
 breaks before r DuplicateSid = has (λ a. list_any (λ x. sid_of x == a.sid) before) (asset_in r)
 
 -- the asset of a record after the assets before it, or the first rule that it breaks
-unfoldable pub says_asset : List AssetRow → Record → Result AssetRow Rule
-says_asset before r = first_broken rules (breaks before r) (ok_or (asset_in r) BadField)
+unfoldable pub asset_or_rule : List AssetRow → Record → Result AssetRow Rule
+asset_or_rule before r = first_broken rules (breaks before r) (ok_or (asset_in r) BadField)
 
 -- the assets of a file in its order, or its first fault
 unfoldable pub rows_in : List Record → Result (List AssetRow) (Fault Rule)
-rows_in records = rows_under header BadHeader says_asset records
+rows_in records = rows_under header BadHeader asset_or_rule records
 
 -- the same by ascending sid
 unfoldable pub assets_of : List Record → Result (List AssetRow) (Fault Rule)

@@ -5,7 +5,7 @@ ghost use Rattle.pl_spec.specs.Limits.{most_assets};
 ghost use Rattle.pl_records.specs.Reading.{Answers, at_line, rows_of};
 ghost use Rattle.pl_records.specs.Sorted.{HasOwnKeys, sorted_by};
 ghost use Rattle.pl_records.specs.Records.{csv_records};
-ghost use Rattle.pl_lifetimes.specs.Assets.{asset_in, assets_of, rows_in, says_asset, sid_of};
+ghost use Rattle.pl_lifetimes.specs.Assets.{asset_in, assets_of, rows_in, asset_or_rule, sid_of};
 ghost use Rattle.pl_lifetimes.specs.Faults.{fault_of};
 ghost use Rattle.pl_lifetimes.specs.Seen.{AreSids};
 
@@ -48,7 +48,7 @@ fn read_rows(alloc: Global, bytes: &[u8]) -> Result<Vec<AssetRow>, AssetsError>
 
 // The assets of the records after the header.
 fn rows_behind(alloc: Global, records: &mut Records) -> Result<Vec<AssetRow>, AssetsError>
-    ensures { Answers (λ v. v.items) fault_of result (rows_of 2 says_asset records.old.left) }
+    ensures { Answers (λ v. v.items) fault_of result (rows_of 2 asset_or_rule records.old.left) }
 {
     let mut rows = Vec::new(alloc);
     let mut sids = HashSet::new(alloc);
@@ -60,7 +60,7 @@ fn rows_behind(alloc: Global, records: &mut Records) -> Result<Vec<AssetRow>, As
 }
 
 // The asset of the record that was read last, after the assets before it, whose sids are given.
-#[tactic(auto, unfolding(crate::specs::Assets::says_asset))]
+#[tactic(auto, unfolding(crate::specs::Assets::asset_or_rule))]
 fn next_asset(
     before: &[AssetRow],
     sids: &mut HashSet<u32>,
@@ -71,7 +71,7 @@ fn next_asset(
     ensures room { OnOk result (length before.now < most_assets) }
     ensures sids { IfOk result (λ a. AreSids sids.new (before.now ++ a ∷ [])) }
     ensures exact { Answers (λ a. a) fault_of result
-        (at_line (2 + length before.now) (says_asset before.now row.now.fields)) }
+        (at_line (2 + length before.now) (asset_or_rule before.now row.now.fields)) }
 {
     let line = before.len() as u32 + 2;
     if before.len() >= MOST_ASSETS {

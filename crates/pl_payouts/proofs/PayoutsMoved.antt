@@ -10,7 +10,7 @@ use Rattle.pl_records.specs.RuleTable.{lacks}
 use Rattle.pl_records.proofs.Orders.{Fits, under-permuted}
 use Rattle.pl_records.proofs.RuleTables.{told_ok, ok_or-Ok}
 use Rattle.pl_payouts.specs.declared.reading.Dividend.{Dividend}
-use Rattle.pl_payouts.specs.Payouts.{breaks, col_in, dividend_in, header, is_above_0, payouts_of, says_dividend}
+use Rattle.pl_payouts.specs.Payouts.{breaks, col_in, dividend_in, header, is_above_0, payouts_of, dividend_or_rule}
 use Rattle.pl_payouts.specs.Payouts as rules
 
 -- payouts may be alike
@@ -25,22 +25,22 @@ record Keeps (assets : List AssetRow) (before : List Dividend) (r : Record) (d :
   pub above : not (is_above_0 d.amount) ≡ false
 
 module _ (assets : List AssetRow) where
-  keeps-said : (before : List Dividend) (r : Record) (d : Dividend) → says_dividend assets before r ≡ Ok d → Keeps assets before r d
-  unfolding says_dividend
+  keeps-said : (before : List Dividend) (r : Record) (d : Dividend) → dividend_or_rule assets before r ≡ Ok d → Keeps assets before r d
+  unfolding dividend_or_rule
   keeps-said before r d e =
       let k = told_ok rules.rules (breaks assets before r) (ok_or (dividend_in r) rules.BadField) d e in
       let at : dividend_in r ≡ Some d = ok_or-Ok (dividend_in r) rules.BadField d k.1 in
       record { few = k.0.0; written = at; asset = rw at at k.0.1.1.0; above = rw at at k.0.1.1.1.0 }
 
-  said-keeps : (before : List Dividend) (r : Record) (d : Dividend) → Keeps assets before r d → says_dividend assets before r ≡ Ok d
-  unfolding says_dividend
+  said-keeps : (before : List Dividend) (r : Record) (d : Dividend) → Keeps assets before r d → dividend_or_rule assets before r ≡ Ok d
+  unfolding dividend_or_rule
   said-keeps before r d h = rw (h.few, h.written, h.asset, h.above) refl
 
   -- the record is this payout, whatever the others are
   abbrev IsOne : Record → Dividend → Type 0
   IsOne r d = Keeps assets [] r d
 
-  tells : (before : List Dividend) (r : Record) (d : Dividend) → (says_dividend assets before r ≡ Ok d) ↔ Fits most_payouts IsOne clash before r d
+  tells : (before : List Dividend) (r : Record) (d : Dividend) → (dividend_or_rule assets before r ≡ Ok d) ↔ Fits most_payouts IsOne clash before r d
   tells before r d = (there, back)
     where
       room : (n : ℕ) → nat_le most_payouts n ≡ false → n < most_payouts
@@ -49,7 +49,7 @@ module _ (assets : List AssetRow) where
       some : (n : ℕ) → n < most_payouts → nat_le most_payouts n ≡ false
       some n h = grind (arith, nat_tests)
 
-      there : says_dividend assets before r ≡ Ok d → Fits most_payouts IsOne clash before r d
+      there : dividend_or_rule assets before r ≡ Ok d → Fits most_payouts IsOne clash before r d
       there e =
           let k = keeps-said before r d e in
           record {
@@ -58,7 +58,7 @@ module _ (assets : List AssetRow) where
             own = list_any_none (clash d) before (λ i x l. refl);
           }
 
-      back : Fits most_payouts IsOne clash before r d → says_dividend assets before r ≡ Ok d
+      back : Fits most_payouts IsOne clash before r d → dividend_or_rule assets before r ≡ Ok d
       back h =
           let k = h.is in
           said-keeps before r d (record { few = some (length before) h.few; written = k.written; asset = k.asset; above = k.above })
@@ -67,4 +67,4 @@ module _ (assets : List AssetRow) where
       → (found : List Dividend) × (payouts_of assets (first ∷ others) ≡ Ok found) × IsPermutation rows found
   unfolding payouts_of
   payouts-moved first records others m rows e =
-      under-permuted (says_dividend assets) most_payouts IsOne clash (λ x y. refl) tells header rules.BadHeader first records others m rows e
+      under-permuted (dividend_or_rule assets) most_payouts IsOne clash (λ x y. refl) tells header rules.BadHeader first records others m rows e

@@ -17,7 +17,7 @@ use Rattle.pl_lifetimes.specs.Assets.{HasSid}
 use Rattle.pl_lifetimes.proofs.SidColumns.{sid_form}
 use Rattle.pl_payouts.specs.declared.reading.Dividend.{Dividend}
 use Rattle.pl_spec.specs.Limits.{most_payouts}
-use Rattle.pl_payouts.specs.Payouts.{Rule, breaks, col_in, dividend_in, header, is_above_0, says_dividend, payouts_of, ArePayouts, AreKnown, IsPaid}
+use Rattle.pl_payouts.specs.Payouts.{Rule, breaks, col_in, dividend_in, header, is_above_0, dividend_or_rule, payouts_of, ArePayouts, AreKnown, IsPaid}
 use Rattle.pl_payouts.specs.Payouts as rules
 use Rattle.pl_payouts.specs.Rules.{IsDividendRecord, IsDividend, Breaks, ArePayoutsOf, IsPayoutsFault}
 use Rattle.pl_payouts.proofs.DividendFields.{dividend_form}
@@ -40,8 +40,8 @@ module _ (assets : List AssetRow) (up : AreAssets assets) where
       has-tells dividend_in IsDividendRecord dividend_form _ _ (lacks-tells (col_in assets) (λ d col. HasSid assets col d.sid) (λ d. sid_form assets up d.sid)) r
   tells before r rules.NotPositive = has-tells dividend_in IsDividendRecord dividend_form _ _ above_tells r
 
-  pub payouts_judged : Judges (IsDividend assets) (λ before r. IsFirstBroken rules.rules (Breaks assets before r)) (says_dividend assets)
-  unfolding says_dividend
+  pub payouts_judged : Judges (IsDividend assets) (λ before r. IsFirstBroken rules.rules (Breaks assets before r)) (dividend_or_rule assets)
+  unfolding dividend_or_rule
   payouts_judged =
       Judges-table dividend_in IsDividendRecord dividend_form rules.rules rules.BadField (breaks assets) (Breaks assets) tells (λ before r kept none. kept.1.0 none)
 
@@ -50,12 +50,12 @@ module _ (assets : List AssetRow) (up : AreAssets assets) where
   pub payouts-are : (records : List Record) (rows : List Dividend) → (payouts_of assets records ≡ Ok rows) ↔ ArePayoutsOf assets records rows
   unfolding payouts_of
   payouts-are records rows =
-      under-are header rules.BadHeader (IsDividend assets) (λ before r. IsFirstBroken rules.rules (Breaks assets before r)) (says_dividend assets) payouts_judged records rows
+      under-are header rules.BadHeader (IsDividend assets) (λ before r. IsFirstBroken rules.rules (Breaks assets before r)) (dividend_or_rule assets) payouts_judged records rows
 
   pub payouts-fault : (records : List Record) (fault : Fault Rule) → (payouts_of assets records ≡ Err fault) ↔ IsPayoutsFault assets records fault
   unfolding payouts_of
   payouts-fault records fault =
-      under-fault header rules.BadHeader (IsDividend assets) (λ before r. IsFirstBroken rules.rules (Breaks assets before r)) (says_dividend assets) payouts_judged records fault
+      under-fault header rules.BadHeader (IsDividend assets) (λ before r. IsFirstBroken rules.rules (Breaks assets before r)) (dividend_or_rule assets) payouts_judged records fault
 
 -- ---- what is kept of all rows
 
@@ -80,8 +80,8 @@ known assets up sid t = here (position (λ a. sid_of a == sid) assets) refl t
     here None e t = absurd (let bad : true ≡ false = t in cc)
     here (Some col) e t = (col, (sid_form assets up sid col).0 e)
 
-kept-more : (assets : List AssetRow) → AreAssets assets → (before : List Dividend) (r : Record) (d : Dividend) → Kept assets before → says_dividend assets before r ≡ Ok d → Kept assets (before ++ d ∷ [])
-unfolding says_dividend
+kept-more : (assets : List AssetRow) → AreAssets assets → (before : List Dividend) (r : Record) (d : Dividend) → Kept assets before → dividend_or_rule assets before r ≡ Ok d → Kept assets (before ++ d ∷ [])
+unfolding dividend_or_rule
 kept-more assets up before r d h s =
     let k = told_ok rules.rules (breaks assets before r) (ok_or (dividend_in r) rules.BadField) d s in
     let at : dividend_in r ≡ Some d = ok_or-Ok (dividend_in r) rules.BadField d k.1 in (
@@ -95,4 +95,4 @@ kept-none assets = (record { few = omega arith; paid = λ k d h. absurd (omega a
 pub Kept-read : (assets : List AssetRow) → AreAssets assets → (records : List Record) (rows : List Dividend) → payouts_of assets records ≡ Ok rows → Kept assets rows
 unfolding payouts_of
 Kept-read assets up records rows e =
-    rows-keep (Kept assets) 2 (says_dividend assets) (kept-more assets up) _ [] rows (kept-none assets) (under_ok header rules.BadHeader (says_dividend assets) records rows e).1
+    rows-keep (Kept assets) 2 (dividend_or_rule assets) (kept-more assets up) _ [] rows (kept-none assets) (under_ok header rules.BadHeader (dividend_or_rule assets) records rows e).1

@@ -54,12 +54,12 @@ breaks assets before r UnknownSid = has (λ d. lacks (col_in assets d)) (dividen
 breaks assets before r NotPositive = has (λ d. not (is_above_0 d.amount)) (dividend_in r)
 
 -- the payout of a record after the payouts before it, or the first rule that it breaks
-unfoldable pub says_dividend : List AssetRow → List Dividend → Record → Result Dividend Rule
-says_dividend assets before r = first_broken rules (breaks assets before r) (ok_or (dividend_in r) BadField)
+unfoldable pub dividend_or_rule : List AssetRow → List Dividend → Record → Result Dividend Rule
+dividend_or_rule assets before r = first_broken rules (breaks assets before r) (ok_or (dividend_in r) BadField)
 
 -- the payouts of a file in its order, or its first fault
 unfoldable pub payouts_of : List AssetRow → List Record → Result (List Dividend) (Fault Rule)
-payouts_of assets records = rows_under header BadHeader (says_dividend assets) records
+payouts_of assets records = rows_under header BadHeader (dividend_or_rule assets) records
 
 -- ---- payouts as they are kept
 

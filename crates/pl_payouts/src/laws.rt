@@ -7,7 +7,7 @@ ghost use Rattle.pl_records.specs.Reading.{Record, Fault, Judges};
 ghost use Rattle.pl_records.specs.RuleTable.{IsFirstBroken};
 ghost use Rattle.pl_lifetimes.specs.Assets.{AreAssets};
 ghost use Rattle.pl_payouts.specs.declared.reading.Dividend.{Dividend};
-ghost use Rattle.pl_payouts.specs.Payouts.{Rule, payouts_of, rules, says_dividend};
+ghost use Rattle.pl_payouts.specs.Payouts.{Rule, payouts_of, rules, dividend_or_rule};
 ghost use Rattle.pl_payouts.specs.Rules.{ArePayoutsOf, Breaks, IsDividend, IsPayoutsFault};
 
 /// A file is read as payouts exactly where it has its header and each further record is a payout of an asset,
@@ -16,7 +16,7 @@ ghost use Rattle.pl_payouts.specs.Rules.{ArePayoutsOf, Breaks, IsDividend, IsPay
 pub fn payouts_in_plain_words()
     ensures record { (assets : List AssetRow) → AreAssets assets
         → Judges (IsDividend assets) (λ before r. IsFirstBroken rules (Breaks assets before r))
-        (says_dividend assets) }
+        (dividend_or_rule assets) }
     ensures payouts { (assets : List AssetRow) → AreAssets assets → (records : List Record)
         (rows : List Dividend) → (payouts_of assets records ≡ Ok rows)
         ↔ ArePayoutsOf assets records rows }

@@ -5,7 +5,7 @@ ghost use Rattle.pl_spec.specs.Limits.{most_payouts};
 ghost use Rattle.pl_records.specs.Reading.{Answers, at_line, rows_of};
 ghost use Rattle.pl_records.specs.Records.{csv_records};
 ghost use Rattle.pl_lifetimes.specs.Assets.{AreAssets};
-ghost use Rattle.pl_payouts.specs.Payouts.{amount_in, dividend_in, is_above_0, payouts_of, says_dividend};
+ghost use Rattle.pl_payouts.specs.Payouts.{amount_in, dividend_in, is_above_0, payouts_of, dividend_or_rule};
 ghost use Rattle.pl_payouts.specs.Faults.{fault_of};
 
 use crate::MOST_PAYOUTS;
@@ -47,7 +47,8 @@ fn rows_behind(
     records: &mut Records,
     assets: &Assets,
 ) -> Result<Vec<Dividend>, PayoutsError>
-    ensures { Answers (λ v. v.items) fault_of result (rows_of 2 (says_dividend assets.now) records.old.left) }
+    ensures { Answers (λ v. v.items) fault_of result
+        (rows_of 2 (dividend_or_rule assets.now) records.old.left) }
 {
     let mut rows = Vec::new(alloc);
     'rows: while records.next()? {
@@ -58,7 +59,7 @@ fn rows_behind(
 }
 
 // The payout of the record that was read last, after those before it.
-#[tactic(auto, unfolding(crate::specs::Payouts::says_dividend))]
+#[tactic(auto, unfolding(crate::specs::Payouts::dividend_or_rule))]
 fn next_dividend(
     before: &[Dividend],
     row: &Records,
@@ -67,7 +68,7 @@ fn next_dividend(
     requires { length before.now ≤ most_payouts }
     ensures room { OnOk result (length before.now < most_payouts) }
     ensures exact { Answers (λ d. d) fault_of result
-        (at_line (2 + length before.now) (says_dividend assets.now before.now row.now.fields)) }
+        (at_line (2 + length before.now) (dividend_or_rule assets.now before.now row.now.fields)) }
 {
     let line = before.len() as u32 + 2;
     if before.len() >= MOST_PAYOUTS {

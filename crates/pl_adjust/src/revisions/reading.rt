@@ -4,7 +4,7 @@ ghost use Rattle.std.specs.Prelude.{◌≡◌, ◌+◌, ◌<◌, ◌≤◌, [], 
 ghost use Rattle.pl_spec.specs.Limits.{most_revisions};
 ghost use Rattle.pl_records.specs.Reading.{Answers, at_line, rows_of};
 ghost use Rattle.pl_records.specs.Records.{csv_records};
-ghost use Rattle.pl_adjust.specs.Revisions.{AreRevisions, revisions_of, says_revision};
+ghost use Rattle.pl_adjust.specs.Revisions.{AreRevisions, revisions_of, revision_or_rule};
 ghost use Rattle.pl_adjust.specs.RevisionFaults.{fault_of};
 
 use crate::revisions::error::RevisionsError;
@@ -63,7 +63,7 @@ fn rows_behind(
     assets: &Assets,
 ) -> Result<Rows, RevisionsError>
     ensures { Answers (λ r. r) fault_of result
-        (rows_of 2 (says_revision sessions.now assets.now) records.old.left) }
+        (rows_of 2 (revision_or_rule sessions.now assets.now) records.old.left) }
 {
     let mut rows = Rows::new(alloc);
     'rows: while records.next()? {
@@ -74,7 +74,7 @@ fn rows_behind(
 }
 
 // The revision of the record that was read last, after those before it.
-#[tactic(auto, unfolding(crate::specs::Revisions::says_revision))]
+#[tactic(auto, unfolding(crate::specs::Revisions::revision_or_rule))]
 fn next_revision(
     before: &Rows,
     row: &Records,
@@ -84,7 +84,8 @@ fn next_revision(
     requires { length before.now ≤ most_revisions }
     ensures room { OnOk result (length before.now < most_revisions) }
     ensures exact { Answers (λ r. r) fault_of result
-        (at_line (2 + length before.now) (says_revision sessions.now assets.now before.now row.now.fields)) }
+        (at_line (2 + length before.now)
+        (revision_or_rule sessions.now assets.now before.now row.now.fields)) }
 {
     let line = before.len() as u32 + 2;
     if before.len() >= MOST_REVISIONS {

@@ -5,7 +5,7 @@ ghost use Rattle.std.specs.List.{list_any};
 ghost use Rattle.pl_spec.specs.Limits.{most_labels};
 ghost use Rattle.pl_records.specs.Reading.{Answers, at_line, field, rows_of};
 ghost use Rattle.pl_records.specs.Records.{csv_records};
-ghost use Rattle.pl_assets.specs.Labels.{is_from, is_printable, label_in, label_rows_in, says_label, texts_of};
+ghost use Rattle.pl_assets.specs.Labels.{is_from, is_printable, label_in, label_rows_in, label_or_rule, texts_of};
 ghost use Rattle.pl_assets.specs.LabelFaults.{fault_of};
 ghost use Rattle.pl_assets.specs.LabelPlaces.{AreKeys, AreNumbered, shown_rows};
 ghost use Rattle.pl_assets.specs.LabelStarts.{label_from, row_from};
@@ -46,7 +46,7 @@ fn rows_behind(
     assets: &Assets,
 ) -> Result<LabelRows, LabelsError>
     ensures exact { Answers shown_rows fault_of result
-        (rows_of 2 (says_label assets.now) records.old.left) }
+        (rows_of 2 (label_or_rule assets.now) records.old.left) }
     ensures numbered { IfOk result AreNumbered }
     ensures texts { IfOk result (λ t. t.texts ≡ texts_of (shown_rows t)) }
 {
@@ -68,7 +68,7 @@ fn put_rows(
     requires texts { rows.old.texts ≡ texts_of (shown_rows rows.old) }
     requires keys { AreKeys keys.old rows.old.places.items }
     ensures exact { Answers (λ u. shown_rows rows.new) fault_of result
-        (rows_of 2 (says_label assets.now) records.old.left) }
+        (rows_of 2 (label_or_rule assets.now) records.old.left) }
     ensures numbered { OnOk result (AreNumbered rows.new) }
     ensures texts { OnOk result (rows.new.texts ≡ texts_of (shown_rows rows.new)) }
 {
@@ -89,7 +89,7 @@ struct ColumnStart {
 
 // The start of the label of the record that was read last, after the rows before it, whose keys
 // are given.
-#[tactic(auto, unfolding(crate::specs::Labels::says_label))]
+#[tactic(auto, unfolding(crate::specs::Labels::label_or_rule))]
 fn next_start(
     before: &LabelRows,
     keys: &HashSet<u128>,
@@ -103,7 +103,7 @@ fn next_start(
     ensures four { OnOk result (length row.now.fields ≡ 4) }
     ensures exact { Answers (row_from row.now.fields) fault_of result
         (at_line (2 + length (shown_rows before.now))
-        (says_label assets.now (shown_rows before.now) row.now.fields)) }
+        (label_or_rule assets.now (shown_rows before.now) row.now.fields)) }
 {
     let line = before.places.len() as u32 + 2;
     if before.places.len() >= MOST_LABELS {

@@ -3,7 +3,7 @@ use Rattle.std.proofs.lemmas.Result.{err_from_is_err_and}
 use Rattle.pl_records.specs.Reading.{rows_of}
 use Rattle.pl_records.proofs.Readings.{goes_on, stops, is_done}
 use Rattle.pl_spec.specs.Limits.{most_bars}
-use Rattle.pl_bars.specs.Bars.{says_bar}
+use Rattle.pl_bars.specs.Bars.{bar_or_rule}
 use Rattle.pl_bars.specs.Faults.{fault_of}
 use Rattle.pl_bars.proofs.BarOrder.{rise_more}
 use Rattle.pl_bars.proofs.reading.rows_behind.Goals as goal
@@ -12,7 +12,7 @@ pub returns-in_err-bar : goal.returns-in_err-bar
 returns-in_err-bar c =
     let more = rw c.if-branch.true at c.in_ok-next.ensures in
     let p = err_from_is_err_and c.from_residual-in_err-bar.result c.from_residual-in_err-bar.ensures.1 in
-    rw (p.1, p.2) (stops 2 (says_bar c.args.sessions.now c.args.assets.now) c.rows.rows.items c.rows.records.left c.next.new.self.left c.next.new.self.fields (fault_of c.in_err-bar.field-0.0) _ more.ok (rw c.deref.ensures.value at c.in_err-bar.ensures.exact) c.rows.invariant.rest)
+    rw (p.1, p.2) (stops 2 (bar_or_rule c.args.sessions.now c.args.assets.now) c.rows.rows.items c.rows.records.left c.next.new.self.left c.next.new.self.fields (fault_of c.in_err-bar.field-0.0) _ more.ok (rw c.deref.ensures.value at c.in_err-bar.ensures.exact) c.rows.invariant.rest)
 
 pub rows-preserved : goal.rows-preserved
 rows-preserved c =
@@ -20,7 +20,7 @@ rows-preserved c =
     let items : c.push.new.self.items ≡ c.rows.rows.items ++ c.in_ok-bar.bar ∷ [] = c.in_ok-push.ensures.items in
     let room : length c.rows.rows.items < most_bars = rw c.deref.ensures.value at c.in_ok-bar.ensures.room in
     record {
-      rest = rw items (goes_on 2 (says_bar c.args.sessions.now c.args.assets.now) c.rows.rows.items c.rows.records.left c.next.new.self.left c.next.new.self.fields c.in_ok-bar.bar _ more.ok (rw c.deref.ensures.value at c.in_ok-bar.ensures.exact) c.rows.invariant.rest);
+      rest = rw items (goes_on 2 (bar_or_rule c.args.sessions.now c.args.assets.now) c.rows.rows.items c.rows.records.left c.next.new.self.left c.next.new.self.fields c.in_ok-bar.bar _ more.ok (rw c.deref.ensures.value at c.in_ok-bar.ensures.exact) c.rows.invariant.rest);
       few = rw items (omega (arith, length-append c.rows.rows.items (c.in_ok-bar.bar ∷ [])));
       cols = c.in_ok-bar.ensures.cols;
       sessions = c.in_ok-bar.ensures.sessions;
@@ -31,4 +31,4 @@ rows-preserved c =
 pub returns : goal.returns
 returns c =
     let none = rw c.if-branch.false at c.in_ok-next.ensures in
-    is_done 2 (says_bar c.args.sessions.now c.args.assets.now) c.rows.rows.items c.rows.records.left (rows_of 2 (says_bar c.args.sessions.now c.args.assets.now) c.args.records.now.left) none.ok.0 c.rows.invariant.rest
+    is_done 2 (bar_or_rule c.args.sessions.now c.args.assets.now) c.rows.rows.items c.rows.records.left (rows_of 2 (bar_or_rule c.args.sessions.now c.args.assets.now) c.args.records.now.left) none.ok.0 c.rows.invariant.rest

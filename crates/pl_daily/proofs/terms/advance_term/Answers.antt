@@ -1,6 +1,6 @@
 use Rattle.std.proofs.Common.{◌<◌, ◌∙◌, length, get_or, sym, subst, arith}
 use Rattle.std.proofs.lemmas.Option.{slice_get-get_or}
-use Rattle.pl_day_rows.specs.declared.turn.TermCells.{TermCells}
+use Rattle.pl_day_rows.specs.declared.term_day.TermCells.{TermCells}
 use Rattle.pl_day_rows.specs.Held.{AreTermCells}
 use Rattle.pl_daily.specs.Terms.{assets_at, pipeline_at}
 use Rattle.pl_daily.proofs.Followed.{rooms_stay, term_followed, terms_more}

@@ -7,8 +7,8 @@ use Rattle.pl_daily.specs.Terms.{pipeline_at}
 use Rattle.pl_daily.proofs.Placed.{cells_at, moment_of, row_at, stands_at}
 use Rattle.pl_daily.proofs.terms.term_row.Goals as goal
 
-pub fill_row-requires-clause-turn : goal.fill_row-requires-clause-turn
-fill_row-requires-clause-turn c =
+pub fill_row-requires-clause-term_day : goal.fill_row-requires-clause-term_day
+fill_row-requires-clause-term_day c =
     let l = c.args.lent.now in
     let k = c.args.term.0 in
     let n = c.node.result.now in

@@ -7,121 +7,121 @@ use Rattle.pl_pointwise.specs.Operands.{AreOperands, IsOperation, operation}
 use Rattle.pl_cross.specs.Arrays.{sid_in}
 use Rattle.pl_values.specs.Families.{IsOf, sid_flag, code_flag}
 use Rattle.pl_values.proofs.Rows.{constant-given, sid-given, label-known, number-known, codes-long, code-read, test-given, point-asks, point-given}
-use Rattle.pl_day_rows.specs.Turns.{assets_at, node_at, pipeline_at, sids_at}
+use Rattle.pl_day_rows.specs.TermDays.{assets_at, node_at, pipeline_at, sids_at}
 use Rattle.pl_day_rows.proofs.Given.{node_is, input_read, rows_read, label_given, number_given, start_long, start_given}
 use Rattle.pl_day_rows.proofs.families.given_row.Goals as goal
 
 pub label_name-requires : goal.label_name-requires
 label_name-requires c =
-    let v = c.requires.turn.0 in
-    let is = c.requires.turn.1 in
-    let kind = subst (IsOf (node_at c.args.turn.now).kind) c.in-Label.is c.requires.family in
-    label-known _ _ _ (node_is c.args.turn.now v is) c.in-Label.name kind
+    let v = c.requires.term_day.0 in
+    let is = c.requires.term_day.1 in
+    let kind = subst (IsOf (node_at c.args.term_day.now).kind) c.in-Label.is c.requires.family in
+    label-known _ _ _ (node_is c.args.term_day.now v is) c.in-Label.name kind
 
 pub label_name-requires-in-Number : goal.label_name-requires-in-Number
 label_name-requires-in-Number c =
-    let v = c.requires.turn.0 in
-    let is = c.requires.turn.1 in
-    let kind = subst (IsOf (node_at c.args.turn.now).kind) c.in-Number.is c.requires.family in
-    number-known _ _ _ (node_is c.args.turn.now v is) c.in-Number.name kind
+    let v = c.requires.term_day.0 in
+    let is = c.requires.term_day.1 in
+    let kind = subst (IsOf (node_at c.args.term_day.now).kind) c.in-Number.is c.requires.family in
+    number-known _ _ _ (node_is c.args.term_day.now v is) c.in-Number.name kind
 
 pub label_test_values-requires-clause-codes : goal.label_test_values-requires-clause-codes
 label_test_values-requires-clause-codes c j h =
-    let v = c.requires.turn.0 in
-    let is = c.requires.turn.1 in
-    let kind = subst (IsOf (node_at c.args.turn.now).kind) c.in-LabelTest.is c.requires.family in
-    let l = codes-long v.world (pipeline_at c.args.turn.now) (sids_at c.args.turn.now) c.args.turn.now.term.0 (node_at c.args.turn.now) (node_is c.args.turn.now v is) (λ j. j) (λ j. v.session)
-    (assets_at c.args.turn.now) c.row_at-codes.result.now
-    (input_read c.args.turn.now v is 0 _ c.row_at-codes.ensures) kind is.here.coded _ is.here.texts in
-    code-read v.world (pipeline_at c.args.turn.now) (sids_at c.args.turn.now) c.args.turn.now.term.0 (node_at c.args.turn.now) (node_is c.args.turn.now v is) (λ j. j) (λ j. v.session)
-    (assets_at c.args.turn.now) c.row_at-codes.result.now
-    (input_read c.args.turn.now v is 0 _ c.row_at-codes.ensures) kind is.here.coded _ is.here.texts j (omega (arith, h, l))
+    let v = c.requires.term_day.0 in
+    let is = c.requires.term_day.1 in
+    let kind = subst (IsOf (node_at c.args.term_day.now).kind) c.in-LabelTest.is c.requires.family in
+    let l = codes-long v.world (pipeline_at c.args.term_day.now) (sids_at c.args.term_day.now) c.args.term_day.now.term.0 (node_at c.args.term_day.now) (node_is c.args.term_day.now v is) (λ j. j) (λ j. v.session)
+    (assets_at c.args.term_day.now) c.row_at-codes.result.now
+    (input_read c.args.term_day.now v is 0 _ c.row_at-codes.ensures) kind is.here.coded _ is.here.texts in
+    code-read v.world (pipeline_at c.args.term_day.now) (sids_at c.args.term_day.now) c.args.term_day.now.term.0 (node_at c.args.term_day.now) (node_is c.args.term_day.now v is) (λ j. j) (λ j. v.session)
+    (assets_at c.args.term_day.now) c.row_at-codes.result.now
+    (input_read c.args.term_day.now v is 0 _ c.row_at-codes.ensures) kind is.here.coded _ is.here.texts j (omega (arith, h, l))
 
 pub label_test_values-requires-clause-many : goal.label_test_values-requires-clause-many
 label_test_values-requires-clause-many c =
-    let v = c.requires.turn.0 in
-    let is = c.requires.turn.1 in
-    let kind = subst (IsOf (node_at c.args.turn.now).kind) c.in-LabelTest.is c.requires.family in
-    codes-long v.world (pipeline_at c.args.turn.now) (sids_at c.args.turn.now) c.args.turn.now.term.0 (node_at c.args.turn.now) (node_is c.args.turn.now v is) (λ j. j) (λ j. v.session)
-    (assets_at c.args.turn.now) c.row_at-codes.result.now
-    (input_read c.args.turn.now v is 0 _ c.row_at-codes.ensures) kind is.here.coded _ is.here.texts ∙ sym c.requires.long
+    let v = c.requires.term_day.0 in
+    let is = c.requires.term_day.1 in
+    let kind = subst (IsOf (node_at c.args.term_day.now).kind) c.in-LabelTest.is c.requires.family in
+    codes-long v.world (pipeline_at c.args.term_day.now) (sids_at c.args.term_day.now) c.args.term_day.now.term.0 (node_at c.args.term_day.now) (node_is c.args.term_day.now v is) (λ j. j) (λ j. v.session)
+    (assets_at c.args.term_day.now) c.row_at-codes.result.now
+    (input_read c.args.term_day.now v is 0 _ c.row_at-codes.ensures) kind is.here.coded _ is.here.texts ∙ sym c.requires.long
 
 pub pointwise-requires-clause-kind : goal.pointwise-requires-clause-kind
 pointwise-requires-clause-kind c =
-    let v = c.requires.turn.0 in
-    let is = c.requires.turn.1 in
-    let kind = subst (IsOf (node_at c.args.turn.now).kind) c.in-Point.is c.requires.family in
-    subst IsOperation (sym c.kind_of-kind.ensures) (point-asks v.world (pipeline_at c.args.turn.now) (sids_at c.args.turn.now) c.args.turn.now.term.0 (node_at c.args.turn.now)
-    (node_is c.args.turn.now v is) (λ j. j) (λ j. v.session)
-    (assets_at c.args.turn.now) c.row_at-first.result.now c.row_at-second.result.now c.row_at-third.result.now
-    (rows_read c.args.turn.now v is _ _ _ c.row_at-first.ensures c.row_at-second.ensures c.row_at-third.ensures) kind).0
+    let v = c.requires.term_day.0 in
+    let is = c.requires.term_day.1 in
+    let kind = subst (IsOf (node_at c.args.term_day.now).kind) c.in-Point.is c.requires.family in
+    subst IsOperation (sym c.kind_of-kind.ensures) (point-asks v.world (pipeline_at c.args.term_day.now) (sids_at c.args.term_day.now) c.args.term_day.now.term.0 (node_at c.args.term_day.now)
+    (node_is c.args.term_day.now v is) (λ j. j) (λ j. v.session)
+    (assets_at c.args.term_day.now) c.row_at-first.result.now c.row_at-second.result.now c.row_at-third.result.now
+    (rows_read c.args.term_day.now v is _ _ _ c.row_at-first.ensures c.row_at-second.ensures c.row_at-third.ensures) kind).0
 
 pub pointwise-requires-clause-operands : goal.pointwise-requires-clause-operands
 pointwise-requires-clause-operands c =
-    let v = c.requires.turn.0 in
-    let is = c.requires.turn.1 in
-    let kind = subst (IsOf (node_at c.args.turn.now).kind) c.in-Point.is c.requires.family in
+    let v = c.requires.term_day.0 in
+    let is = c.requires.term_day.1 in
+    let kind = subst (IsOf (node_at c.args.term_day.now).kind) c.in-Point.is c.requires.family in
     subst (λ m. AreOperands (kind_of c.kind_of-kind.result.now) c.row_at-first.result.now c.row_at-second.result.now c.row_at-third.result.now m) (sym c.requires.long)
-    (subst (λ (k : Kind). AreOperands k c.row_at-first.result.now c.row_at-second.result.now c.row_at-third.result.now (assets_at c.args.turn.now)) (sym c.kind_of-kind.ensures)
-    (point-asks v.world (pipeline_at c.args.turn.now) (sids_at c.args.turn.now) c.args.turn.now.term.0 (node_at c.args.turn.now) (node_is c.args.turn.now v is) (λ j. j) (λ j. v.session)
-    (assets_at c.args.turn.now) c.row_at-first.result.now c.row_at-second.result.now c.row_at-third.result.now
-    (rows_read c.args.turn.now v is _ _ _ c.row_at-first.ensures c.row_at-second.ensures c.row_at-third.ensures) kind).1)
+    (subst (λ (k : Kind). AreOperands k c.row_at-first.result.now c.row_at-second.result.now c.row_at-third.result.now (assets_at c.args.term_day.now)) (sym c.kind_of-kind.ensures)
+    (point-asks v.world (pipeline_at c.args.term_day.now) (sids_at c.args.term_day.now) c.args.term_day.now.term.0 (node_at c.args.term_day.now) (node_is c.args.term_day.now v is) (λ j. j) (λ j. v.session)
+    (assets_at c.args.term_day.now) c.row_at-first.result.now c.row_at-second.result.now c.row_at-third.result.now
+    (rows_read c.args.term_day.now v is _ _ _ c.row_at-first.ensures c.row_at-second.ensures c.row_at-third.ensures) kind).1)
 
 pub copy_from_slice-requires : goal.copy_from_slice-requires
 copy_from_slice-requires c =
-    let kind = subst (IsOf (node_at c.args.turn.now).kind) c.in-Downsample.is c.requires.family in
-    c.requires.long ∙ sym (start_long c.args.turn.now c.requires.turn.0 c.requires.turn.1 _ kind)
+    let kind = subst (IsOf (node_at c.args.term_day.now).kind) c.in-Downsample.is c.requires.family in
+    c.requires.long ∙ sym (start_long c.args.term_day.now c.requires.term_day.0 c.requires.term_day.1 _ kind)
 
 pub returns-in-Constant-clause-given : goal.returns-in-Constant-clause-given
 returns-in-Constant-clause-given c v is i h =
-    let kind = subst (IsOf (node_at c.args.turn.now).kind) c.in-Constant.is c.requires.family in
+    let kind = subst (IsOf (node_at c.args.term_day.now).kind) c.in-Constant.is c.requires.family in
     let value : FitsSigned w64 c.in-Constant.value = search rules in
     let filled = simp to_z-of_z at (c.fill.ensures.after (λ y same. same)) in
-    constant-given _ _ _ _ _ (node_is c.args.turn.now v is) i v.session _ c.in-Constant.value kind
+    constant-given _ _ _ _ _ (node_is c.args.term_day.now v is) i v.session _ c.in-Constant.value kind
     (ap (λ (l : List ℤ). get_or l i (pos 0)) filled ∙ get_or-replicate (length c.args.out.now) i c.in-Constant.value (pos 0) (omega (arith, h, c.requires.long)))
 
 pub returns-in-Sids-clause-given : goal.returns-in-Sids-clause-given
 returns-in-Sids-clause-given c v is i h =
-    let kind = subst (IsOf (node_at c.args.turn.now).kind) c.in-Sids.is c.requires.family in
-    sid-given _ _ _ _ _ (node_is c.args.turn.now v is) i v.session _ kind (c.sids_row.ensures.each i (omega (arith, h, c.requires.long))
-    ∙ ap (λ (k : Kind). sid_flag k (sid_in (sids_at c.args.turn.now) i)) c.kind_of-kind.ensures)
+    let kind = subst (IsOf (node_at c.args.term_day.now).kind) c.in-Sids.is c.requires.family in
+    sid-given _ _ _ _ _ (node_is c.args.term_day.now v is) i v.session _ kind (c.sids_row.ensures.each i (omega (arith, h, c.requires.long))
+    ∙ ap (λ (k : Kind). sid_flag k (sid_in (sids_at c.args.term_day.now) i)) c.kind_of-kind.ensures)
 
 pub returns-in-Label-clause-given : goal.returns-in-Label-clause-given
 returns-in-Label-clause-given c v is i h =
-    let kind = subst (IsOf (node_at c.args.turn.now).kind) c.in-Label.is c.requires.family in
-    let day : FitsSigned w32 c.args.turn.now.day = search rules in
+    let kind = subst (IsOf (node_at c.args.term_day.now).kind) c.in-Label.is c.requires.family in
+    let day : FitsSigned w32 c.args.term_day.now.day = search rules in
     let made = simp to_z-of_z at c.label_row.ensures.each in
-    label_given c.args.turn.now v is c.in-Label.name i c.label_name.result.now _ kind c.label_name.ensures h (made i (omega (arith, h, c.requires.long)))
+    label_given c.args.term_day.now v is c.in-Label.name i c.label_name.result.now _ kind c.label_name.ensures h (made i (omega (arith, h, c.requires.long)))
     (c.label_row.ensures.cells i (omega (arith, h, c.requires.long)))
 
 pub returns-in-Number-clause-given : goal.returns-in-Number-clause-given
 returns-in-Number-clause-given c v is i h =
-    let kind = subst (IsOf (node_at c.args.turn.now).kind) c.in-Number.is c.requires.family in
-    let day : FitsSigned w32 c.args.turn.now.day = search rules in
+    let kind = subst (IsOf (node_at c.args.term_day.now).kind) c.in-Number.is c.requires.family in
+    let day : FitsSigned w32 c.args.term_day.now.day = search rules in
     let made = simp to_z-of_z at c.known_row.ensures.each in
-    number_given c.args.turn.now v is c.in-Number.name i c.label_name-in-Number.result.now _ kind c.label_name-in-Number.ensures h (made i (omega (arith, h, c.requires.long)))
+    number_given c.args.term_day.now v is c.in-Number.name i c.label_name-in-Number.result.now _ kind c.label_name-in-Number.ensures h (made i (omega (arith, h, c.requires.long)))
     (c.known_row.ensures.cells i (omega (arith, h, c.requires.long)))
 
 pub returns-in-LabelTest-clause-given : goal.returns-in-LabelTest-clause-given
 returns-in-LabelTest-clause-given c v is i h =
-    let kind = subst (IsOf (node_at c.args.turn.now).kind) c.in-LabelTest.is c.requires.family in
-    test-given v.world (pipeline_at c.args.turn.now) (sids_at c.args.turn.now) c.args.turn.now.term.0 (node_at c.args.turn.now) (node_is c.args.turn.now v is) (λ j. j) (λ j. v.session)
-    (assets_at c.args.turn.now) c.row_at-codes.result.now
-    (input_read c.args.turn.now v is 0 _ c.row_at-codes.ensures) kind is.here.coded _ is.here.texts i _ h
-    (c.label_test_values.ensures.each i (omega (arith, h, c.requires.long)) ∙ ap (λ (k : Kind). code_flag c.args.turn.now.labels.now.texts k (get_or c.row_at-codes.result.now i (pos 0)))
+    let kind = subst (IsOf (node_at c.args.term_day.now).kind) c.in-LabelTest.is c.requires.family in
+    test-given v.world (pipeline_at c.args.term_day.now) (sids_at c.args.term_day.now) c.args.term_day.now.term.0 (node_at c.args.term_day.now) (node_is c.args.term_day.now v is) (λ j. j) (λ j. v.session)
+    (assets_at c.args.term_day.now) c.row_at-codes.result.now
+    (input_read c.args.term_day.now v is 0 _ c.row_at-codes.ensures) kind is.here.coded _ is.here.texts i _ h
+    (c.label_test_values.ensures.each i (omega (arith, h, c.requires.long)) ∙ ap (λ (k : Kind). code_flag c.args.term_day.now.labels.now.texts k (get_or c.row_at-codes.result.now i (pos 0)))
     c.kind_of-kind.ensures)
 
 pub returns-in-Point-clause-given : goal.returns-in-Point-clause-given
 returns-in-Point-clause-given c v is i h =
-    let kind = subst (IsOf (node_at c.args.turn.now).kind) c.in-Point.is c.requires.family in
-    point-given v.world (pipeline_at c.args.turn.now) (sids_at c.args.turn.now) c.args.turn.now.term.0 (node_at c.args.turn.now) (node_is c.args.turn.now v is) (λ j. j) (λ j. v.session)
-    (assets_at c.args.turn.now) c.row_at-first.result.now c.row_at-second.result.now c.row_at-third.result.now
-    (rows_read c.args.turn.now v is _ _ _ c.row_at-first.ensures c.row_at-second.ensures c.row_at-third.ensures) kind i _ h
+    let kind = subst (IsOf (node_at c.args.term_day.now).kind) c.in-Point.is c.requires.family in
+    point-given v.world (pipeline_at c.args.term_day.now) (sids_at c.args.term_day.now) c.args.term_day.now.term.0 (node_at c.args.term_day.now) (node_is c.args.term_day.now v is) (λ j. j) (λ j. v.session)
+    (assets_at c.args.term_day.now) c.row_at-first.result.now c.row_at-second.result.now c.row_at-third.result.now
+    (rows_read c.args.term_day.now v is _ _ _ c.row_at-first.ensures c.row_at-second.ensures c.row_at-third.ensures) kind i _ h
     (c.pointwise.ensures.values i (omega (arith, h, c.requires.long)) ∙ ap (λ (k : Kind). operation k (get_or c.row_at-first.result.now i (pos 0)) (get_or c.row_at-second.result.now i (pos 0))
     (get_or c.row_at-third.result.now i (pos 0))) c.kind_of-kind.ensures)
     (c.pointwise.ensures.cells i (pos 0) (omega (arith, h, c.requires.long, c.pointwise.ensures.length)))
 
 pub returns-in-Downsample-clause-given : goal.returns-in-Downsample-clause-given
 returns-in-Downsample-clause-given c v is i h =
-    let kind = subst (IsOf (node_at c.args.turn.now).kind) c.in-Downsample.is c.requires.family in
-    start_given c.args.turn.now v is _ kind i _ h (ap (λ (l : List ℤ). get_or l i (pos 0)) c.copy_from_slice.ensures.after)
+    let kind = subst (IsOf (node_at c.args.term_day.now).kind) c.in-Downsample.is c.requires.family in
+    start_given c.args.term_day.now v is _ kind i _ h (ap (λ (l : List ℤ). get_or l i (pos 0)) c.copy_from_slice.ensures.after)

@@ -8,8 +8,8 @@ use Rattle.pl_exec.proofs.Living.{none_yet, none_counted}
 use Rattle.pl_exec.proofs.Sids.{few_cols, sids_up}
 use Rattle.pl_exec.proofs.chunk.execute_chunk.Goals as goal
 
-pub run_terms-requires-clause-job : goal.run_terms-requires-clause-job
-run_terms-requires-clause-job g c = record {
+pub run_terms-requires-clause-chunk : goal.run_terms-requires-clause-chunk
+run_terms-requires-clause-chunk g c = record {
   made = c.parts_make_a_world.ensures;
   labels = c.len-labels.ensures.labels;
   few = (let f = few_cols c.args.cols.now (length c.args.world.now.assets.now) c.requires.cols.ascend c.requires.cols.within in omega (arith, f, c.len-assets.ensures.length, c.len-assets.ensures.few));

@@ -1,6 +1,6 @@
 use Rattle.std.proofs.Common.{◌≡◌, ◌≤◌}
 use Rattle.pl_terms.specs.Nodes.{node_of}
-use Rattle.pl_exec.specs.Jobs.{new_before}
+use Rattle.pl_exec.specs.ChunkInputs.{new_before}
 use Rattle.pl_exec.proofs.columns.new_count.Given as goal
 
 abbrev pub invariant-loop-before : goal.invariant-loop-before

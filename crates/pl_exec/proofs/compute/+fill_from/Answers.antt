@@ -2,7 +2,7 @@ use Rattle.std.proofs.Common.{◌≡◌, ◌<◌, refl, ap, ◌∙◌, subst, ar
 use Rattle.pl_planner.specs.Plans.{column_slot}
 use Rattle.pl_workspace.specs.Slots.{Slots}
 use Rattle.pl_exec.specs.Filling.{node_for, task_for}
-use Rattle.pl_exec.specs.Jobs.{AreFree, new_column, one_new}
+use Rattle.pl_exec.specs.ChunkInputs.{AreFree, new_column, one_new}
 use Rattle.pl_exec.proofs.Levels.{before_next, below_three, counted_next, filled_as, filled_back, finish_in, free_next, from_end, from_none, is_live, rows_none, rows_one, run_next, slot_free}
 use Rattle.pl_exec.proofs.compute.+fill_from.Goals as goal
 
@@ -48,21 +48,21 @@ pub column_slot-slot-requires-clause-within : goal.column_slot-slot-requires-cla
 column_slot-slot-requires-clause-within g t c =
     let one : one_new (new_column (node_for c.args.term.now) c.args.place) ≡ 1 = omega (arith, c.one_new.ensures.value, c.one_new.ensures.few, c.if-one_new-eq0.false) in
     let place : c.args.place < 3 = omega (arith, c.requires.place, c.if-place-eq3.false) in
-    let b = below_three c.args.term.now.job.now c.args.workspace.now c.args.term.now.id.0 (node_for c.args.term.now) c.requires.run c.args.place place one in
+    let b = below_three c.args.term.now.chunk.now c.args.workspace.now c.args.term.now.id.0 (node_for c.args.term.now) c.requires.run c.args.place place one in
     omega (arith, b, c.new_count.ensures.value)
 
 pub begin-column-requires : goal.begin-column-requires
 begin-column-requires g t c =
     let one : one_new (new_column (node_for c.args.term.now) c.args.place) ≡ 1 = omega (arith, c.one_new.ensures.value, c.one_new.ensures.few, c.if-one_new-eq0.false) in
     let place : c.args.place < 3 = omega (arith, c.requires.place, c.if-place-eq3.false) in
-    let slot = c.column_slot-slot.ensures ∙ ap (column_slot c.args.term.now.job.now.plan.now c.args.term.now.id.0) c.new_count.ensures.value in
-    slot_free c.args.term.now.job.now c.args.workspace.now c.args.term.now.id.0 (node_for c.args.term.now) c.requires.run c.args.place place one c.requires.free c.column_slot-slot.result slot
+    let slot = c.column_slot-slot.ensures ∙ ap (column_slot c.args.term.now.chunk.now.plan.now c.args.term.now.id.0) c.new_count.ensures.value in
+    slot_free c.args.term.now.chunk.now c.args.workspace.now c.args.term.now.id.0 (node_for c.args.term.now) c.requires.run c.args.place place one c.requires.free c.column_slot-slot.result slot
 
 pub fill_from-filled-requires : goal.fill_from-filled-requires
 fill_from-filled-requires g t c =
     let one : one_new (new_column (node_for c.args.term.now) c.args.place) ≡ 1 = omega (arith, c.one_new.ensures.value, c.one_new.ensures.few, c.if-one_new-eq0.false) in
     let place : c.args.place < 3 = omega (arith, c.requires.place, c.if-place-eq3.false) in
-    let slot = c.column_slot-slot.ensures ∙ ap (column_slot c.args.term.now.job.now.plan.now c.args.term.now.id.0) c.new_count.ensures.value in
+    let slot = c.column_slot-slot.ensures ∙ ap (column_slot c.args.term.now.chunk.now.plan.now c.args.term.now.id.0) c.new_count.ensures.value in
     let same : c.begin-column.new.self.len ≡ c.args.workspace.now.len = ap (λ (x : Slots). x.len) c.begin-column.ensures.changed in
     let long : length c.cells_mut.result.now ≡ c.args.workspace.now.len = ap length c.cells_mut.ensures.value ∙ c.begin-column.ensures.cells in
     λ κs lives. (
@@ -70,13 +70,13 @@ fill_from-filled-requires g t c =
       (
         lives,
         (
-          run_next c.args.term.now.job.now c.args.workspace.now c.args.term.now.id.0 (node_for c.args.term.now) c.requires.run c.args.place place one c.requires.free c.column_slot-slot.result slot c.begin-column.new.self c.begin-column.ensures.changed,
+          run_next c.args.term.now.chunk.now c.args.workspace.now c.args.term.now.id.0 (node_for c.args.term.now) c.requires.run c.args.place place one c.requires.free c.column_slot-slot.result slot c.begin-column.new.self c.begin-column.ensures.changed,
           (
             omega (arith, place),
             (
-              free_next c.args.term.now.job.now c.args.workspace.now c.args.term.now.id.0 (node_for c.args.term.now) c.requires.run c.args.place place one c.requires.free c.column_slot-slot.result slot c.begin-column.new.self c.begin-column.ensures.changed,
+              free_next c.args.term.now.chunk.now c.args.workspace.now c.args.term.now.id.0 (node_for c.args.term.now) c.requires.run c.args.place place one c.requires.free c.column_slot-slot.result slot c.begin-column.new.self c.begin-column.ensures.changed,
               (
-                counted_next c.args.term.now.job.now c.args.workspace.now c.args.term.now.id.0 (node_for c.args.term.now) c.requires.run c.args.place place one c.requires.free c.column_slot-slot.result slot c.begin-column.new.self c.begin-column.ensures.changed,
+                counted_next c.args.term.now.chunk.now c.args.workspace.now c.args.term.now.id.0 (node_for c.args.term.now) c.requires.run c.args.place place one c.requires.free c.column_slot-slot.result slot c.begin-column.new.self c.begin-column.ensures.changed,
                 (omega (arith, c.requires.columns, same), (c.requires.room, rows_one c.args.term.now c.args.place c.args.cells.first.now c.args.cells.second.now c.args.cells.third.now _ c.requires.cells (omega (arith, c.requires.columns, long)))),
               ),
             ),
@@ -89,26 +89,26 @@ pub finish-requires-clause-within : goal.finish-requires-clause-within
 finish-requires-clause-within g t c =
     let one : one_new (new_column (node_for c.args.term.now) c.args.place) ≡ 1 = omega (arith, c.one_new.ensures.value, c.one_new.ensures.few, c.if-one_new-eq0.false) in
     let place : c.args.place < 3 = omega (arith, c.requires.place, c.if-place-eq3.false) in
-    let slot = c.column_slot-slot.ensures ∙ ap (column_slot c.args.term.now.job.now.plan.now c.args.term.now.id.0) c.new_count.ensures.value in
-    (finish_in c.args.term.now.job.now c.args.workspace.now c.args.term.now.id.0 (node_for c.args.term.now) c.requires.run c.args.place place one c.requires.free c.column_slot-slot.result slot c.begin-column.new.self c.begin-column.ensures.changed c.fill_from-filled.new.workspace c.fill_from-filled.new.own c.args.steps.now c.fill_from-filled.new.steps c.fill_from-filled.result c.fill_from-filled.ensures).0
+    let slot = c.column_slot-slot.ensures ∙ ap (column_slot c.args.term.now.chunk.now.plan.now c.args.term.now.id.0) c.new_count.ensures.value in
+    (finish_in c.args.term.now.chunk.now c.args.workspace.now c.args.term.now.id.0 (node_for c.args.term.now) c.requires.run c.args.place place one c.requires.free c.column_slot-slot.result slot c.begin-column.new.self c.begin-column.ensures.changed c.fill_from-filled.new.workspace c.fill_from-filled.new.own c.args.steps.now c.fill_from-filled.new.steps c.fill_from-filled.result c.fill_from-filled.ensures).0
 
 pub finish-requires-clause-begun : goal.finish-requires-clause-begun
 finish-requires-clause-begun g t c =
     let one : one_new (new_column (node_for c.args.term.now) c.args.place) ≡ 1 = omega (arith, c.one_new.ensures.value, c.one_new.ensures.few, c.if-one_new-eq0.false) in
     let place : c.args.place < 3 = omega (arith, c.requires.place, c.if-place-eq3.false) in
-    let slot = c.column_slot-slot.ensures ∙ ap (column_slot c.args.term.now.job.now.plan.now c.args.term.now.id.0) c.new_count.ensures.value in
-    (finish_in c.args.term.now.job.now c.args.workspace.now c.args.term.now.id.0 (node_for c.args.term.now) c.requires.run c.args.place place one c.requires.free c.column_slot-slot.result slot c.begin-column.new.self c.begin-column.ensures.changed c.fill_from-filled.new.workspace c.fill_from-filled.new.own c.args.steps.now c.fill_from-filled.new.steps c.fill_from-filled.result c.fill_from-filled.ensures).1
+    let slot = c.column_slot-slot.ensures ∙ ap (column_slot c.args.term.now.chunk.now.plan.now c.args.term.now.id.0) c.new_count.ensures.value in
+    (finish_in c.args.term.now.chunk.now c.args.workspace.now c.args.term.now.id.0 (node_for c.args.term.now) c.requires.run c.args.place place one c.requires.free c.column_slot-slot.result slot c.begin-column.new.self c.begin-column.ensures.changed c.fill_from-filled.new.workspace c.fill_from-filled.new.own c.args.steps.now c.fill_from-filled.new.steps c.fill_from-filled.result c.fill_from-filled.ensures).1
 
 pub release-requires : goal.release-requires
 release-requires g t c =
     let one : one_new (new_column (node_for c.args.term.now) c.args.place) ≡ 1 = omega (arith, c.one_new.ensures.value, c.one_new.ensures.few, c.if-one_new-eq0.false) in
     let place : c.args.place < 3 = omega (arith, c.requires.place, c.if-place-eq3.false) in
-    let slot = c.column_slot-slot.ensures ∙ ap (column_slot c.args.term.now.job.now.plan.now c.args.term.now.id.0) c.new_count.ensures.value in
-    (_, is_live c.args.term.now.job.now c.args.workspace.now c.args.term.now.id.0 (node_for c.args.term.now) c.requires.run c.args.place place one c.requires.free c.column_slot-slot.result slot c.begin-column.new.self c.begin-column.ensures.changed c.fill_from-filled.new.workspace c.fill_from-filled.new.own c.args.steps.now c.fill_from-filled.new.steps c.fill_from-filled.result c.fill_from-filled.ensures c.finish.new.self _ c.finish.ensures)
+    let slot = c.column_slot-slot.ensures ∙ ap (column_slot c.args.term.now.chunk.now.plan.now c.args.term.now.id.0) c.new_count.ensures.value in
+    (_, is_live c.args.term.now.chunk.now c.args.workspace.now c.args.term.now.id.0 (node_for c.args.term.now) c.requires.run c.args.place place one c.requires.free c.column_slot-slot.result slot c.begin-column.new.self c.begin-column.ensures.changed c.fill_from-filled.new.workspace c.fill_from-filled.new.own c.args.steps.now c.fill_from-filled.new.steps c.fill_from-filled.result c.fill_from-filled.ensures c.finish.new.self _ c.finish.ensures)
 
 pub returns : goal.returns
 returns g t c =
     let one : one_new (new_column (node_for c.args.term.now) c.args.place) ≡ 1 = omega (arith, c.one_new.ensures.value, c.one_new.ensures.few, c.if-one_new-eq0.false) in
     let place : c.args.place < 3 = omega (arith, c.requires.place, c.if-place-eq3.false) in
-    let slot = c.column_slot-slot.ensures ∙ ap (column_slot c.args.term.now.job.now.plan.now c.args.term.now.id.0) c.new_count.ensures.value in
-    filled_back c.args.term.now.job.now c.args.workspace.now c.args.term.now.id.0 (node_for c.args.term.now) c.requires.run c.args.place place one c.requires.free c.column_slot-slot.result slot c.begin-column.new.self c.begin-column.ensures.changed c.fill_from-filled.new.workspace c.fill_from-filled.new.own c.args.steps.now c.fill_from-filled.new.steps c.fill_from-filled.result c.fill_from-filled.ensures c.finish.new.self _ c.finish.ensures c.release.new.self c.release.ensures
+    let slot = c.column_slot-slot.ensures ∙ ap (column_slot c.args.term.now.chunk.now.plan.now c.args.term.now.id.0) c.new_count.ensures.value in
+    filled_back c.args.term.now.chunk.now c.args.workspace.now c.args.term.now.id.0 (node_for c.args.term.now) c.requires.run c.args.place place one c.requires.free c.column_slot-slot.result slot c.begin-column.new.self c.begin-column.ensures.changed c.fill_from-filled.new.workspace c.fill_from-filled.new.own c.args.steps.now c.fill_from-filled.new.steps c.fill_from-filled.result c.fill_from-filled.ensures c.finish.new.self _ c.finish.ensures c.release.new.self c.release.ensures

@@ -2,11 +2,11 @@ use Rattle.std.proofs.Common.{◌≡◌, ◌≤◌, ◌+◌, ◌*◌, sym, subst
 use Rattle.pl_spec.specs.Limits.{cut}
 use Rattle.pl_exec.specs.declared.course.Course.{Course}
 use Rattle.pl_exec.specs.Tasks.{IsArray, assets_in, term_steps}
-use Rattle.pl_exec.specs.Jobs.{HasRows, IsColumnRun, node_in, task_in}
+use Rattle.pl_exec.specs.ChunkInputs.{HasRows, IsColumnRun, node_in, task_in}
 use Rattle.pl_exec.proofs.compute.fill_last.Goals as goal
 
 pub fill_bars-applied-requires-clause-run : goal.fill_bars-applied-requires-clause-run
-fill_bars-applied-requires-clause-run g c = subst (λ (x : Course). IsColumnRun x.job.now x.workspace.now x.term.0 (node_in x)) (sym c.course_of-course.ensures.is) c.requires.run
+fill_bars-applied-requires-clause-run g c = subst (λ (x : Course). IsColumnRun x.chunk.now x.workspace.now x.term.0 (node_in x)) (sym c.course_of-course.ensures.is) c.requires.run
 
 pub fill_bars-applied-requires-clause-room : goal.fill_bars-applied-requires-clause-room
 fill_bars-applied-requires-clause-room g c = subst (λ (x : Course). assets_in (task_in x) * x.count ≤ length c.args.own.now) (sym c.course_of-course.ensures.is) c.requires.room

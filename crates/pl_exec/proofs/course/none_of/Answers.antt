@@ -4,6 +4,6 @@ use Rattle.pl_exec.proofs.course.none_of.Goals as goal
 
 pub empty_value-requires : goal.empty_value-requires
 empty_value-requires c =
-    let l = graph-long c.args.job.now.checked.now.graph in
-    let e : length c.graph.result.now ≡ length c.args.job.now.checked.now.graph = ap (λ g. length g) c.graph.ensures.value in
+    let l = graph-long c.args.chunk.now.checked.now.graph in
+    let e : length c.graph.result.now ≡ length c.args.chunk.now.checked.now.graph = ap (λ g. length g) c.graph.ensures.value in
     omega (arith, c.requires)

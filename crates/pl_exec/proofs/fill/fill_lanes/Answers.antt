@@ -1,6 +1,6 @@
 use Rattle.std.proofs.Common.{◌≤◌, ◌*◌, ◌+◌, length, arith}
 use Rattle.pl_exec.specs.Tasks.{assets_in, cell_in}
-use Rattle.pl_exec.specs.Jobs.{task_in}
+use Rattle.pl_exec.specs.ChunkInputs.{task_in}
 use Rattle.pl_exec.proofs.Courses.{course_array, lane_room, none_laned, one_laned}
 use Rattle.pl_exec.proofs.Spans.{all_written}
 use Rattle.pl_exec.proofs.fill.fill_lanes.Goals as goal

@@ -1,5 +1,5 @@
 use Rattle.pl_exec.specs.Tasks.{cell_in}
-use Rattle.pl_exec.specs.Jobs.{IsWritten, task_in}
+use Rattle.pl_exec.specs.ChunkInputs.{IsWritten, task_in}
 use Rattle.pl_exec.proofs.fill.fill_lanes.Given as goal
 
 abbrev pub invariant-loop-i : goal.invariant-loop-i

@@ -1,14 +1,14 @@
 use Rattle.std.proofs.Common.{◌+◌, ◌∙◌, subst, arith}
-use Rattle.pl_exec.specs.declared.turn.Turn.{Turn}
+use Rattle.pl_exec.specs.declared.term_session.TermSession.{TermSession}
 use Rattle.pl_exec.specs.Tasks.{assets_in, cell_in}
-use Rattle.pl_exec.specs.Jobs.{IsOut, task_in}
+use Rattle.pl_exec.specs.ChunkInputs.{IsRowOfTerm, task_in}
 use Rattle.pl_exec.proofs.Courses.{course_array}
 use Rattle.pl_exec.proofs.Spans.{all_written, more_written, row_put}
 use Rattle.pl_exec.proofs.fill.fill_over.Goals as goal
 
 pub loop-j-preserved : goal.loop-j-preserved
 loop-j-preserved c =
-    let row = subst (λ (t : Turn). IsOut t c.row_on.new.out) c.turn_on-turn.ensures.is c.row_on.ensures.out in
+    let row = subst (λ (t : TermSession). IsRowOfTerm t c.row_on.new.out) c.on_session-term_session.ensures.is c.row_on.ensures.out in
     record {
       written = more_written (cell_in (task_in c.args.course.now) c.args.course.now.term.0) c.args.course.now.low c.args.course.now.count (assets_in (task_in c.args.course.now)) c.loop-j.j c.loop-j.own c.put_row.new.cells
           c.loop-j.invariant.written c.loop-j-test.true

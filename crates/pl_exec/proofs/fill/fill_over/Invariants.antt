@@ -1,6 +1,6 @@
 use Rattle.std.proofs.Common.{◌≡◌}
 use Rattle.pl_exec.specs.Tasks.{assets_in, cell_in}
-use Rattle.pl_exec.specs.Jobs.{IsWritten, task_in}
+use Rattle.pl_exec.specs.ChunkInputs.{IsWritten, task_in}
 use Rattle.pl_exec.proofs.fill.fill_over.Given as goal
 
 abbrev pub invariant-loop-j : goal.invariant-loop-j

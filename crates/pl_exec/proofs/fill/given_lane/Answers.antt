@@ -1,5 +1,5 @@
 use Rattle.std.proofs.Common.{◌≡◌, ◌+◌, arith, get_or, pos, subst}
-use Rattle.pl_exec.specs.Jobs.{IsGivenOn}
+use Rattle.pl_exec.specs.ChunkInputs.{IsGivenOn}
 use Rattle.pl_exec.proofs.fill.given_lane.Goals as goal
 
 pub returns-in-Window : goal.returns-in-Window

@@ -1,7 +1,7 @@
 use Rattle.std.proofs.Common.{◌≡◌, ◌+◌, ◌<◌, ◌≤◌, ℕ, pos, get_or}
 use Rattle.pl_values.specs.Arrays.{chosen, is_kept}
 use Rattle.pl_exec.specs.Tasks.{sids_in}
-use Rattle.pl_exec.specs.Jobs.{node_in, task_in}
+use Rattle.pl_exec.specs.ChunkInputs.{node_in, task_in}
 use Rattle.pl_exec.proofs.keep.keep_cells.Given as goal
 
 abbrev pub invariant-loop-j : goal.invariant-loop-j

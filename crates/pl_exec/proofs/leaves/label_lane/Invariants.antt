@@ -1,5 +1,5 @@
 use Rattle.std.proofs.Common.{◌<◌, ℕ, get_or, pos}
-use Rattle.pl_exec.specs.Jobs.{IsGivenOn}
+use Rattle.pl_exec.specs.ChunkInputs.{IsGivenOn}
 use Rattle.pl_exec.proofs.leaves.label_lane.Given as goal
 
 abbrev pub invariant-loop-j : goal.invariant-loop-j

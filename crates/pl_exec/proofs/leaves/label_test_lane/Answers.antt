@@ -3,7 +3,7 @@ use Rattle.pl_pipeline.specs.Kind.{Kind}
 use Rattle.pl_values.specs.Families.{code_flag}
 use Rattle.pl_values.proofs.Rows.{code-read, codes-long, test-given}
 use Rattle.pl_exec.specs.Tasks.{sids_in}
-use Rattle.pl_exec.specs.Jobs.{node_in, task_in}
+use Rattle.pl_exec.specs.ChunkInputs.{node_in, task_in}
 use Rattle.pl_exec.proofs.Courses.{course_node}
 use Rattle.pl_exec.proofs.leaves.label_test_lane.Goals as goal
 
@@ -12,18 +12,18 @@ label_test_values-requires-clause-codes c j h =
     let l = codes-long (task_in c.args.lane.now.course.now).world (task_in c.args.lane.now.course.now).pipeline (sids_in (task_in c.args.lane.now.course.now)) c.args.lane.now.course.now.term.0
     (node_in c.args.lane.now.course.now)
     (course_node c.args.lane.now.course.now c.requires.lane.course) (λ j. c.args.lane.now.i)
-    (λ j. c.args.lane.now.course.now.low + j) c.args.lane.now.course.now.count c.operand-codes.result.now c.operand-codes.ensures c.requires.kind c.requires.lane.course.job.task.texts _ refl in
+    (λ j. c.args.lane.now.course.now.low + j) c.args.lane.now.course.now.count c.operand-codes.result.now c.operand-codes.ensures c.requires.kind c.requires.lane.course.chunk.task.texts _ refl in
     code-read (task_in c.args.lane.now.course.now).world (task_in c.args.lane.now.course.now).pipeline (sids_in (task_in c.args.lane.now.course.now)) c.args.lane.now.course.now.term.0
     (node_in c.args.lane.now.course.now)
     (course_node c.args.lane.now.course.now c.requires.lane.course) (λ j. c.args.lane.now.i)
-    (λ j. c.args.lane.now.course.now.low + j) c.args.lane.now.course.now.count c.operand-codes.result.now c.operand-codes.ensures c.requires.kind c.requires.lane.course.job.task.texts _ refl j
+    (λ j. c.args.lane.now.course.now.low + j) c.args.lane.now.course.now.count c.operand-codes.result.now c.operand-codes.ensures c.requires.kind c.requires.lane.course.chunk.task.texts _ refl j
     (omega (arith, h, l))
 
 pub label_test_values-requires-clause-many : goal.label_test_values-requires-clause-many
 label_test_values-requires-clause-many c = codes-long (task_in c.args.lane.now.course.now).world (task_in c.args.lane.now.course.now).pipeline
     (sids_in (task_in c.args.lane.now.course.now)) c.args.lane.now.course.now.term.0 (node_in c.args.lane.now.course.now)
     (course_node c.args.lane.now.course.now c.requires.lane.course) (λ j. c.args.lane.now.i)
-    (λ j. c.args.lane.now.course.now.low + j) c.args.lane.now.course.now.count c.operand-codes.result.now c.operand-codes.ensures c.requires.kind c.requires.lane.course.job.task.texts _ refl
+    (λ j. c.args.lane.now.course.now.low + j) c.args.lane.now.course.now.count c.operand-codes.result.now c.operand-codes.ensures c.requires.kind c.requires.lane.course.chunk.task.texts _ refl
     ∙ sym c.requires.long
 
 pub returns : goal.returns
@@ -31,6 +31,6 @@ returns c j h =
     test-given (task_in c.args.lane.now.course.now).world (task_in c.args.lane.now.course.now).pipeline (sids_in (task_in c.args.lane.now.course.now)) c.args.lane.now.course.now.term.0
     (node_in c.args.lane.now.course.now)
     (course_node c.args.lane.now.course.now c.requires.lane.course) (λ j. c.args.lane.now.i)
-    (λ j. c.args.lane.now.course.now.low + j) c.args.lane.now.course.now.count c.operand-codes.result.now c.operand-codes.ensures c.requires.kind c.requires.lane.course.job.task.texts _ refl j _ h
-    (c.label_test_values.ensures.each j (omega (arith, h, c.requires.long)) ∙ ap (λ (k : Kind). code_flag c.args.lane.now.course.now.job.now.world.labels.now.texts k
+    (λ j. c.args.lane.now.course.now.low + j) c.args.lane.now.course.now.count c.operand-codes.result.now c.operand-codes.ensures c.requires.kind c.requires.lane.course.chunk.task.texts _ refl j _ h
+    (c.label_test_values.ensures.each j (omega (arith, h, c.requires.long)) ∙ ap (λ (k : Kind). code_flag c.args.lane.now.course.now.chunk.now.world.labels.now.texts k
     (get_or c.operand-codes.result.now j (pos 0))) c.kind_of.ensures)

@@ -1,5 +1,5 @@
 use Rattle.std.proofs.Common.{arith, refl, subst, sym}
-use Rattle.pl_exec.specs.Jobs.{IsOperand}
+use Rattle.pl_exec.specs.ChunkInputs.{IsOperand}
 use Rattle.pl_exec.proofs.Courses.{lane_read, lane_within}
 use Rattle.pl_exec.proofs.points.lane_of.Goals as goal
 

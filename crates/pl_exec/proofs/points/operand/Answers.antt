@@ -1,5 +1,5 @@
 use Rattle.std.proofs.Common.{subst, sym, slice_get}
-use Rattle.pl_exec.specs.Jobs.{IsLent, IsOperandOf, node_in, task_in}
+use Rattle.pl_exec.specs.ChunkInputs.{IsLent, IsOperandOf, node_in, task_in}
 use Rattle.pl_exec.proofs.Courses.{read_from}
 use Rattle.pl_exec.proofs.points.operand.Goals as goal
 

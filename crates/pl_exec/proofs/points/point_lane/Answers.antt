@@ -3,7 +3,7 @@ use Rattle.pl_terms.specs.Kinds.{kind_of}
 use Rattle.pl_pointwise.specs.Operands.{IsOperation, AreOperands, operation}
 use Rattle.pl_values.proofs.Rows.{point-asks, point-given}
 use Rattle.pl_exec.specs.Tasks.{sids_in}
-use Rattle.pl_exec.specs.Jobs.{node_in, task_in}
+use Rattle.pl_exec.specs.ChunkInputs.{node_in, task_in}
 use Rattle.pl_exec.proofs.Courses.{course_node}
 use Rattle.pl_exec.proofs.points.point_lane.Goals as goal
 

@@ -1,5 +1,5 @@
 use Rattle.std.proofs.Common.{rules, ◌≡◌, Some}
-use Rattle.pl_exec.specs.Jobs.{node_in}
+use Rattle.pl_exec.specs.ChunkInputs.{node_in}
 use Rattle.pl_exec.proofs.windows.mask_in.Goals as goal
 
 pub array_of-requires-clause-used : goal.array_of-requires-clause-used

@@ -1,6 +1,6 @@
 use Rattle.std.proofs.Common.{rules, ◌≡◌, Some, slice_get}
 use Rattle.pl_pipeline.specs.Term.Input.{TermInput}
-use Rattle.pl_exec.specs.Jobs.{node_in}
+use Rattle.pl_exec.specs.ChunkInputs.{node_in}
 use Rattle.pl_exec.proofs.windows.source_in.Goals as goal
 
 pub array_of-requires-clause-used : goal.array_of-requires-clause-used

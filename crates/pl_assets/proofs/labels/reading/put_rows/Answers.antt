@@ -4,7 +4,7 @@ use Rattle.std.proofs.lemmas.Result.{err_from_is_err_and}
 use Rattle.pl_records.specs.Reading.{rows_of}
 use Rattle.pl_records.proofs.Readings.{goes_on, stops, is_done}
 use Rattle.pl_spec.specs.Limits.{most_labels}
-use Rattle.pl_assets.specs.Labels.{says_label}
+use Rattle.pl_assets.specs.Labels.{label_or_rule}
 use Rattle.pl_assets.specs.LabelFaults.{fault_of}
 use Rattle.pl_assets.specs.LabelPlaces.{shown_rows}
 use Rattle.pl_assets.specs.LabelStarts.{row_from}
@@ -25,7 +25,7 @@ pub returns-in_err-start-clause-exact : goal.returns-in_err-start-clause-exact
 returns-in_err-start-clause-exact c =
     let more = rw c.if-branch.true at c.in_ok-next.ensures in
     let p = err_from_is_err_and c.from_residual-in_err-start.result c.from_residual-in_err-start.ensures.1 in
-    rw (p.1, p.2) (stops 2 (says_label c.args.assets.now) (shown_rows c.rows.rows) c.rows.records.left c.next.new.self.left c.next.new.self.fields (fault_of c.in_err-start.field-0.0) _ more.ok c.in_err-start.ensures.exact c.rows.invariant.rest)
+    rw (p.1, p.2) (stops 2 (label_or_rule c.args.assets.now) (shown_rows c.rows.rows) c.rows.records.left c.next.new.self.left c.next.new.self.fields (fault_of c.in_err-start.field-0.0) _ more.ok c.in_err-start.ensures.exact c.rows.invariant.rest)
 
 pub rows-preserved : goal.rows-preserved
 rows-preserved c =
@@ -35,7 +35,7 @@ rows-preserved c =
     let row : shown_rows c.push.new.self ≡ shown_rows c.rows.rows ++ row_from c.next.new.self.fields c.in_ok-start.start ∷ [] = shown in
     let room : length (shown_rows c.rows.rows) < most_labels = c.in_ok-start.ensures.room in
     record {
-      rest = rw row (goes_on 2 (says_label c.args.assets.now) (shown_rows c.rows.rows) c.rows.records.left c.next.new.self.left c.next.new.self.fields (row_from c.next.new.self.fields c.in_ok-start.start) _ more.ok c.in_ok-start.ensures.exact c.rows.invariant.rest);
+      rest = rw row (goes_on 2 (label_or_rule c.args.assets.now) (shown_rows c.rows.rows) c.rows.records.left c.next.new.self.left c.next.new.self.fields (row_from c.next.new.self.fields c.in_ok-start.start) _ more.ok c.in_ok-start.ensures.exact c.rows.invariant.rest);
       few = rw row (omega (arith, length-append (shown_rows c.rows.rows) (row_from c.next.new.self.fields c.in_ok-start.start ∷ [])));
       numbered = c.in_ok-place.ensures.numbered;
       texts = texts_next c.rows.rows.texts c.push.new.self.texts (shown_rows c.rows.rows) (shown_rows c.push.new.self) (row_from c.next.new.self.fields c.in_ok-start.start)
@@ -46,4 +46,4 @@ rows-preserved c =
 pub returns-clause-exact : goal.returns-clause-exact
 returns-clause-exact c =
     let none = rw c.if-branch.false at c.in_ok-next.ensures in
-    is_done 2 (says_label c.args.assets.now) (shown_rows c.rows.rows) c.rows.records.left (rows_of 2 (says_label c.args.assets.now) c.args.records.now.left) none.ok.0 c.rows.invariant.rest
+    is_done 2 (label_or_rule c.args.assets.now) (shown_rows c.rows.rows) c.rows.records.left (rows_of 2 (label_or_rule c.args.assets.now) c.args.records.now.left) none.ok.0 c.rows.invariant.rest

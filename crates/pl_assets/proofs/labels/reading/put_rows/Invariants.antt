@@ -1,13 +1,13 @@
 use Rattle.std.proofs.Common.{◌≡◌, ◌≤◌, length}
 use Rattle.pl_records.specs.Reading.{rows_of, rows_behind}
 use Rattle.pl_spec.specs.Limits.{most_labels}
-use Rattle.pl_assets.specs.Labels.{says_label, texts_of}
+use Rattle.pl_assets.specs.Labels.{label_or_rule, texts_of}
 use Rattle.pl_assets.specs.LabelPlaces.{AreKeys, AreNumbered, shown_rows}
 use Rattle.pl_assets.proofs.labels.reading.put_rows.Given as goal
 
 abbrev pub invariant-rows : goal.invariant-rows
 invariant-rows l = record {
-  rest : rows_behind 2 (says_label l.assets) (shown_rows l.rows) l.records.left ≡ rows_of 2 (says_label l.assets) l.fn.records.left;
+  rest : rows_behind 2 (label_or_rule l.assets) (shown_rows l.rows) l.records.left ≡ rows_of 2 (label_or_rule l.assets) l.fn.records.left;
   few : length (shown_rows l.rows) ≤ most_labels;
   numbered : AreNumbered l.rows;
   texts : l.rows.texts ≡ texts_of (shown_rows l.rows);

@@ -5,7 +5,7 @@ use Rattle.pl_pipeline.specs.Table.{in_array, value_of}
 use Rattle.pl_terms.specs.Checked.{columns_of}
 use Rattle.pl_terms.proofs.Graphs.{columns-long}
 use Rattle.pl_rings.specs.Days.{last_session}
-use Rattle.pl_daily.specs.Daily.{Held, Stands, world_in}
+use Rattle.pl_daily.specs.Daily.{Held, HasBeenFed, world_in}
 use Rattle.pl_daily.proofs.Shown.{col_row, is_cell, is_value, term_in}
 use Rattle.pl_daily.proofs.daily.Daily.value.Goals as goal
 
@@ -47,7 +47,7 @@ returns-clause-value c =
     λ days column a stands at_c at_a.
     to_z-of_z w64 _ fits
     ∙ is_value d c.self.invariant c.args.column c.column_term-term.result c.column_term-term.ensures c.index.result.now c.index.ensures c.args.i c.index-col.result.now known c.index-col.ensures c.index-2.result.now c.index-2.ensures days column a
-    (subst (λ (h : Held). Stands h days) (sym c.self.view_is) stands)
+    (subst (λ (h : Held). HasBeenFed h days) (sym c.self.view_is) stands)
     (subst (λ (h : Held). slice_get h.pipeline.columns c.args.column ≡ Some column) (sym c.self.view_is) at_c)
     (subst (λ (h : Held). slice_get h.kept c.args.i ≡ Some a) (sym c.self.view_is) at_a)
     ∙ ap (λ (h : Held). in_array h.labels.texts (value_of (world_in h days) h.pipeline column.term (sid_at h.assets a) (last_session days))) c.self.view_is

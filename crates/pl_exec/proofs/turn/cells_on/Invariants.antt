@@ -1,7 +1,0 @@
-use Rattle.std.proofs.Common.{◌≡◌, ◌<◌, ℕ, get_or, pos}
-use Rattle.pl_exec.specs.Tasks.{cell_in}
-use Rattle.pl_exec.specs.Jobs.{task_at}
-use Rattle.pl_exec.proofs.turn.cells_on.Given as goal
-
-abbrev pub invariant-loop-i : goal.invariant-loop-i
-invariant-loop-i l = (n : ℕ) → n < l.i → get_or l.row n (pos 0) ≡ cell_in (task_at l.turn) l.fn.term.0 n l.fn.session
