@@ -2,9 +2,11 @@
 
 ghost use Rattle.std.specs.Prelude.{◌≡◌, [], option_map, unwrap_or};
 ghost use Rattle.pl_words.specs.Request.{adjustments_of, column_asked, date_asked, date_named, file_named, name_asked, named_by, names_asked, names_over, no_names, table_names};
-ghost use Rattle.pl_words.specs.Views.{dated_of, names_view, request_of, run_of, text_of, world_names_of};
+ghost use Rattle.pl_words.specs.Request.Request.{Plan, Payouts, Explain, Verify};
+ghost use Rattle.pl_words.specs.Views.{dated_of, explain_of, names_view, payouts_of, plan_of, request_of, run_of, text_of, verify_of, world_names_of};
 
-use crate::request::{DateWord, InputFile, RangeDate, Request, RunRequest, WorldNames};
+use crate::request::{DateWord, ExplainRequest, InputFile, PayoutsRequest, PlanRequest};
+use crate::request::{RangeDate, Request, RunRequest, VerifyRequest, WorldNames};
 
 /// The names of files, of adjustments and of a column, and the dates as they are written; each where the
 /// words have it.
@@ -112,30 +114,11 @@ impl<'a> Request<'a> {
                 pipeline: Some(name),
                 ..no_names()
             },
-            Request::Plan(plan) => Names {
-                pipeline: Some(plan.pipeline),
-                sessions: Some(plan.sessions),
-                from: Some(plan.from.text),
-                to: Some(plan.to.text),
-                ..no_names()
-            },
+            Request::Plan(plan) => plan.names(),
             Request::Bench(_) => no_names(),
-            Request::Payouts(payouts) => Names {
-                sessions: Some(payouts.sessions),
-                assets: Some(payouts.assets),
-                bars: Some(payouts.bars),
-                payouts: Some(payouts.payouts),
-                ..no_names()
-            },
-            Request::Explain(cell) => Names {
-                at: Some(cell.date.text),
-                column: Some(cell.column),
-                ..names_over(cell.pipeline, &cell.world)
-            },
-            Request::Verify(verify) => Names {
-                derivation: Some(verify.derivation),
-                ..names_over(verify.pipeline, &verify.world)
-            },
+            Request::Payouts(payouts) => payouts.names(),
+            Request::Explain(cell) => cell.names(),
+            Request::Verify(verify) => verify.names(),
         }
     }
 }
@@ -148,6 +131,57 @@ impl<'a> RunRequest<'a> {
             from: Some(self.from.text),
             to: Some(self.to.text),
             as_of: text_of(self.options.as_of),
+            ..names_over(self.pipeline, &self.world)
+        }
+    }
+}
+
+impl<'a> PlanRequest<'a> {
+    fn names(&self) -> Names<'a>
+        ensures { names_view result ≡ named_by (Plan (plan_of self.now)) }
+    {
+        Names {
+            pipeline: Some(self.pipeline),
+            sessions: Some(self.sessions),
+            from: Some(self.from.text),
+            to: Some(self.to.text),
+            ..no_names()
+        }
+    }
+}
+
+impl<'a> PayoutsRequest<'a> {
+    fn names(&self) -> Names<'a>
+        ensures { names_view result ≡ named_by (Payouts (payouts_of self.now)) }
+    {
+        Names {
+            sessions: Some(self.sessions),
+            assets: Some(self.assets),
+            bars: Some(self.bars),
+            payouts: Some(self.payouts),
+            ..no_names()
+        }
+    }
+}
+
+impl<'a> ExplainRequest<'a> {
+    fn names(&self) -> Names<'a>
+        ensures { names_view result ≡ named_by (Explain (explain_of self.now)) }
+    {
+        Names {
+            at: Some(self.date.text),
+            column: Some(self.column),
+            ..names_over(self.pipeline, &self.world)
+        }
+    }
+}
+
+impl<'a> VerifyRequest<'a> {
+    fn names(&self) -> Names<'a>
+        ensures { names_view result ≡ named_by (Verify (verify_of self.now)) }
+    {
+        Names {
+            derivation: Some(self.derivation),
             ..names_over(self.pipeline, &self.world)
         }
     }
