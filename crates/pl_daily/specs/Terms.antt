@@ -4,14 +4,15 @@ use Rattle.pl_spec.specs.declared.AssetRow.{AssetRow}
 use Rattle.pl_spec.specs.declared.Column.{Column}
 use Rattle.pl_spec.specs.declared.Frequency.{Frequency}
 use Rattle.pl_pipeline.specs.Kind.Kind.{Downsample}
+use Rattle.pl_spec.specs.Limits.{most_assets}
 use Rattle.pl_spec.specs.Parts.{ColumnNumber}
 use Rattle.pl_spec.specs.Periods.{period_start, same_period}
 use Rattle.pl_spec.specs.Rounding.{IsCell}
 use Rattle.pl_pipeline.specs.Table.{Pipeline}
 use Rattle.pl_pipeline.specs.Term.{Node}
 use Rattle.pl_pipeline.specs.Term.Input.{BarColumn, TermInput}
-use Rattle.pl_assets.specs.Labels.{LabelTable}
-use Rattle.pl_terms.specs.Checked.{pipeline_of}
+use Rattle.pl_assets.specs.Labels.{AreLabels, LabelTable}
+use Rattle.pl_terms.specs.Checked.{IsChecked, pipeline_of}
 use Rattle.pl_terms.specs.Sorts.{is_windowed}
 use Rattle.pl_terms.specs.Uses.{is_used}
 use Rattle.pl_rings.specs.Days.{Start, FedDay, fed, days_of, last_day, last_session, IsStart, AreFed}
@@ -38,6 +39,12 @@ pipeline_at l = pipeline_of l.checked.now
 
 abbrev pub assets_at : Lent → ℕ
 assets_at l = length l.assets.now
+
+-- the pipeline is as the language allows it, the assets are few, and the labels as their type keeps them
+pub record IsLent (l : Lent) : Type 0 where
+  pub checked : IsChecked (pipeline_at l)
+  pub few : assets_at l ≤ most_assets
+  pub labels : AreLabels l.labels.now
 
 -- ---- what is held has room
 

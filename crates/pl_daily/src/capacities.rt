@@ -9,7 +9,7 @@ ghost use Rattle.pl_terms.specs.Nodes.{input_of, node_of};
 ghost use Rattle.pl_terms.specs.Sorts.{is_windowed};
 ghost use Rattle.pl_terms.specs.Uses as uses;
 ghost use Rattle.pl_daily.specs.Capacities as spec;
-ghost use Rattle.pl_daily.specs.Inside.{used_window};
+ghost use Rattle.pl_daily.specs.Inside.{IsNumber, used_window};
 
 use pl_spec::Column;
 use pl_terms::{Checked, Input, Node, TermId, TermKind};
@@ -26,14 +26,10 @@ pub(crate) fn count(checked: &Checked) -> usize
 
 /// The node of a number.
 pub(crate) fn node_at(checked: &Checked, k: usize) -> &Node
-    requires { k < length (pipeline_of checked.now).graph }
-    ensures node { slice_get (pipeline_of checked.now).graph k ≡ Some (node_of result.now) }
-    ensures few { length (pipeline_of checked.now).graph ≤ most_terms }
-    ensures checked { IsChecked (pipeline_of checked.now) }
+    requires { IsNumber (pipeline_of checked.now) k }
+    ensures { slice_get (pipeline_of checked.now).graph k ≡ Some (node_of result.now) }
 {
-    let graph = checked.graph();
-    let _count = graph.len();
-    graph.node(TermId(k as u8))
+    checked.graph().node(TermId(k as u8))
 }
 
 // Is one of the inputs the bar column?
@@ -83,16 +79,15 @@ fn reads_term(node: &Node, t: TermId) -> bool
 
 /// Is the term of a number used?
 pub(crate) fn is_used(checked: &Checked, k: usize) -> bool
-    requires { k < length (pipeline_of checked.now).graph }
+    requires { IsNumber (pipeline_of checked.now) k }
     ensures { result ≡ uses.is_used (pipeline_of checked.now) k }
 {
-    let _terms = count(checked);
     checked.is_used(TermId(k as u8))
 }
 
 // The window of a number's term where it is used and reads the column.
 fn window_over_column(checked: &Checked, k: usize, column: Column) -> usize
-    requires { k < length (pipeline_of checked.now).graph }
+    requires { IsNumber (pipeline_of checked.now) k }
     ensures { result ≡ used_window (spec.reads_column column) (pipeline_of checked.now) k }
 {
     let node = node_at(checked, k);
@@ -105,7 +100,7 @@ fn window_over_column(checked: &Checked, k: usize, column: Column) -> usize
 
 // The window of a number's term where it is used, of a windowed kind, and reads the term.
 fn window_over_term(checked: &Checked, k: usize, t: TermId) -> usize
-    requires { k < length (pipeline_of checked.now).graph }
+    requires { IsNumber (pipeline_of checked.now) k }
     ensures { result ≡ used_window (spec.reads_term t.0) (pipeline_of checked.now) k }
 {
     let node = node_at(checked, k);

@@ -319,7 +319,6 @@ impl<'a> Daily<'a> {
             → result ≡ in_array self.now.labels.texts (value_of (world_in self.now days) self.now.pipeline
             c.term (sid_at self.now.assets a) (last_session days)) }
     {
-        let _graph = self.checked.graph();
         let term = self.checked.column_term(column);
         let col = self.kept[i];
         self.terms[term.0 as usize].row[col as usize]

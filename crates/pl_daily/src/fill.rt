@@ -32,17 +32,7 @@ pub(crate) fn fill_terms(
     ensures starts { AreStarts (assets_at lent.now) (pipeline_at lent.now) starts.new.items }
     ensures room { IsRoom (assets_at lent.now) (length (pipeline_at lent.now).graph) room.new }
 {
-    advance_terms(
-        lent,
-        terms,
-        starts,
-        &mut room.cross,
-        &mut room.first,
-        &mut room.second,
-        &mut room.third,
-        &mut room.keep,
-        &mut room.out,
-    );
+    advance_terms(lent, terms, starts, room);
 }
 
 // The sessions of starts.

@@ -1,7 +1,7 @@
 //! Who is kept on a day.
 ghost use Rattle.std.specs.Prelude.{◌≡◌, ◌≤◌, ◌<◌, length, vec_capacity, All, IfSome};
 ghost use Rattle.pl_cross.specs.Listing.{labels_in};
-ghost use Rattle.pl_terms.specs.Checked.{pipeline_of};
+ghost use Rattle.pl_terms.specs.Checked.{IsChecked, pipeline_of};
 ghost use Rattle.pl_day_rows.specs.TermDays.{number_row};
 ghost use Rattle.pl_daily.specs.Kept.{kept_places};
 
@@ -28,10 +28,10 @@ pub(crate) fn put_kept(assets: &Assets, day: i32, screen: Option<&[i64]>, kept: 
 
 /// The row of the screen, where there is one.
 pub(crate) fn screen_row<'t>(checked: &Checked, terms: &'t [TermCells]) -> Option<&'t [i64]>
-    requires { length terms.now ≡ length (pipeline_of checked.now).graph }
+    requires checked { IsChecked (pipeline_of checked.now) }
+    requires many { length terms.now ≡ length (pipeline_of checked.now).graph }
     ensures { labels_in result ≡ number_row terms.now (pipeline_of checked.now).screen }
 {
-    let _graph = checked.graph();
     match checked.screen() {
         Some(t) => Some(&terms[t.0 as usize].row),
         None => None,

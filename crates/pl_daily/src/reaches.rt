@@ -3,9 +3,10 @@ ghost use Rattle.std.specs.Prelude.{◌≡◌, ℤ, ◌<ℤ◌, ◌≤◌, ◌<�
 ghost use Rattle.std.specs.List.{list_all};
 ghost use Rattle.std.specs.Int.RustNames.{int_le};
 ghost use Rattle.pl_pipeline.specs.Lows.{least_reach};
-ghost use Rattle.pl_terms.specs.Checked.{columns_of, pipeline_of};
+ghost use Rattle.pl_terms.specs.Checked.{IsChecked, columns_of, pipeline_of};
 ghost use Rattle.pl_terms.specs.Nodes.{input_of, node_of, number_of};
 ghost use Rattle.pl_terms.specs.Uses.{outputs};
+ghost use Rattle.pl_daily.specs.Inside.{IsNumber};
 ghost use Rattle.pl_daily.specs.Reaches.{AreFirst, FollowFirst};
 ghost use Rattle.pl_daily.specs.Ready as spec;
 
@@ -90,7 +91,7 @@ fn is_used_ready(
     start: usize,
     fed: usize,
 ) -> bool
-    requires { k < length (pipeline_of checked.now).graph }
+    requires { IsNumber (pipeline_of checked.now) k }
     ensures { result ≡ spec.is_used_ready (pipeline_of checked.now) since.now k start fed }
 {
     is_node_ready(since, node_at(checked, k), start, fed) && is_used(checked, k)
@@ -104,7 +105,7 @@ fn first_of(
     start: usize,
     fed: usize,
 ) -> Option<usize>
-    requires within { k < length (pipeline_of checked.now).graph }
+    requires number { IsNumber (pipeline_of checked.now) k }
     requires since { length since.now ≡ length (pipeline_of checked.now).graph }
     ensures { result ≡ spec.first_with (get_or since.now k None)
         (spec.is_used_ready (pipeline_of checked.now) since.now k start fed) fed }
@@ -165,12 +166,12 @@ fn screen_has_first(checked: &Checked, since: &[Option<usize>]) -> bool
 }
 
 /// Do all outputs reach no session below 0 for the last session that was taken in?
-pub fn is_ready(checked: &Checked, since: &[Option<usize>]) -> bool
+pub(crate) fn is_ready(checked: &Checked, since: &[Option<usize>]) -> bool
+    requires { IsChecked (pipeline_of checked.now) }
     ensures { (earlier : List ℤ) (day : ℤ) → AllPairs (λ a b. a <ℤ b) (earlier ++ day ∷ [])
         → AreFirst (earlier ++ day ∷ []) (pipeline_of checked.now) since.now
         → result ≡ int_le (pos 0) (least_reach (earlier ++ day ∷ []) (pipeline_of checked.now).graph
         (outputs (pipeline_of checked.now)) (pos (length earlier))) }
 {
-    let _terms = count(checked);
     columns_have_first(checked, since) && screen_has_first(checked, since)
 }

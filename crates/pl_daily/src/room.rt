@@ -6,6 +6,7 @@ ghost use Rattle.pl_terms.specs.Uses as uses;
 ghost use Rattle.pl_spec.specs.Rounding.{IsCell};
 ghost use Rattle.pl_values.specs.Arrays.{empty_cell};
 ghost use Rattle.pl_daily.specs.Capacities as spec;
+ghost use Rattle.pl_daily.specs.Inside.{IsNumber};
 ghost use Rattle.pl_daily.specs.Room.{AreBegun, AreBegunStarts, HasColumns, IsBegun, IsRoom, no_session};
 ghost use Rattle.pl_daily.specs.Terms.{Downsamples, IsStartRoom};
 
@@ -67,7 +68,7 @@ pub(crate) fn column_windows(checked: &Checked) -> Capacities
 
 // How many cells a term has in a row: one for each asset where it is used, and else none.
 fn cell_count(checked: &Checked, assets: usize, k: usize) -> usize
-    requires { k < length (pipeline_of checked.now).graph }
+    requires { IsNumber (pipeline_of checked.now) k }
     ensures used { uses.is_used (pipeline_of checked.now) k ≡ true → result ≡ assets }
     ensures idle { uses.is_used (pipeline_of checked.now) k ≡ false → result ≡ 0 }
 {
@@ -76,26 +77,24 @@ fn cell_count(checked: &Checked, assets: usize, k: usize) -> usize
 
 // What a term has for an asset that is not kept.
 fn none_of(checked: &Checked, k: usize) -> i64
-    requires { k < length (pipeline_of checked.now).graph }
+    requires { IsNumber (pipeline_of checked.now) k }
     ensures value { result ≡ empty_cell (pipeline_of checked.now) k }
     ensures cell { IsCell result }
 {
-    let _terms = count(checked);
     empty_value(checked.graph(), TermId(k as u8))
 }
 
 // How many sessions the rings of a term need.
 fn ring_size(checked: &Checked, k: usize) -> usize
-    requires { k < length (pipeline_of checked.now).graph }
+    requires { IsNumber (pipeline_of checked.now) k }
     ensures { result ≡ spec.term_window (pipeline_of checked.now) k }
 {
-    let _terms = count(checked);
     term_window(checked, TermId(k as u8))
 }
 
 // What is held of a term before the first day.
 fn begin_one(alloc: Global, checked: &Checked, assets: usize, k: usize) -> Result<TermCells, Memory>
-    requires { k < length (pipeline_of checked.now).graph }
+    requires { IsNumber (pipeline_of checked.now) k }
     ensures { IfOk result (IsBegun assets (pipeline_of checked.now) k) }
 {
     let cells = cell_count(checked, assets, k);
@@ -121,7 +120,7 @@ pub(crate) fn begin_terms(
 
 // Whether a term is used and downsampled.
 fn is_downsampled(checked: &Checked, k: usize) -> bool
-    requires { k < length (pipeline_of checked.now).graph }
+    requires { IsNumber (pipeline_of checked.now) k }
     ensures { (f : Frequency) (u : ℕ) → Downsamples (pipeline_of checked.now) k f u → result ≡ true }
 {
     let node = node_at(checked, k);
@@ -130,7 +129,7 @@ fn is_downsampled(checked: &Checked, k: usize) -> bool
 
 // How many cells are held for the start of a term: one for each asset where it is used and downsampled.
 fn start_count(checked: &Checked, assets: usize, k: usize) -> usize
-    requires { k < length (pipeline_of checked.now).graph }
+    requires { IsNumber (pipeline_of checked.now) k }
     ensures { (f : Frequency) (u : ℕ) → Downsamples (pipeline_of checked.now) k f u → result ≡ assets }
 {
     if is_downsampled(checked, k) {
@@ -147,7 +146,7 @@ fn begin_start(
     assets: usize,
     k: usize,
 ) -> Result<StartCells, Memory>
-    requires { k < length (pipeline_of checked.now).graph }
+    requires { IsNumber (pipeline_of checked.now) k }
     ensures { IfOk result (IsStartRoom assets (pipeline_of checked.now) k) }
 {
     let row = vec![in alloc; 0; start_count(checked, assets, k)]?;

@@ -282,10 +282,7 @@ pub fn execute_chunk<L: Ledger>(
     ensures rows { rows.new ≡ rows.old }
 {
     parts_make_a_world(world);
-    let _sessions = world.sessions.len();
-    let _labels = world.labels.len();
-    let _assets = world.assets.len();
-    let _terms = checked.graph().len();
+    checked.graph().len();
     let inputs = ChunkInputs {
         world: *world,
         checked,

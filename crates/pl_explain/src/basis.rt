@@ -7,6 +7,7 @@ ghost use Rattle.pl_explain.specs.Given.{IsReady};
 use crate::fact_numbers::FactNumbers;
 use pl_terms::{Checked, Node, TermId};
 use pl_world::World;
+use pl_world::laws::parts_make_a_world;
 
 /// A world and a checked pipeline, and what is stated of their facts.
 #[derive(Clone, Copy)]
@@ -21,10 +22,8 @@ pub(crate) fn parts_are_ready(world: &World, checked: &Checked)
     requires { IsMade world.now }
     ensures { IsReady world.now checked.now }
 {
-    let _sessions = world.sessions.len();
-    let _assets = world.assets.len();
-    let _labels = world.labels.len();
-    let _terms = checked.graph();
+    parts_make_a_world(world);
+    checked.graph();
 }
 
 /// The node of a term.

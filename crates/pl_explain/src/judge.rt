@@ -84,13 +84,27 @@ fn is_right<L: Ledger>(
             day,
             cells,
         } => {
-            let cells = cells.as_slice();
-            is_right_bar(
-                alloc, world, checked, stated, rows, *column, *sid, *bar_day, *day, cells, steps,
-            )
+            let seen = SeenBar {
+                column: *column,
+                sid: *sid,
+                bar_day: *bar_day,
+                day: *day,
+                cells: cells.as_slice(),
+            };
+            is_right_bar(alloc, world, checked, stated, rows, &seen, steps)
         }
         Line::Value(value) => is_right_value(alloc, world, checked, stated, rows, value),
     }
+}
+
+// What a line says of a bar: its cells, one for each event, as they are seen on a later day.
+#[derive(Clone, Copy)]
+struct SeenBar<'a> {
+    column: Column,
+    sid: u32,
+    bar_day: i32,
+    day: i32,
+    cells: &'a [i64],
 }
 
 // The same of a bar as it is seen on a later session.
@@ -100,36 +114,33 @@ fn is_right_bar<L: Ledger>(
     checked: &Checked,
     stated: &mut FactNumbers,
     rows: &Rows,
-    column: Column,
-    sid: u32,
-    bar_day: i32,
-    day: i32,
-    cells: &[i64],
+    line: &SeenBar<'_>,
     steps: &mut Steps<L>,
 ) -> Result<bool, Memory>
     requires table { IsTable world.now checked.now stated.old rows.now }
-    ensures { IfOk result (IsJudgement world.now checked.now (SeenLine column sid bar_day day cells.now)
+    ensures { IfOk result (IsJudgement world.now checked.now
+        (SeenLine line.now.column line.now.sid line.now.bar_day line.now.day line.now.cells.now)
         stated.old stated.new rows.now) }
 {
-    let Some(col) = col_of(world, sid) else {
+    let Some(col) = col_of(world, line.sid) else {
         return Ok(false);
     };
-    let Some(bar) = world.sessions.index_of(bar_day) else {
+    let Some(bar) = world.sessions.index_of(line.bar_day) else {
         return Ok(false);
     };
-    let Some(session) = world.sessions.index_of(day) else {
+    let Some(session) = world.sessions.index_of(line.day) else {
         return Ok(false);
     };
     if bar >= session {
         return Ok(false);
     }
-    let seen = seen_cells(alloc, world, column, col, bar, session, steps)?;
-    if !same_cells(cells, &seen) {
+    let seen = seen_cells(alloc, world, line.column, col, bar, session, steps)?;
+    if !same_cells(line.cells, &seen) {
         return Ok(false);
     }
     let fact = Fact::Seen {
-        column,
-        sid,
+        column: line.column,
+        sid: line.sid,
         bar: bar as u32,
         session: session as u32,
     };

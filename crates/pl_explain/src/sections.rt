@@ -16,7 +16,7 @@ use crate::rows::Rows;
 use pl_fixed::Memory;
 use pl_terms::TermId;
 use pl_values::empty_value;
-use pl_world::{exists, section_input, section_row};
+use pl_world::{SectionRows, exists, section_input, section_row};
 use std::alloc::Global;
 
 /// The cell of a cross-section, by what is stated of all assets. The row of a term and a session is computed
@@ -78,15 +78,18 @@ fn whole_row(
     let Some(groups) = optional_row_stated(alloc, basis, node.group, session)? else {
         return Ok(None);
     };
+    let rows = SectionRows {
+        values: &values,
+        mask: &mask,
+        groups: &groups,
+    };
     Ok(Some(section_row(
         alloc,
         &basis.world,
         basis.checked,
         t,
         session,
-        &values,
-        &mask,
-        &groups,
+        &rows,
     )?))
 }
 

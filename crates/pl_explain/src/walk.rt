@@ -41,6 +41,14 @@ use pl_world::{World, exists};
 use std::alloc::Global;
 use std::sync::ledger::Ledger;
 
+// What a derivation is drawn from, and where its memory comes from.
+#[derive(Clone, Copy)]
+struct Source<'a> {
+    alloc: Global,
+    world: World<'a>,
+    checked: &'a Checked,
+}
+
 // What is finished so far: the number of each fact, found by it, and its line.
 #[derive(Drop)]
 struct Walk {
@@ -89,23 +97,26 @@ pub fn explain_cell<L: Ledger>(
         rows: Rows::new(alloc),
         lines: Vec::new(alloc),
     };
-    finish(alloc, world, checked, &mut walk, fact, steps)?;
+    let source = Source {
+        alloc,
+        world: *world,
+        checked,
+    };
+    finish(&source, &mut walk, fact, steps)?;
     Ok(Derivation::of(walk.lines))
 }
 
 // Finishes a fact, where it is not finished yet.
 #[cycle(walk)]
 fn finish<L: Ledger>(
-    alloc: Global,
-    world: &World,
-    checked: &Checked,
+    source: &Source<'_>,
     walk: &mut Walk,
     fact: Fact,
     steps: &mut Steps<L>,
 ) -> Result<(), ExplainError>
-    requires stands { HoldsSoFar world.now checked.now walk.old }
-    requires fact { MayBeDerived world.now checked.now (fact_of fact) }
-    ensures { IsWalkTo world.now checked.now (depth_of (fact_of fact)) (fact_of fact ∷ [])
+    requires stands { HoldsSoFar source.now.world source.now.checked.now walk.old }
+    requires fact { MayBeDerived source.now.world source.now.checked.now (fact_of fact) }
+    ensures { IsWalkTo source.now.world source.now.checked.now (depth_of (fact_of fact)) (fact_of fact ∷ [])
         walk.old walk.new result }
 {
     if walk.stated.number(fact).is_some() {
@@ -117,11 +128,9 @@ fn finish<L: Ledger>(
             sid,
             bar,
             session,
-        } => finish_bar(
-            alloc, world, checked, walk, column, sid, bar, session, steps,
-        ),
+        } => finish_bar(source, walk, column, sid, bar, session, steps),
         Fact::TermValue { term, sid, session } => {
-            finish_value(alloc, world, checked, walk, term, sid, session, steps)
+            finish_value(source, walk, term, sid, session, steps)
         }
     }
 }
@@ -129,20 +138,20 @@ fn finish<L: Ledger>(
 // Finishes what a term reads, in order.
 #[cycle(walk)]
 fn finish_all<L: Ledger>(
-    alloc: Global,
-    world: &World,
-    checked: &Checked,
+    source: &Source<'_>,
     walk: &mut Walk,
     t: TermId,
     facts: &[Fact],
     steps: &mut Steps<L>,
 ) -> Result<(), ExplainError>
-    requires stands { HoldsSoFar world.now checked.now walk.old }
-    requires facts { Each (CanStandIn world.now checked.now (t.0 + 1)) (map fact_of facts.now) }
-    ensures { IsWalkTo world.now checked.now (t.0 + 1) (map fact_of facts.now) walk.old walk.new result }
+    requires stands { HoldsSoFar source.now.world source.now.checked.now walk.old }
+    requires facts { Each (CanStandIn source.now.world source.now.checked.now (t.0 + 1))
+        (map fact_of facts.now) }
+    ensures { IsWalkTo source.now.world source.now.checked.now (t.0 + 1) (map fact_of facts.now)
+        walk.old walk.new result }
 {
     for fact in facts {
-        finish(alloc, world, checked, walk, *fact, steps)?;
+        finish(source, walk, *fact, steps)?;
     }
     Ok(())
 }
@@ -150,33 +159,31 @@ fn finish_all<L: Ledger>(
 // Finishes a value after its premises.
 #[cycle(walk)]
 fn finish_value<L: Ledger>(
-    alloc: Global,
-    world: &World,
-    checked: &Checked,
+    source: &Source<'_>,
     walk: &mut Walk,
     term: u8,
     sid: u32,
     session: u32,
     steps: &mut Steps<L>,
 ) -> Result<(), ExplainError>
-    requires stands { HoldsSoFar world.now checked.now walk.old }
-    requires fact { MayBeDerived world.now checked.now (TermValue term sid (pos session)) }
+    requires stands { HoldsSoFar source.now.world source.now.checked.now walk.old }
+    requires fact { MayBeDerived source.now.world source.now.checked.now (TermValue term sid (pos session)) }
     requires fresh { has walk.old.stated (TermValue term sid (pos session)) ≡ false }
-    ensures { IsWalkTo world.now checked.now (term + 2) (TermValue term sid (pos session) ∷ [])
-        walk.old walk.new result }
+    ensures { IsWalkTo source.now.world source.now.checked.now (term + 2)
+        (TermValue term sid (pos session) ∷ []) walk.old walk.new result }
 {
-    let Some(col) = col_of(world, sid) else {
+    let Some(col) = col_of(&source.world, sid) else {
         unreachable!();
     };
     let t = TermId(term);
-    finish_premises(alloc, world, checked, walk, t, col, session as usize, steps)?;
-    let value = value_now(alloc, world, checked, walk, t, col, session as usize)?;
+    finish_premises(source, walk, t, col, session as usize, steps)?;
+    let value = value_now(source, walk, t, col, session as usize)?;
     let line = Line::Value(ValueLine {
         term: term as u32,
         sid,
-        day: world.sessions.day(session as usize),
+        day: source.world.sessions.day(session as usize),
         value,
-        known: known_day(world, checked, t, col, session as usize),
+        known: known_day(&source.world, source.checked, t, col, session as usize),
     });
     put(walk, Fact::TermValue { term, sid, session }, value, line)
 }
@@ -184,37 +191,35 @@ fn finish_value<L: Ledger>(
 // Finishes the premises of a value: the mask, and where the asset passes it what the kind reads.
 #[cycle(walk)]
 fn finish_premises<L: Ledger>(
-    alloc: Global,
-    world: &World,
-    checked: &Checked,
+    source: &Source<'_>,
     walk: &mut Walk,
     t: TermId,
     col: usize,
     session: usize,
     steps: &mut Steps<L>,
 ) -> Result<(), ExplainError>
-    requires stands { HoldsSoFar world.now checked.now walk.old }
-    requires col { col < length world.now.assets.now }
-    requires session { session < length world.now.sessions.now }
-    requires fact { MayBeDerived world.now checked.now
-        (TermValue t.0 (sid_at world.now.assets.now col) (pos session)) }
-    ensures { IsWalkTo world.now checked.now (t.0 + 1)
-        (own_facts world.now checked.now t.0 (sid_at world.now.assets.now col) session)
-        walk.old walk.new result }
+    requires stands { HoldsSoFar source.now.world source.now.checked.now walk.old }
+    requires col { col < length source.now.world.assets.now }
+    requires session { session < length source.now.world.sessions.now }
+    requires fact { MayBeDerived source.now.world source.now.checked.now
+        (TermValue t.0 (sid_at source.now.world.assets.now col) (pos session)) }
+    ensures { IsWalkTo source.now.world source.now.checked.now (t.0 + 1)
+        (own_facts source.now.world source.now.checked.now t.0
+        (sid_at source.now.world.assets.now col) session) walk.old walk.new result }
 {
-    let node = node_in(checked, t);
-    if !exists(world, col, session) {
+    let node = node_in(source.checked, t);
+    if !exists(&source.world, col, session) {
         return Ok(());
     }
-    let mask = mask_read(alloc, node, world.assets.sid(col), session as u32)?;
-    finish_all(alloc, world, checked, walk, t, &mask, steps)?;
+    let mask = mask_read(source.alloc, node, source.world.assets.sid(col), session as u32)?;
+    finish_all(source, walk, t, &mask, steps)?;
     let basis = Basis {
-        world: *world,
-        checked,
+        world: source.world,
+        checked: source.checked,
         stated: &walk.stated,
     };
     match mask_stated(&basis, node.mask, col, session) {
-        Some(true) => finish_kind(alloc, world, checked, walk, t, col, session, steps),
+        Some(true) => finish_kind(source, walk, t, col, session, steps),
         Some(false) => Ok(()),
         None => unreachable!(),
     }
@@ -223,43 +228,44 @@ fn finish_premises<L: Ledger>(
 // Finishes what the kind of a term reads.
 #[cycle(walk)]
 fn finish_kind<L: Ledger>(
-    alloc: Global,
-    world: &World,
-    checked: &Checked,
+    source: &Source<'_>,
     walk: &mut Walk,
     t: TermId,
     col: usize,
     session: usize,
     steps: &mut Steps<L>,
 ) -> Result<(), ExplainError>
-    requires stands { HoldsSoFar world.now checked.now walk.old }
-    requires col { col < length world.now.assets.now }
-    requires session { session < length world.now.sessions.now }
-    requires fact { MayBeDerived world.now checked.now
-        (TermValue t.0 (sid_at world.now.assets.now col) (pos session)) }
-    requires facts { Each (CanStandIn world.now checked.now (t.0 + 1))
-        (facts_read world.now checked.now t.0 (sid_at world.now.assets.now col) session) }
-    ensures { IsWalkTo world.now checked.now (t.0 + 1)
-        (facts_read world.now checked.now t.0 (sid_at world.now.assets.now col) session)
-        walk.old walk.new result }
+    requires stands { HoldsSoFar source.now.world source.now.checked.now walk.old }
+    requires col { col < length source.now.world.assets.now }
+    requires session { session < length source.now.world.sessions.now }
+    requires fact { MayBeDerived source.now.world source.now.checked.now
+        (TermValue t.0 (sid_at source.now.world.assets.now col) (pos session)) }
+    requires facts { Each (CanStandIn source.now.world source.now.checked.now (t.0 + 1))
+        (facts_read source.now.world source.now.checked.now t.0
+        (sid_at source.now.world.assets.now col) session) }
+    ensures { IsWalkTo source.now.world source.now.checked.now (t.0 + 1)
+        (facts_read source.now.world source.now.checked.now t.0
+        (sid_at source.now.world.assets.now col) session) walk.old walk.new result }
 {
-    if is_whole(world, checked, walk, t, session) {
+    if is_whole(source, walk, t, session) {
         return Ok(());
     }
-    let facts = facts_read(alloc, world, checked, t, col, session)?;
-    finish_all(alloc, world, checked, walk, t, &facts, steps)
+    let facts = facts_read(source.alloc, &source.world, source.checked, t, col, session)?;
+    finish_all(source, walk, t, &facts, steps)
 }
 
 // Whether all that a cross-section reads is finished, since its row is kept.
-fn is_whole(world: &World, checked: &Checked, walk: &Walk, t: TermId, session: usize) -> bool
-    requires stands { HoldsSoFar world.now checked.now walk.now }
-    requires term { t.0 < length checked.now.graph }
-    requires session { session < length world.now.sessions.now }
+fn is_whole(source: &Source<'_>, walk: &Walk, t: TermId, session: usize) -> bool
+    requires stands { HoldsSoFar source.now.world source.now.checked.now walk.now }
+    requires term { t.0 < length source.now.checked.now.graph }
+    requires session { session < length source.now.world.sessions.now }
     ensures stand { IsTrue result → (a : _)
-        → has_all walk.now.stated (facts_read world.now checked.now t.0 a session) ≡ true }
-    ensures whole { HasKind checked.now t.0 is_section → HasRow t.0 session walk.now.rows → result ≡ true }
+        → has_all walk.now.stated (facts_read source.now.world source.now.checked.now t.0 a session)
+        ≡ true }
+    ensures whole { HasKind source.now.checked.now t.0 is_section → HasRow t.0 session walk.now.rows
+        → result ≡ true }
 {
-    match family_of(&node_in(checked, t).kind) {
+    match family_of(&node_in(source.checked, t).kind) {
         Family::Section => walk.rows.row(t.0, session as u32).is_some(),
         _ => false,
     }
@@ -267,33 +273,33 @@ fn is_whole(world: &World, checked: &Checked, walk: &Walk, t: TermId, session: u
 
 // The value of a term whose premises are finished.
 fn value_now(
-    alloc: Global,
-    world: &World,
-    checked: &Checked,
+    source: &Source<'_>,
     walk: &mut Walk,
     t: TermId,
     col: usize,
     session: usize,
 ) -> Result<i64, Memory>
-    requires stands { HoldsSoFar world.now checked.now walk.old }
-    requires term { t.0 < length checked.now.graph }
-    requires col { col < length world.now.assets.now }
-    requires session { session < length world.now.sessions.now }
+    requires stands { HoldsSoFar source.now.world source.now.checked.now walk.old }
+    requires term { t.0 < length source.now.checked.now.graph }
+    requires col { col < length source.now.world.assets.now }
+    requires session { session < length source.now.world.sessions.now }
     requires premises { has_all walk.old.stated
-        (own_facts world.now checked.now t.0 (sid_at world.now.assets.now col) session) ≡ true }
-    ensures value { IfOk result (λ x. x ≡ cell_in world.now checked.now t.0
-        (sid_at world.now.assets.now col) session) }
+        (own_facts source.now.world source.now.checked.now t.0
+        (sid_at source.now.world.assets.now col) session) ≡ true }
+    ensures value { IfOk result (λ x. x ≡ cell_in source.now.world source.now.checked.now t.0
+        (sid_at source.now.world.assets.now col) session) }
     ensures cell { IfOk result IsCell }
     ensures stated { walk.new.stated ≡ walk.old.stated }
     ensures lines { walk.new.lines ≡ walk.old.lines }
-    ensures rows { OnOk result (KeepsRows world.now checked.now walk.old.stated walk.new.rows) }
+    ensures rows { OnOk result (KeepsRows source.now.world source.now.checked.now walk.old.stated
+        walk.new.rows) }
 {
     let basis = Basis {
-        world: *world,
-        checked,
+        world: source.world,
+        checked: source.checked,
         stated: &walk.stated,
     };
-    match value_stated(alloc, &basis, &mut walk.rows, t, col, session)? {
+    match value_stated(source.alloc, &basis, &mut walk.rows, t, col, session)? {
         Some(value) => Ok(value),
         None => unreachable!(),
     }
@@ -301,9 +307,7 @@ fn value_now(
 
 // Finishes a bar as it is seen on a later session.
 fn finish_bar<L: Ledger>(
-    alloc: Global,
-    world: &World,
-    checked: &Checked,
+    source: &Source<'_>,
     walk: &mut Walk,
     column: Column,
     sid: u32,
@@ -311,18 +315,19 @@ fn finish_bar<L: Ledger>(
     session: u32,
     steps: &mut Steps<L>,
 ) -> Result<(), ExplainError>
-    requires stands { HoldsSoFar world.now checked.now walk.old }
-    requires fact { MayBeDerived world.now checked.now (Seen column sid (pos bar) (pos session)) }
+    requires stands { HoldsSoFar source.now.world source.now.checked.now walk.old }
+    requires fact { MayBeDerived source.now.world source.now.checked.now
+        (Seen column sid (pos bar) (pos session)) }
     requires fresh { has walk.old.stated (Seen column sid (pos bar) (pos session)) ≡ false }
-    ensures { IsWalkTo world.now checked.now 1 (Seen column sid (pos bar) (pos session) ∷ [])
-        walk.old walk.new result }
+    ensures { IsWalkTo source.now.world source.now.checked.now 1
+        (Seen column sid (pos bar) (pos session) ∷ []) walk.old walk.new result }
 {
-    let Some(col) = col_of(world, sid) else {
+    let Some(col) = col_of(&source.world, sid) else {
         unreachable!();
     };
     let seen = seen_cells(
-        alloc,
-        world,
+        source.alloc,
+        &source.world,
         column,
         col,
         bar as usize,
@@ -333,8 +338,8 @@ fn finish_bar<L: Ledger>(
     let line = Line::Seen {
         column,
         sid,
-        bar_day: world.sessions.day(bar as usize),
-        day: world.sessions.day(session as usize),
+        bar_day: source.world.sessions.day(bar as usize),
+        day: source.world.sessions.day(session as usize),
         cells: CellList::new(seen),
     };
     let fact = Fact::Seen {

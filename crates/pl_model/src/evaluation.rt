@@ -23,7 +23,7 @@ use pl_terms::{Checked, Input, Node, TermId};
 use pl_values::{
     Family, empty_value, family_of, label_test_value, point_value, sids_value, window_value,
 };
-use pl_world::{World, exists, input_at, label_cell, number_cell, section_input, section_row};
+use pl_world::{SectionRows, World, exists, input_at, label_cell, number_cell, section_input, section_row};
 use std::alloc::Global;
 use std::sync::ledger::Ledger;
 
@@ -191,15 +191,18 @@ fn section_cell<L: Ledger>(ask: Request, node: &Node, steps: &mut Steps<L>) -> R
     let values = term_row(ask, input, steps)?;
     let mask = optional_row(ask, node.mask, steps)?;
     let groups = optional_row(ask, node.group, steps)?;
+    let rows = SectionRows {
+        values: &values,
+        mask: &mask,
+        groups: &groups,
+    };
     let row = section_row(
         ask.alloc,
         ask.world,
         ask.checked,
         ask.term,
         ask.session,
-        &values,
-        &mask,
-        &groups,
+        &rows,
     )?;
     Ok(row[ask.col])
 }

@@ -130,8 +130,6 @@ pub window-is : (n : code.Node) → (node_of n).window ≡ n.window
 unfolding node_of
 window-is n = refl
 
-pub graph-few : (ns : List code.Node) → length ns ≤ 256 → length (graph_of ns) ≤ 256
-graph-few ns h = let e = graph-long ns in omega arith
 
 -- ---- how far back a node reads
 

@@ -1,3 +1,4 @@
+pub mod Asked
 pub mod Columns
 pub mod Extra
 pub mod Inside

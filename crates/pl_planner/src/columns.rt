@@ -8,6 +8,7 @@ ghost use Rattle.pl_pipeline.specs.Graph.{bound, columns_at, contains, input_col
 ghost use Rattle.pl_terms.specs.Checked.{IsChecked, pipeline_of};
 ghost use Rattle.pl_terms.specs.Nodes.{input_of, node_of};
 ghost use Rattle.pl_terms.specs.Uses.{outputs};
+ghost use Rattle.pl_planner.specs.Asked.{AreAsked};
 ghost use Rattle.pl_planner.specs.Uses.{AreUses, HaveExtras, is_kept, use_at};
 ghost use Rattle.pl_planner.specs.Columns.{bars_back, is_bar, columns_in, held_at, most_back, reads_back};
 
@@ -140,6 +141,7 @@ fn reads_back(
     session: usize,
     t: usize,
 ) -> usize
+    requires asked { AreAsked sessions.now (pipeline_of checked.now) }
     requires uses { AreUses (pipeline_of checked.now).graph (outputs (pipeline_of checked.now)) uses.now }
     requires extras { HaveExtras sessions.now session (pipeline_of checked.now).graph
         (outputs (pipeline_of checked.now)) uses.now }
@@ -148,7 +150,6 @@ fn reads_back(
     ensures value { result ≡ reads_back sessions.now session (pipeline_of checked.now).graph uses.now t }
     ensures few { result ≤ session + most_window * (most_terms + 1) }
 {
-    let _count = sessions.len();
     if uses[t].used {
         let node = node_at(checked, t);
         back_from(sessions, node, session, uses[t].extra) + bars_back(node)
@@ -164,6 +165,7 @@ pub(crate) fn most_back(
     uses: &[Use],
     session: usize,
 ) -> usize
+    requires asked { AreAsked sessions.now (pipeline_of checked.now) }
     requires uses { AreUses (pipeline_of checked.now).graph (outputs (pipeline_of checked.now)) uses.now }
     requires extras { HaveExtras sessions.now session (pipeline_of checked.now).graph
         (outputs (pipeline_of checked.now)) uses.now }
@@ -171,7 +173,6 @@ pub(crate) fn most_back(
     ensures value { result ≡ most_back sessions.now session (pipeline_of checked.now).graph uses.now
         (length (pipeline_of checked.now).graph) }
     ensures few { result ≤ session + most_window * (most_terms + 1) }
-    ensures checked { IsChecked (pipeline_of checked.now) }
 {
     let mut most = 0;
     for t in 0..count(checked) {

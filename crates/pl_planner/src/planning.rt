@@ -1,13 +1,14 @@
 //! The plan of a run.
 ghost use Rattle.std.specs.Prelude.{◌≡◌, ◌<◌, ◌≤◌, pos, IfErr, IfOk, length};
 ghost use Rattle.pl_pipeline.specs.Lows.{least_reach};
-ghost use Rattle.pl_calendar.specs.Days.{AreDays};
-ghost use Rattle.pl_terms.specs.Checked.{IsChecked, pipeline_of};
+ghost use Rattle.pl_terms.specs.Checked.{pipeline_of};
 ghost use Rattle.pl_terms.specs.Uses.{outputs};
+ghost use Rattle.pl_planner.specs.Asked.{AreAsked};
 ghost use Rattle.pl_planner.specs.Plans.{IsPlanFault, IsPlanOf};
 ghost use Rattle.pl_planner.specs.Uses.{AreUses, HaveExtras};
 
 use crate::columns::{bound_of, most_back};
+use crate::pipeline::are_asked;
 use crate::plans::{Plan, PlanError};
 use crate::rows::{gather_rows, most_extra};
 use crate::slots::slot_terms;
@@ -21,16 +22,14 @@ const MOST_ROWS: usize = 4096;
 
 // The least session that is reached for the first one.
 fn reach_of(checked: &Checked, sessions: &Sessions, uses: &[Use], from: usize) -> i64
+    requires asked { AreAsked sessions.now (pipeline_of checked.now) }
     requires uses { AreUses (pipeline_of checked.now).graph (outputs (pipeline_of checked.now)) uses.now }
     requires extras { HaveExtras sessions.now from (pipeline_of checked.now).graph
         (outputs (pipeline_of checked.now)) uses.now }
     requires within { from < length sessions.now }
-    ensures value { result ≡ least_reach sessions.now (pipeline_of checked.now).graph
+    ensures { result ≡ least_reach sessions.now (pipeline_of checked.now).graph
         (outputs (pipeline_of checked.now)) (pos from) }
-    ensures checked { IsChecked (pipeline_of checked.now) }
-    ensures days { AreDays sessions.now }
 {
-    let _count = sessions.len();
     from as i64 - most_back(checked, sessions, uses, from) as i64
 }
 
@@ -51,6 +50,7 @@ pub fn plan(
     ensures plan { IfOk result (λ p. IsPlanOf sessions.now (pipeline_of checked.now) p) }
     ensures fault { IfErr result (λ e. IsPlanFault sessions.now (pipeline_of checked.now) from to e) }
 {
+    are_asked(checked, sessions);
     let Ok(uses) = gather(alloc, checked, sessions, from) else {
         return Err(PlanError::Memory);
     };

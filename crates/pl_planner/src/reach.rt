@@ -4,11 +4,14 @@ ghost use Rattle.std.specs.List.{list_any};
 ghost use Rattle.pl_pipeline.specs.Graph.{reach};
 ghost use Rattle.pl_pipeline.specs.Term.{MentionsBelow, term_at};
 ghost use Rattle.pl_spec.specs.Window.{before};
+ghost use Rattle.pl_terms.specs.Checked.{pipeline_of};
 ghost use Rattle.pl_terms.specs.Nodes.{graph_of, input_of, node_of, number_of};
+ghost use Rattle.pl_planner.specs.Asked.{AreAsked};
 ghost use Rattle.pl_planner.specs.Extra.{IsBelow, input_ask, number_asks};
 ghost use Rattle.pl_planner.specs.Reaching.{all_asked, asks, deeper, own_depth};
 ghost use Rattle.pl_planner.specs.Columns.{is_bar};
 
+use crate::pipeline::are_asked;
 use crate::uses::back_from;
 use pl_calendar::Sessions;
 use pl_fixed::Memory;
@@ -29,7 +32,7 @@ pub fn reach_at(
     ensures { IfOk result (λ r. r
         ≡ reach sessions.now (term_at (graph_of checked.now.graph) t.0) (pos session)) }
 {
-    let _sessions = sessions.len();
+    are_asked(checked, sessions);
     let mut depths = none_read(alloc, t.0 as usize + 1)?;
     depths[t.0 as usize] = Some(0);
     let deepest = deepest_read(checked, sessions, &mut depths, t, session);
@@ -45,6 +48,7 @@ fn deepest_read(
     t: TermId,
     session: usize,
 ) -> usize
+    requires asked { AreAsked sessions.now (pipeline_of checked.now) }
     requires term { t.0 < length checked.now.graph }
     requires session { session < length sessions.now }
     requires depths { depths.old ≡ slice_set (replicate (t.0 + 1) None) t.0 (Some 0) }
@@ -52,9 +56,7 @@ fn deepest_read(
         ≡ reach sessions.now (term_at (graph_of checked.now.graph) t.0) (pos session) }
     ensures few { result ≤ 2 ^ 32 }
 {
-    let _sessions = sessions.len();
     let graph = checked.graph();
-    let _terms = graph.len();
     let mut deepest = 0;
     let mut k = t.0 as usize + 1;
     while k > 0 {

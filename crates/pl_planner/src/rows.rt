@@ -1,8 +1,9 @@
 //! How many sessions before each session of a range the terms are computed for it.
 
 ghost use Rattle.std.specs.Prelude.{◌≡◌, ◌++◌, ◌+◌, ◌-◌, ◌<◌, ◌≤◌, IfOk, OnOk, length, map};
-ghost use Rattle.pl_terms.specs.Checked.{IsChecked, pipeline_of};
+ghost use Rattle.pl_terms.specs.Checked.{pipeline_of};
 ghost use Rattle.pl_terms.specs.Uses.{outputs};
+ghost use Rattle.pl_planner.specs.Asked.{AreAsked};
 ghost use Rattle.pl_planner.specs.Rows.{AreRows, extra_in, most_extra};
 
 use crate::pipeline::count;
@@ -35,12 +36,12 @@ pub(crate) fn gather_rows(
     from: usize,
     to: usize,
 ) -> Result<Vec<usize>, AllocError>
+    requires asked { AreAsked sessions.now (pipeline_of checked.now) }
     requires order { from ≤ to }
     requires within { to < length sessions.now }
     ensures { IfOk result (λ extras. AreRows sessions.now (pipeline_of checked.now).graph
         (outputs (pipeline_of checked.now)) from (to + 1 - from) extras.items) }
 {
-    let _count = sessions.len();
     let mut extras = Vec::new(alloc);
     for session in from..to + 1 {
         let uses = gather(alloc, checked, sessions, session)?;

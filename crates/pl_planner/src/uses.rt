@@ -3,9 +3,10 @@
 ghost use Rattle.std.specs.Prelude.{◌≡◌, ℕ, All, IfSome, option_map, option_to_list, replicate, ◌+◌, ◌<◌, ◌≤◌, ◌^◌, IfOk, length, map, slice_set, filter_map, fold, get_or};
 ghost use Rattle.pl_pipeline.specs.Kind.Kind.{Downsample};
 ghost use Rattle.pl_pipeline.specs.Term.{MentionsBelow};
-ghost use Rattle.pl_terms.specs.Checked.{columns_of, pipeline_of};
+ghost use Rattle.pl_terms.specs.Checked.{IsChecked, columns_of, pipeline_of};
 ghost use Rattle.pl_terms.specs.Nodes.{input_of, node_of, number_of};
 ghost use Rattle.pl_terms.specs.Uses.{outputs};
+ghost use Rattle.pl_planner.specs.Asked.{AreAsked};
 ghost use Rattle.pl_planner.specs.Extra.{IsBelow, asks, back_from, input_ask, number_asks};
 ghost use Rattle.pl_planner.specs.Uses.{AreUses, HaveExtras, all_asked, all_marked, marked, raised, unused, use_at};
 
@@ -149,10 +150,10 @@ fn mark(uses: &mut [Use], term: TermId, terms: usize)
 }
 
 fn mark_columns(uses: &mut [Use], checked: &Checked, terms: usize)
-    requires { length uses.old ≡ length (pipeline_of checked.now).graph }
+    requires checked { IsChecked (pipeline_of checked.now) }
+    requires long { length uses.old ≡ length (pipeline_of checked.now).graph }
     ensures { uses.new ≡ all_marked uses.old terms (map (λ c. c.term) (columns_of checked.now.columns)) }
 {
-    let _terms = count(checked);
     for i in 0..checked.columns() {
         mark(uses, checked.column_term(i), terms);
     }
@@ -160,10 +161,10 @@ fn mark_columns(uses: &mut [Use], checked: &Checked, terms: usize)
 
 // The columns' terms and the screen are used on the first session, and to the end.
 fn mark_outputs(uses: &mut [Use], checked: &Checked, terms: usize)
-    requires { length uses.old ≡ length (pipeline_of checked.now).graph }
+    requires checked { IsChecked (pipeline_of checked.now) }
+    requires long { length uses.old ≡ length (pipeline_of checked.now).graph }
     ensures { uses.new ≡ all_marked uses.old terms (outputs (pipeline_of checked.now)) }
 {
-    let _terms = count(checked);
     mark_columns(uses, checked, terms);
     if let Some(screen) = checked.screen() {
         mark(uses, screen, terms);
@@ -172,13 +173,13 @@ fn mark_outputs(uses: &mut [Use], checked: &Checked, terms: usize)
 
 // One pass from the last term to the first.
 fn ask_down(uses: &mut [Use], checked: &Checked, sessions: &Sessions, session: usize)
+    requires asked { AreAsked sessions.now (pipeline_of checked.now) }
     requires unused { uses.old ≡ replicate (length (pipeline_of checked.now).graph) unused }
     requires within { session < length sessions.now }
     ensures uses { AreUses (pipeline_of checked.now).graph (outputs (pipeline_of checked.now)) uses.new }
     ensures extras { HaveExtras sessions.now session (pipeline_of checked.now).graph
         (outputs (pipeline_of checked.now)) uses.new }
 {
-    let _count = sessions.len();
     let mut k = count(checked);
     mark_outputs(uses, checked, k);
     while k > 0 {
@@ -198,7 +199,8 @@ pub(crate) fn gather(
     sessions: &Sessions,
     session: usize,
 ) -> Result<Vec<Use>, AllocError>
-    requires { session < length sessions.now }
+    requires asked { AreAsked sessions.now (pipeline_of checked.now) }
+    requires within { session < length sessions.now }
     ensures uses { IfOk result (λ uses.
         AreUses (pipeline_of checked.now).graph (outputs (pipeline_of checked.now)) uses.items) }
     ensures extras { IfOk result (λ uses. HaveExtras sessions.now session (pipeline_of checked.now).graph

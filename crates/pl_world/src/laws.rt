@@ -21,10 +21,10 @@ pub fn parts_make_a_world(world: &World)
     ensures { PartsMakeAWorld world.now }
 {
     assets_and_labels(world);
-    let _sessions = world.sessions.len();
-    let _bars = world.bars.len();
-    let _adjustments = world.adjustments.len();
-    let _numbers = world.numbers.len();
+    world.sessions.len();
+    world.bars.len();
+    world.adjustments.len();
+    world.numbers.len();
 }
 
 /// The order of rows changes nothing: worlds with the same assets, label rows, bars, numbers and adjustments
@@ -86,13 +86,13 @@ pub(crate) fn assets_and_labels(world: &World)
     ensures assets { AreAssets world.now.assets.now }
     ensures labels { AreLabels world.now.labels.now }
 {
-    let _assets = world.assets.len();
-    let _labels = world.labels.len();
+    world.assets.len();
+    world.labels.len();
 }
 
 // The terms, the columns and the screen are as the language allows.
 fn is_checked(checked: &Checked)
     ensures { IsChecked (pipeline_of checked.now) }
 {
-    let _terms = checked.graph();
+    checked.graph();
 }

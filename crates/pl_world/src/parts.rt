@@ -161,6 +161,15 @@ fn keep_row(
     Ok(keep)
 }
 
+/// What a cross-section is computed over on a session: the rows of its input, of its mask and of its group,
+/// each with a cell for each asset; `None` where it has no mask or no group.
+#[derive(Clone, Copy)]
+pub struct SectionRows<'a> {
+    pub values: &'a [i64],
+    pub mask: &'a Option<Vec<i64>>,
+    pub groups: &'a Option<Vec<i64>>,
+}
+
 /// A cross-section's cells on a session, asset by asset, over the rows of its input, its mask and its group.
 /// It does not matter which sessions the term reaches, since the rows are given. The only error is want of
 /// memory.
@@ -170,22 +179,20 @@ pub fn section_row(
     checked: &Checked,
     t: TermId,
     session: usize,
-    values: &[i64],
-    mask: &Option<Vec<i64>>,
-    groups: &Option<Vec<i64>>,
+    rows: &SectionRows<'_>,
 ) -> Result<Vec<i64>, Memory>
     requires term { t.0 < length checked.now.graph }
     requires session { session < length world.now.sessions.now }
     requires kind { HasKind checked.now t.0 is_section }
-    requires rows { AreRowsOf world.now checked.now t.0 session values.now
-        (option_map (λ m. m.items) mask.now) (option_map (λ m. m.items) groups.now) }
+    requires rows { AreRowsOf world.now checked.now t.0 session rows.now.values.now
+        (option_map (λ m. m.items) rows.now.mask.now) (option_map (λ m. m.items) rows.now.groups.now) }
     ensures row { IfOk result (λ v. v.items ≡ row_in world.now checked.now t.0 session) }
     ensures cells { IfOk result (λ v. All IsCell v.items) }
 {
     let kind = &checked.graph().node(t).kind;
     assets_and_labels(world);
-    let keep = keep_row(alloc, world, session, mask)?;
-    section_cells(alloc, kind, values, &keep, lent(groups))
+    let keep = keep_row(alloc, world, session, rows.mask)?;
+    section_cells(alloc, kind, rows.values, &keep, lent(rows.groups))
 }
 
 // The cells of a cross-section over the rows of its input, of who is kept, and of its group.

@@ -6,4 +6,4 @@ use Rattle.pl_daily.proofs.capacities.window_over_column.Goals as goal
 
 pub returns-then-is_used : goal.returns-then-is_used
 returns-then-is_used c =
-    own-window (reads_column c.args.column) (pipeline_of c.args.checked.now) c.args.k c.node_at-node.result.now c.node_at-node.ensures.node (sym c.reads_column.ensures ∙ c.if-reads_column.true) (sym c.is_used.ensures ∙ c.if-is_used.true)
+    own-window (reads_column c.args.column) (pipeline_of c.args.checked.now) c.args.k c.node_at-node.result.now c.node_at-node.ensures (sym c.reads_column.ensures ∙ c.if-reads_column.true) (sym c.is_used.ensures ∙ c.if-is_used.true)

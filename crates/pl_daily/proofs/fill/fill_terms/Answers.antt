@@ -52,7 +52,7 @@ returns-clause-rooms c =
     let new = c.advance_terms.new in
     let e = c.advance_terms.ensures in
     let many = sym c.deref_mut.ensures.len ∙ ap length c.deref_mut.ensures.value ∙ c.requires.terms.many ∙ sym e.terms.many in
-    ap rooms (vec_back terms.len new.terms (drop (length new.terms) terms.items) many) ∙ e.room ∙ ap rooms c.deref_mut.ensures.value
+    ap rooms (vec_back terms.len new.terms (drop (length new.terms) terms.items) many) ∙ e.rooms ∙ ap rooms c.deref_mut.ensures.value
 
 pub returns-clause-starts : goal.returns-clause-starts
 returns-clause-starts c =

@@ -12,6 +12,6 @@ pub returns : goal.returns
 returns c =
     let n = c.node_at-node.result.now in
     λ f u down.
-    let same : down.node ≡ node_of n = same_Some down.node (node_of n) (sym down.at ∙ c.node_at-node.ensures.node) in
+    let same : down.node ≡ node_of n = same_Some down.node (node_of n) (sym down.at ∙ c.node_at-node.ensures) in
     let kind : kind_of n.kind ≡ Downsample f = sym (kind_is n) ∙ ap (λ (m : Node). m.kind) (sym same) ∙ down.kind in
     c.is_some.ensures ∙ some_of c.frequency_of.result (kind_of n.kind) f c.frequency_of.ensures.none kind

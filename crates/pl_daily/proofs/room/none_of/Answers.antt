@@ -11,7 +11,7 @@ pub empty_value-requires : goal.empty_value-requires
 empty_value-requires c =
     let e : length c.graph.result.now ≡ length c.args.checked.now.graph = ap (λ ns. length ns) c.graph.ensures.value in
     let l = graph-long c.args.checked.now.graph in
-    omega (arith, e, l, c.requires)
+    omega (arith, e, l, c.requires.within)
 
 pub returns-clause-value : goal.returns-clause-value
 returns-clause-value c =

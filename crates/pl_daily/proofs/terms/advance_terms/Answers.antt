@@ -46,30 +46,20 @@ loop-k-preserved c =
           let is = slice_get-get_or starts k w.index-starts-k.result inside in
           let e = w.advance_term.ensures in
           let new = w.advance_term.new in
-          rw (w.terms-is, w.starts-is, w.cross-is, w.first-is, w.second-is, w.third-is, w.keep-is, w.out-is) (record {
+          rw (w.terms-is, w.starts-is, w.room-is) (record {
             follow = one_more l c.args.terms.now c.args.starts.now c.loop-k.terms new.terms starts k s new.start i.follow is inside e.follow;
             terms = e.terms;
             starts = starts_more (assets_at l) (pipeline_at l) starts k new.start i.starts inside e.start;
-            room = e.room ∙ i.room;
-            cross = e.cross ∙ i.cross;
-            first = e.first ∙ i.first;
-            second = e.second ∙ i.second;
-            third = e.third ∙ i.third;
-            keep = e.keep ∙ i.keep;
-            out = e.out ∙ i.out;
+            rooms = e.rooms ∙ i.rooms;
+            room = e.room;
           })
       | else-is_used w ↦
-          rw (w.terms-is, w.starts-is, w.cross-is, w.first-is, w.second-is, w.third-is, w.keep-is, w.out-is) (record {
+          rw (w.terms-is, w.starts-is, w.room-is) (record {
             follow = none_more l c.args.terms.now c.args.starts.now c.loop-k.terms starts k i.follow (sym c.is_used.ensures ∙ w.if-is_used.false);
             terms = i.terms;
             starts = i.starts;
+            rooms = i.rooms;
             room = i.room;
-            cross = i.cross;
-            first = i.first;
-            second = i.second;
-            third = i.third;
-            keep = i.keep;
-            out = i.out;
           })
     ]
 

@@ -1,9 +1,11 @@
-use Rattle.std.proofs.Common.{rules, ◌≤◌, ◌∙◌, sym, ap, arith, slice_get, FitsSigned, w32}
+use Rattle.std.proofs.Common.{rules, ◌≡◌, ◌≤◌, ◌∙◌, sym, ap, subst, arith, length, drop, slice_get, All, FitsSigned, w32}
 use Rattle.std.proofs.lemmas.Int.{to_z-of_z}
+use Rattle.pl_spec.specs.Rounding.{IsCell}
 use Rattle.pl_terms.specs.Nodes.{node_of}
 use Rattle.pl_terms.proofs.Graphs.{graph-at}
 use Rattle.pl_planner.proofs.Pipelines.{is-pipeline}
-use Rattle.pl_daily.specs.Terms.{pipeline_at}
+use Rattle.pl_rings.proofs.Advances.{vec_back}
+use Rattle.pl_daily.specs.Terms.{IsRowOf, pipeline_at}
 use Rattle.pl_daily.proofs.Placed.{cells_at, moment_of, row_at, stands_at}
 use Rattle.pl_daily.proofs.terms.term_row.Goals as goal
 
@@ -15,10 +17,10 @@ fill_row-requires-clause-term_day c =
     let next = c.requires.placed.0 in
     let days = c.requires.placed.1 in
     let fits : FitsSigned w32 c.args.lent.now.day = search rules in
-    let at = graph-at l.checked.now.graph k n (ap (λ g. slice_get g k) (sym c.graph-graph.ensures.value) ∙ c.node.ensures) in (
+    let at = graph-at l.checked.now.graph k n (ap (λ g. slice_get g k) (sym c.graph.ensures.value) ∙ c.node.ensures) in (
       moment_of l next days,
       stands_at l c.args.terms c.args.term c.node.result c.deref.result _ c.args.start.now (to_z-of_z w32 l.day fits) c.deref.ensures.value c.requires.start c.requires.terms
-          c.graph-graph.ensures.checked c.requires.used at (omega (arith, c.len-assets.ensures.length, c.len-assets.ensures.few)) c.len-labels.ensures.labels next days c.requires.placed.2,
+          c.requires.lent.checked c.requires.used at c.requires.lent.few c.requires.lent.labels next days c.requires.placed.2,
     )
 
 pub fill_row-requires-clause-first : goal.fill_row-requires-clause-first
@@ -26,27 +28,27 @@ fill_row-requires-clause-first c =
     let l = c.args.lent.now in
     let k = c.args.term.0 in
     let n = c.node.result.now in
-    let at = graph-at l.checked.now.graph k n (ap (λ g. slice_get g k) (sym c.graph-graph.ensures.value) ∙ c.node.ensures) in
-    let w : (node_of n).window ≤ 1260 = ((is-pipeline (pipeline_at l) c.graph-graph.ensures.checked).windows k (node_of n) at).1 in
-    omega (arith, w, c.requires.first)
+    let at = graph-at l.checked.now.graph k n (ap (λ g. slice_get g k) (sym c.graph.ensures.value) ∙ c.node.ensures) in
+    let w : (node_of n).window ≤ 1260 = ((is-pipeline (pipeline_at l) c.requires.lent.checked).windows k (node_of n) at).1 in
+    omega (arith, w, c.requires.room.first, ap length c.deref_mut.ensures.value)
 
 pub fill_row-requires-clause-second : goal.fill_row-requires-clause-second
 fill_row-requires-clause-second c =
     let l = c.args.lent.now in
     let k = c.args.term.0 in
     let n = c.node.result.now in
-    let at = graph-at l.checked.now.graph k n (ap (λ g. slice_get g k) (sym c.graph-graph.ensures.value) ∙ c.node.ensures) in
-    let w : (node_of n).window ≤ 1260 = ((is-pipeline (pipeline_at l) c.graph-graph.ensures.checked).windows k (node_of n) at).1 in
-    omega (arith, w, c.requires.second)
+    let at = graph-at l.checked.now.graph k n (ap (λ g. slice_get g k) (sym c.graph.ensures.value) ∙ c.node.ensures) in
+    let w : (node_of n).window ≤ 1260 = ((is-pipeline (pipeline_at l) c.requires.lent.checked).windows k (node_of n) at).1 in
+    omega (arith, w, c.requires.room.second, ap length c.deref_mut-2.ensures.value)
 
 pub fill_row-requires-clause-third : goal.fill_row-requires-clause-third
 fill_row-requires-clause-third c =
     let l = c.args.lent.now in
     let k = c.args.term.0 in
     let n = c.node.result.now in
-    let at = graph-at l.checked.now.graph k n (ap (λ g. slice_get g k) (sym c.graph-graph.ensures.value) ∙ c.node.ensures) in
-    let w : (node_of n).window ≤ 1260 = ((is-pipeline (pipeline_at l) c.graph-graph.ensures.checked).windows k (node_of n) at).1 in
-    omega (arith, w, c.requires.third)
+    let at = graph-at l.checked.now.graph k n (ap (λ g. slice_get g k) (sym c.graph.ensures.value) ∙ c.node.ensures) in
+    let w : (node_of n).window ≤ 1260 = ((is-pipeline (pipeline_at l) c.requires.lent.checked).windows k (node_of n) at).1 in
+    omega (arith, w, c.requires.room.third, ap length c.deref_mut-3.ensures.value)
 
 pub returns-clause-row : goal.returns-clause-row
 returns-clause-row c =
@@ -54,9 +56,14 @@ returns-clause-row c =
     let k = c.args.term.0 in
     let n = c.node.result.now in
     let fits : FitsSigned w32 c.args.lent.now.day = search rules in
-    let at = graph-at l.checked.now.graph k n (ap (λ g. slice_get g k) (sym c.graph-graph.ensures.value) ∙ c.node.ensures) in
-    row_at l c.args.terms c.args.term c.node.result c.deref.result _ c.args.start.now (to_z-of_z w32 l.day fits) c.deref.ensures.value c.requires.start c.requires.terms
-    c.graph-graph.ensures.checked c.requires.used at (omega (arith, c.len-assets.ensures.length, c.len-assets.ensures.few)) c.len-labels.ensures.labels c.fill_row.new.out c.fill_row.ensures.out
+    let at = graph-at l.checked.now.graph k n (ap (λ g. slice_get g k) (sym c.graph.ensures.value) ∙ c.node.ensures) in
+    let new = c.fill_row.new.out in
+    let out = c.args.room.now.out in
+    let same : length new ≡ length c.deref_mut-5.result.now = search rules in
+    let back = vec_back out.len new (drop (length new) out.items) (sym c.deref_mut-5.ensures.len ∙ sym same) in
+    subst (IsRowOf l k c.args.terms.now c.args.start.now) (sym back)
+    (row_at l c.args.terms c.args.term c.node.result c.deref.result _ c.args.start.now (to_z-of_z w32 l.day fits) c.deref.ensures.value c.requires.start c.requires.terms
+    c.requires.lent.checked c.requires.used at c.requires.lent.few c.requires.lent.labels c.fill_row.new.out c.fill_row.ensures.out)
 
 pub returns-clause-cells : goal.returns-clause-cells
 returns-clause-cells c =
@@ -66,6 +73,11 @@ returns-clause-cells c =
     let next = c.requires.placed.0 in
     let days = c.requires.placed.1 in
     let fits : FitsSigned w32 c.args.lent.now.day = search rules in
-    let at = graph-at l.checked.now.graph k n (ap (λ g. slice_get g k) (sym c.graph-graph.ensures.value) ∙ c.node.ensures) in
-    cells_at l c.args.terms c.args.term c.node.result c.deref.result _ c.args.start.now (to_z-of_z w32 l.day fits) c.deref.ensures.value c.requires.start c.requires.terms
-    c.graph-graph.ensures.checked c.requires.used at (omega (arith, c.len-assets.ensures.length, c.len-assets.ensures.few)) c.len-labels.ensures.labels c.fill_row.new.out c.fill_row.ensures.out next days c.requires.placed.2
+    let at = graph-at l.checked.now.graph k n (ap (λ g. slice_get g k) (sym c.graph.ensures.value) ∙ c.node.ensures) in
+    let new = c.fill_row.new.out in
+    let out = c.args.room.now.out in
+    let same : length new ≡ length c.deref_mut-5.result.now = search rules in
+    let back = vec_back out.len new (drop (length new) out.items) (sym c.deref_mut-5.ensures.len ∙ sym same) in
+    subst (All IsCell) (sym back)
+    (cells_at l c.args.terms c.args.term c.node.result c.deref.result _ c.args.start.now (to_z-of_z w32 l.day fits) c.deref.ensures.value c.requires.start c.requires.terms
+    c.requires.lent.checked c.requires.used at c.requires.lent.few c.requires.lent.labels c.fill_row.new.out c.fill_row.ensures.out next days c.requires.placed.2)

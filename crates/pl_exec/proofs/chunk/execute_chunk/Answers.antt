@@ -11,10 +11,10 @@ use Rattle.pl_exec.proofs.chunk.execute_chunk.Goals as goal
 pub run_terms-requires-clause-chunk : goal.run_terms-requires-clause-chunk
 run_terms-requires-clause-chunk g c = record {
   made = c.parts_make_a_world.ensures;
-  labels = c.len-labels.ensures.labels;
-  few = (let f = few_cols c.args.cols.now (length c.args.world.now.assets.now) c.requires.cols.ascend c.requires.cols.within in omega (arith, f, c.len-assets.ensures.length, c.len-assets.ensures.few));
-  fits = omega (arith, c.requires.to, c.requires.plan.within, c.len-sessions.ensures.length, c.len-sessions.ensures.few);
-  terms = (let l = graph-long c.args.checked.now.graph in let e = ap (λ g. length g) c.graph.ensures.value in omega (arith, l, e, c.len-terms.ensures.value, c.len-terms.ensures.few));
+  labels = c.parts_make_a_world.ensures.sound.labels;
+  few = (let f = few_cols c.args.cols.now (length c.args.world.now.assets.now) c.requires.cols.ascend c.requires.cols.within in omega (arith, f, c.parts_make_a_world.ensures.sound.assets.few));
+  fits = omega (arith, c.requires.to, c.requires.plan.within, c.parts_make_a_world.ensures.sound.days.few);
+  terms = (let l = graph-long c.args.checked.now.graph in let e = ap (λ g. length g) c.graph.ensures.value in omega (arith, l, e, c.len.ensures.value, c.len.ensures.few));
   task = (record {
     checked = c.graph.ensures.checked;
     plan = c.requires.plan;
@@ -24,7 +24,7 @@ run_terms-requires-clause-chunk g c = record {
     columns = c.requires.cols;
     up = sids_up c.args.world.now.assets.now c.parts_make_a_world.ensures.parts.sids_ascend c.args.cols.now c.requires.cols.ascend c.requires.cols.within;
     days = c.parts_make_a_world.ensures.parts.days_ascend;
-    texts = texts-coded c.args.world.now.sessions.now c.args.world.now.assets.now c.args.world.now.labels.now c.args.world.now.bars.now c.args.world.now.adjustments.now c.args.world.now.numbers.now.rows c.len-labels.ensures.labels;
+    texts = texts-coded c.args.world.now.sessions.now c.args.world.now.assets.now c.args.world.now.labels.now c.args.world.now.bars.now c.args.world.now.adjustments.now c.args.world.now.numbers.now.rows c.parts_make_a_world.ensures.sound.labels;
   });
 }
 

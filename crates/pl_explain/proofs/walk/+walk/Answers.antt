@@ -31,22 +31,22 @@ use Rattle.pl_explain.proofs.walk.+walk.Goals as goal
 
 pub finish-returns-then-is_some : goal.finish-returns-then-is_some
 finish-returns-then-is_some g t c =
-    let w = c.args.world.now in
-    let p = c.args.checked.now in
+    let w = c.args.source.now.world in
+    let p = c.args.source.now.checked.now in
     let f = fact_of c.args.fact in
     let there : has_all c.args.walk.now.stated (f ∷ []) ≡ true = search rules in
     record { stands = c.requires.stands; finished = walk-stated w p (depth_of f) c.args.walk.now (f ∷ []) there; long = tt }
 
 pub finish-returns-in-Seen : goal.finish-returns-in-Seen
 finish-returns-in-Seen g t c =
-    let w = c.args.world.now in
-    let p = c.args.checked.now in
+    let w = c.args.source.now.world in
+    let p = c.args.source.now.checked.now in
     subst (λ f. IsWalkTo w p (depth_of (fact_of f)) (fact_of f ∷ []) c.args.walk.now c.finish_bar.new.walk c.finish_bar.result) (sym c.in-Seen.is) c.finish_bar.ensures
 
 pub finish-returns-in-TermValue : goal.finish-returns-in-TermValue
 finish-returns-in-TermValue g t c =
-    let w = c.args.world.now in
-    let p = c.args.checked.now in
+    let w = c.args.source.now.world in
+    let p = c.args.source.now.checked.now in
     let deep : c.in-TermValue.term + 2 ≡ suc (suc c.in-TermValue.term) = omega arith in
     subst (λ f. IsWalkTo w p (depth_of (fact_of f)) (fact_of f ∷ []) c.args.walk.now c.finish_value.new.walk c.finish_value.result) (sym c.in-TermValue.is)
     (subst (λ k. IsWalkTo w p k (TermValue c.in-TermValue.term c.in-TermValue.sid (pos c.in-TermValue.session) ∷ []) c.args.walk.now c.finish_value.new.walk c.finish_value.result) deep c.finish_value.ensures)
@@ -55,8 +55,8 @@ finish-returns-in-TermValue g t c =
 
 pub finish_all-finish-requires : goal.finish_all-finish-requires
 finish_all-finish-requires g t c =
-    let w = c.args.world.now in
-    let p = c.args.checked.now in
+    let w = c.args.source.now.world in
+    let p = c.args.source.now.checked.now in
     let most = c.args.t.0 + 1 in
     let facts = c.args.facts.now in
     let i = c.loop-fact.fact-index in
@@ -68,8 +68,8 @@ finish_all-finish-requires g t c =
 
 pub finish_all-returns-in_err-finish : goal.finish_all-returns-in_err-finish
 finish_all-returns-in_err-finish g t c =
-    let w = c.args.world.now in
-    let p = c.args.checked.now in
+    let w = c.args.source.now.world in
+    let p = c.args.source.now.checked.now in
     let facts = c.args.facts.now in
     let i = c.loop-fact.fact-index in
     let q = err_from_is_err_and c.from_residual.result c.from_residual.ensures.1 in
@@ -85,14 +85,14 @@ finish_all-loop-fact-preserved g t c =
     let i = c.loop-fact.fact-index in
     record {
       stands = c.in_ok-finish.ensures.stands;
-      finished = all-more facts i _ (slice_get-get_or facts i _ c.loop-fact-test.true) c.args.world.now c.args.checked.now (c.args.t.0 + 1) c.requires.facts c.args.walk.now c.loop-fact.walk c.loop-fact.invariant.finished
+      finished = all-more facts i _ (slice_get-get_or facts i _ c.loop-fact-test.true) c.args.source.now.world c.args.source.now.checked.now (c.args.t.0 + 1) c.requires.facts c.args.walk.now c.loop-fact.walk c.loop-fact.invariant.finished
           c.finish.new.walk c.in_ok-finish.ensures.finished;
     }
 
 pub finish_all-returns : goal.finish_all-returns
 finish_all-returns g t c =
-    let w = c.args.world.now in
-    let p = c.args.checked.now in
+    let w = c.args.source.now.world in
+    let p = c.args.source.now.checked.now in
     let facts = c.args.facts.now in
     let i = c.loop-fact.fact-index in
     let end : length facts ≤ i = c.loop-fact-test.false in
@@ -106,8 +106,8 @@ finish_all-returns g t c =
 
 pub finish_value-returns-in_err-finish_premises : goal.finish_value-returns-in_err-finish_premises
 finish_value-returns-in_err-finish_premises g t c =
-    let w = c.args.world.now in
-    let p = c.args.checked.now in
+    let w = c.args.source.now.world in
+    let p = c.args.source.now.checked.now in
     let walk = c.args.walk.now in
     let q = err_from_is_err_and c.from_residual.result c.from_residual.ensures.1 in
     rw (q.1, q.2) (record {
@@ -119,35 +119,35 @@ finish_value-returns-in_err-finish_premises g t c =
 
 pub finish_value-unreachable-requires : goal.finish_value-unreachable-requires
 finish_value-unreachable-requires g t c =
-    true≢false (sym (worth-sid c.args.world.now c.args.checked.now c.requires.stands.table.ready.checked c.args.term c.args.sid c.args.session c.requires.fact) ∙ none-holds c.col_of.result c.in_default.not-Some c.col_of.ensures.none)
+    true≢false (sym (worth-sid c.args.source.now.world c.args.source.now.checked.now c.requires.stands.table.ready.checked c.args.term c.args.sid c.args.session c.requires.fact) ∙ none-holds c.col_of.result c.in_default.not-Some c.col_of.ensures.none)
 
 pub finish_value-returns-in_err-value : goal.finish_value-returns-in_err-value
 finish_value-returns-in_err-value g t c = no-memory _ _ _ _ _ _ _ c.from_residual-in_err-value.ensures.1
 
 pub finish_value-value_now-requires-clause-term : goal.finish_value-value_now-requires-clause-term
-finish_value-value_now-requires-clause-term g t c = worth-within c.args.world.now c.args.checked.now c.requires.stands.table.ready.checked c.args.term c.args.sid c.args.session c.requires.fact
+finish_value-value_now-requires-clause-term g t c = worth-within c.args.source.now.world c.args.source.now.checked.now c.requires.stands.table.ready.checked c.args.term c.args.sid c.args.session c.requires.fact
 
 pub finish_value-value_now-requires-clause-session : goal.finish_value-value_now-requires-clause-session
-finish_value-value_now-requires-clause-session g t c = worth-day c.args.world.now c.args.checked.now c.requires.stands.table.ready.checked c.args.term c.args.sid c.args.session c.requires.fact
+finish_value-value_now-requires-clause-session g t c = worth-day c.args.source.now.world c.args.source.now.checked.now c.requires.stands.table.ready.checked c.args.term c.args.sid c.args.session c.requires.fact
 
 pub finish_value-value_now-requires-clause-premises : goal.finish_value-value_now-requires-clause-premises
 finish_value-value_now-requires-clause-premises g t c =
-    let w = c.args.world.now in
-    stated-now w c.args.checked.now c.args.term c.args.walk.now c.finish_premises.new.walk (own_facts w c.args.checked.now c.args.term (sid_at w.assets.now c.in-Some.col) c.args.session) c.requires.stands c.in_ok-finish_premises.ensures.finished
+    let w = c.args.source.now.world in
+    stated-now w c.args.source.now.checked.now c.args.term c.args.walk.now c.finish_premises.new.walk (own_facts w c.args.source.now.checked.now c.args.term (sid_at w.assets.now c.in-Some.col) c.args.session) c.requires.stands c.in_ok-finish_premises.ensures.finished
 
 pub finish_value-day-requires : goal.finish_value-day-requires
-finish_value-day-requires g t c = worth-day c.args.world.now c.args.checked.now c.requires.stands.table.ready.checked c.args.term c.args.sid c.args.session c.requires.fact
+finish_value-day-requires g t c = worth-day c.args.source.now.world c.args.source.now.checked.now c.requires.stands.table.ready.checked c.args.term c.args.sid c.args.session c.requires.fact
 
 pub finish_value-known_day-requires-clause-term : goal.finish_value-known_day-requires-clause-term
-finish_value-known_day-requires-clause-term g t c = worth-within c.args.world.now c.args.checked.now c.requires.stands.table.ready.checked c.args.term c.args.sid c.args.session c.requires.fact
+finish_value-known_day-requires-clause-term g t c = worth-within c.args.source.now.world c.args.source.now.checked.now c.requires.stands.table.ready.checked c.args.term c.args.sid c.args.session c.requires.fact
 
 pub finish_value-known_day-requires-clause-session : goal.finish_value-known_day-requires-clause-session
-finish_value-known_day-requires-clause-session g t c = worth-day c.args.world.now c.args.checked.now c.requires.stands.table.ready.checked c.args.term c.args.sid c.args.session c.requires.fact
+finish_value-known_day-requires-clause-session g t c = worth-day c.args.source.now.world c.args.source.now.checked.now c.requires.stands.table.ready.checked c.args.term c.args.sid c.args.session c.requires.fact
 
 pub finish_value-returns : goal.finish_value-returns
 finish_value-returns g t c =
-    let w = c.args.world.now in
-    let p = c.args.checked.now in
+    let w = c.args.source.now.world in
+    let p = c.args.source.now.checked.now in
     let t0 = c.args.term in
     let a = c.args.sid in
     let s = c.args.session in
@@ -178,12 +178,12 @@ finish_value-returns g t c =
 -- ---- the premises
 
 pub finish_premises-node_in-node-requires : goal.finish_premises-node_in-node-requires
-finish_premises-node_in-node-requires g t c = worth-within c.args.world.now c.args.checked.now c.requires.stands.table.ready.checked c.args.t.0 (sid_at c.args.world.now.assets.now c.args.col) c.args.session c.requires.fact
+finish_premises-node_in-node-requires g t c = worth-within c.args.source.now.world c.args.source.now.checked.now c.requires.stands.table.ready.checked c.args.t.0 (sid_at c.args.source.now.world.assets.now c.args.col) c.args.session c.requires.fact
 
 pub finish_premises-returns-then-not-exists : goal.finish_premises-returns-then-not-exists
 finish_premises-returns-then-not-exists g t c =
-    let w = c.args.world.now in
-    let p = c.args.checked.now in
+    let w = c.args.source.now.world in
+    let p = c.args.source.now.checked.now in
     let t0 = c.args.t.0 in
     let a = sid_at w.assets.now c.args.col in
     let ok = c.requires.stands.table.ready.checked in
@@ -199,18 +199,18 @@ finish_premises-returns-in_err-mask g t c = no-memory _ _ _ _ _ _ _ c.from_resid
 
 pub finish_premises-finish_all-requires : goal.finish_premises-finish_all-requires
 finish_premises-finish_all-requires g t c =
-    let w = c.args.world.now in
+    let w = c.args.source.now.world in
     let n = c.node_in-node.result.now in
     let a = sid_at w.assets.now c.args.col in
     let there = sym c.exists.ensures.value ∙ c.if-not-exists.false in
     let read = mask-is n.mask c.args.session c.sid.result a c.deref.result.now c.in_ok-mask.mask.items c.deref.ensures.value c.in_ok-mask.ensures (sid-of w.assets.now c.args.col c.sid.result c.sid.ensures) in
-    let facts : Each (CanStandIn w c.args.checked.now (c.args.t.0 + 1)) (map fact_of c.deref.result.now) = mask-stands c.requires.stands c.args.t.0 n c.node_in-node.ensures a c.args.session there (map fact_of c.deref.result.now) read c.requires.fact in
+    let facts : Each (CanStandIn w c.args.source.now.checked.now (c.args.t.0 + 1)) (map fact_of c.deref.result.now) = mask-stands c.requires.stands c.args.t.0 n c.node_in-node.ensures a c.args.session there (map fact_of c.deref.result.now) read c.requires.fact in
     let smaller : 8 * (c.args.t.0 + 1) + 7 < 8 * (c.args.t.0 + 2) + 2 = omega arith in
     search rules
 
 pub finish_premises-returns-in_err-finish_all : goal.finish_premises-returns-in_err-finish_all
 finish_premises-returns-in_err-finish_all g t c =
-    let w = c.args.world.now in
+    let w = c.args.source.now.world in
     let n = c.node_in-node.result.now in
     let a = sid_at w.assets.now c.args.col in
     let there = sym c.exists.ensures.value ∙ c.if-not-exists.false in
@@ -224,19 +224,19 @@ finish_premises-returns-in_err-finish_all g t c =
 
 pub finish_premises-finish_kind-requires : goal.finish_premises-finish_kind-requires
 finish_premises-finish_kind-requires g t c =
-    let w = c.args.world.now in
+    let w = c.args.source.now.world in
     let n = c.node_in-node.result.now in
     let a = sid_at w.assets.now c.args.col in
     let there = sym c.exists.ensures.value ∙ c.if-not-exists.false in
     let read = mask-is n.mask c.args.session c.sid.result a c.deref.result.now c.in_ok-mask.mask.items c.deref.ensures.value c.in_ok-mask.ensures (sid-of w.assets.now c.args.col c.sid.result c.sid.ensures) in
-    let facts : Each (CanStandIn w c.args.checked.now (c.args.t.0 + 1)) (facts_read w c.args.checked.now c.args.t.0 a c.args.session) = facts-stand c.requires.stands c.args.t.0 n c.node_in-node.ensures a c.args.session there (map fact_of c.deref.result.now) read
+    let facts : Each (CanStandIn w c.args.source.now.checked.now (c.args.t.0 + 1)) (facts_read w c.args.source.now.checked.now c.args.t.0 a c.args.session) = facts-stand c.requires.stands c.args.t.0 n c.node_in-node.ensures a c.args.session there (map fact_of c.deref.result.now) read
     c.finish_all.new.walk c.in_ok-finish_all.ensures.finished c.mask_stated.result c.mask_stated.ensures (c.in-Some-true.is ∙ ap Some c.in-Some-true.field-0-test) c.requires.fact in
     let smaller : 8 * (c.args.t.0 + 2) + 1 < 8 * (c.args.t.0 + 2) + 2 = omega arith in
     search rules
 
 pub finish_premises-returns-in-Some-true : goal.finish_premises-returns-in-Some-true
 finish_premises-returns-in-Some-true g t c =
-    let w = c.args.world.now in
+    let w = c.args.source.now.world in
     let n = c.node_in-node.result.now in
     let a = sid_at w.assets.now c.args.col in
     let there = sym c.exists.ensures.value ∙ c.if-not-exists.false in
@@ -246,7 +246,7 @@ finish_premises-returns-in-Some-true g t c =
 
 pub finish_premises-returns-in-Some-false : goal.finish_premises-returns-in-Some-false
 finish_premises-returns-in-Some-false g t c =
-    let w = c.args.world.now in
+    let w = c.args.source.now.world in
     let n = c.node_in-node.result.now in
     let a = sid_at w.assets.now c.args.col in
     let there = sym c.exists.ensures.value ∙ c.if-not-exists.false in
@@ -260,7 +260,7 @@ finish_premises-returns-in-Some-false g t c =
 
 pub finish_premises-unreachable-requires : goal.finish_premises-unreachable-requires
 finish_premises-unreachable-requires g t c =
-    let w = c.args.world.now in
+    let w = c.args.source.now.world in
     let n = c.node_in-node.result.now in
     let a = sid_at w.assets.now c.args.col in
     let there = sym c.exists.ensures.value ∙ c.if-not-exists.false in
@@ -271,12 +271,12 @@ finish_premises-unreachable-requires g t c =
 -- ---- what the kind reads
 
 pub finish_kind-is_whole-requires-clause-term : goal.finish_kind-is_whole-requires-clause-term
-finish_kind-is_whole-requires-clause-term g t c = worth-within c.args.world.now c.args.checked.now c.requires.stands.table.ready.checked c.args.t.0 (sid_at c.args.world.now.assets.now c.args.col) c.args.session c.requires.fact
+finish_kind-is_whole-requires-clause-term g t c = worth-within c.args.source.now.world c.args.source.now.checked.now c.requires.stands.table.ready.checked c.args.t.0 (sid_at c.args.source.now.world.assets.now c.args.col) c.args.session c.requires.fact
 
 pub finish_kind-returns-then-is_whole : goal.finish_kind-returns-then-is_whole
 finish_kind-returns-then-is_whole g t c =
-    let w = c.args.world.now in
-    let p = c.args.checked.now in
+    let w = c.args.source.now.world in
+    let p = c.args.source.now.checked.now in
     let a = sid_at w.assets.now c.args.col in
     record {
       stands = c.requires.stands;
@@ -290,11 +290,11 @@ finish_kind-returns-in_err-facts g t c = no-memory _ _ _ _ _ _ _ c.from_residual
 pub finish_kind-facts_read-requires-clause-asked : goal.finish_kind-facts_read-requires-clause-asked
 finish_kind-facts_read-requires-clause-asked g t c =
     let ready = c.requires.stands.table.ready in
-    worth-asked c.args.world.now c.args.checked.now ready.checked c.args.t.0 (sid_at c.args.world.now.assets.now c.args.col) c.args.session c.requires.fact ready.made ready.days
+    worth-asked c.args.source.now.world c.args.source.now.checked.now ready.checked c.args.t.0 (sid_at c.args.source.now.world.assets.now c.args.col) c.args.session c.requires.fact ready.made ready.days
 
 pub finish_kind-returns : goal.finish_kind-returns
 finish_kind-returns g t c =
-    let w = c.args.world.now in
-    let p = c.args.checked.now in
+    let w = c.args.source.now.world in
+    let p = c.args.source.now.checked.now in
     let same = ap (map fact_of) c.deref.ensures.value ∙ c.in_ok-facts.ensures in
     subst (λ fs. IsWalkTo w p (c.args.t.0 + 1) fs c.args.walk.now c.finish_all.new.walk c.finish_all.result) same c.finish_all.ensures

@@ -22,6 +22,6 @@ decreases-finish_all g l = 8 * (l.t.0 + 1) + 7
 -- the facts that have been passed are finished
 abbrev pub invariant-finish_all-loop-fact : goal.invariant-finish_all-loop-fact
 invariant-finish_all-loop-fact g l = record {
-  stands : HoldsSoFar l.world l.checked l.walk;
-  finished : Finishes l.world l.checked (l.fn.t.0 + 1) l.fn.walk l.walk (map fact_of (take l.fact-index l.facts));
+  stands : HoldsSoFar l.source.world l.source.checked.now l.walk;
+  finished : Finishes l.source.world l.source.checked.now (l.fn.t.0 + 1) l.fn.walk l.walk (map fact_of (take l.fact-index l.facts));
 }

@@ -18,32 +18,32 @@ use Rattle.pl_explain.proofs.walk.finish_bar.Goals as goal
 
 pub unreachable-requires : goal.unreachable-requires
 unreachable-requires g c =
-    let w = c.args.world.now in
-    let p = c.args.checked.now in
+    let w = c.args.source.now.world in
+    let p = c.args.source.now.checked.now in
     true≢false (sym (seen-sid w p c.args.column c.args.sid c.args.bar c.args.session c.requires.fact) ∙ none-holds c.col_of.result c.in_default.not-Some c.col_of.ensures.none)
 
 pub seen_cells-requires-clause-bar : goal.seen_cells-requires-clause-bar
-seen_cells-requires-clause-bar g c = seen-earlier c.args.world.now c.args.checked.now c.args.column c.args.sid c.args.bar c.args.session c.requires.fact
+seen_cells-requires-clause-bar g c = seen-earlier c.args.source.now.world c.args.source.now.checked.now c.args.column c.args.sid c.args.bar c.args.session c.requires.fact
 
 pub seen_cells-requires-clause-session : goal.seen_cells-requires-clause-session
-seen_cells-requires-clause-session g c = seen-day c.args.world.now c.args.checked.now c.args.column c.args.sid c.args.bar c.args.session c.requires.fact
+seen_cells-requires-clause-session g c = seen-day c.args.source.now.world c.args.source.now.checked.now c.args.column c.args.sid c.args.bar c.args.session c.requires.fact
 
 pub returns-in_err-seen : goal.returns-in_err-seen
 returns-in_err-seen g c = no-memory _ _ _ _ _ _ _ c.from_residual.ensures.1
 
 pub day-requires : goal.day-requires
 day-requires g c =
-    let earlier = seen-earlier c.args.world.now c.args.checked.now c.args.column c.args.sid c.args.bar c.args.session c.requires.fact in
-    let within = seen-day c.args.world.now c.args.checked.now c.args.column c.args.sid c.args.bar c.args.session c.requires.fact in
+    let earlier = seen-earlier c.args.source.now.world c.args.source.now.checked.now c.args.column c.args.sid c.args.bar c.args.session c.requires.fact in
+    let within = seen-day c.args.source.now.world c.args.source.now.checked.now c.args.column c.args.sid c.args.bar c.args.session c.requires.fact in
     omega (arith, earlier, within)
 
 pub day-requires-2 : goal.day-requires-2
-day-requires-2 g c = seen-day c.args.world.now c.args.checked.now c.args.column c.args.sid c.args.bar c.args.session c.requires.fact
+day-requires-2 g c = seen-day c.args.source.now.world c.args.source.now.checked.now c.args.column c.args.sid c.args.bar c.args.session c.requires.fact
 
 pub returns : goal.returns
 returns g c =
-    let w = c.args.world.now in
-    let p = c.args.checked.now in
+    let w = c.args.source.now.world in
+    let p = c.args.source.now.checked.now in
     let walk = c.args.walk.now in
     let k = c.args.column in
     let a = c.args.sid in

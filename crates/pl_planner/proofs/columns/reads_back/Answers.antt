@@ -8,22 +8,21 @@ use Rattle.pl_planner.proofs.columns.reads_back.Goals as goal
 
 pub overflow_add-result : goal.overflow_add-result
 overflow_add-result c =
-    let ok = is-pipeline (pipeline_of c.args.checked.now) c.node_at-node.ensures.checked in
-    let e = extra-few c.args.sessions.now c.len-count.ensures.days.ascend c.args.session (pipeline_of c.args.checked.now).graph (outputs (pipeline_of c.args.checked.now)) ok c.node_at-node.ensures.few c.args.uses.now c.requires.uses c.requires.extras c.args.t (node_of c.node_at-node.result.now).kind c.if-uses-t.true in
-    let b = bars-few c.args.sessions.now c.len-count.ensures.days.ascend c.args.session (pipeline_of c.args.checked.now).graph (outputs (pipeline_of c.args.checked.now)) ok c.args.t (node_of c.node_at-node.result.now) c.node_at-node.ensures.node in
+    let ok = is-pipeline (pipeline_of c.args.checked.now) c.requires.asked.checked in
+    let e = extra-few c.args.sessions.now c.requires.asked.days.ascend c.args.session (pipeline_of c.args.checked.now).graph (outputs (pipeline_of c.args.checked.now)) ok c.requires.asked.few c.args.uses.now c.requires.uses c.requires.extras c.args.t (node_of c.node_at-node.result.now).kind c.if-uses-t.true in
+    let b = bars-few c.args.sessions.now c.requires.asked.days.ascend c.args.session (pipeline_of c.args.checked.now).graph (outputs (pipeline_of c.args.checked.now)) ok c.args.t (node_of c.node_at-node.result.now) c.node_at-node.ensures in
     let is = c.bars_back.ensures in
     let from = c.back_from.ensures in
-    let few = c.len-count.ensures.few in
-    let long = c.len-count.ensures.length in
+    let few = c.requires.asked.days.few in
     let inside = c.requires.session in
     let small : c.back_from.result + c.bars_back.result ≤ 16000 + 1260 * 257 = omega arith in
     search rules
 
 pub returns-then-uses-t-clause-few : goal.returns-then-uses-t-clause-few
 returns-then-uses-t-clause-few c =
-    let ok = is-pipeline (pipeline_of c.args.checked.now) c.node_at-node.ensures.checked in
-    let e = extra-few c.args.sessions.now c.len-count.ensures.days.ascend c.args.session (pipeline_of c.args.checked.now).graph (outputs (pipeline_of c.args.checked.now)) ok c.node_at-node.ensures.few c.args.uses.now c.requires.uses c.requires.extras c.args.t (node_of c.node_at-node.result.now).kind c.if-uses-t.true in
-    let b = bars-few c.args.sessions.now c.len-count.ensures.days.ascend c.args.session (pipeline_of c.args.checked.now).graph (outputs (pipeline_of c.args.checked.now)) ok c.args.t (node_of c.node_at-node.result.now) c.node_at-node.ensures.node in
+    let ok = is-pipeline (pipeline_of c.args.checked.now) c.requires.asked.checked in
+    let e = extra-few c.args.sessions.now c.requires.asked.days.ascend c.args.session (pipeline_of c.args.checked.now).graph (outputs (pipeline_of c.args.checked.now)) ok c.requires.asked.few c.args.uses.now c.requires.uses c.requires.extras c.args.t (node_of c.node_at-node.result.now).kind c.if-uses-t.true in
+    let b = bars-few c.args.sessions.now c.requires.asked.days.ascend c.args.session (pipeline_of c.args.checked.now).graph (outputs (pipeline_of c.args.checked.now)) ok c.args.t (node_of c.node_at-node.result.now) c.node_at-node.ensures in
     let is = c.bars_back.ensures in
     let from = c.back_from.ensures in
     omega arith

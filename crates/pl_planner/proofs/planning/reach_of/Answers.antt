@@ -6,13 +6,12 @@ use Rattle.pl_planner.proofs.Pipelines.{is-pipeline}
 use Rattle.pl_planner.proofs.Lows.{least-is}
 use Rattle.pl_planner.proofs.planning.reach_of.Goals as goal
 
-pub returns-clause-value : goal.returns-clause-value
-returns-clause-value c =
-    let ok = is-pipeline (pipeline_of c.args.checked.now) c.most_back.ensures.checked in
-    let r = least-is c.args.sessions.now c.len-count.ensures.days.ascend (pipeline_of c.args.checked.now).graph (outputs (pipeline_of c.args.checked.now)) c.args.uses.now ok c.requires.uses c.args.from c.requires.extras in
+pub returns : goal.returns
+returns c =
+    let ok = is-pipeline (pipeline_of c.args.checked.now) c.requires.asked.checked in
+    let r = least-is c.args.sessions.now c.requires.asked.days.ascend (pipeline_of c.args.checked.now).graph (outputs (pipeline_of c.args.checked.now)) c.args.uses.now ok c.requires.uses c.args.from c.requires.extras in
     let few : c.most_back.result ≤ c.args.from + 1260 * 257 = c.most_back.ensures.few in
-    let long = c.len-count.ensures.length in
-    let most = c.len-count.ensures.few in
+    let most = c.requires.asked.days.few in
     let in_days = c.requires.within in
     let fits : c.args.from < 16000 = omega arith in
     let f1 : to_z w64 c.args.from ≡ pos c.args.from = to_z_pos w64 c.args.from (omega arith) in

@@ -3,7 +3,7 @@ use Rattle.pl_pipeline.specs.Term.{Node}
 use Rattle.pl_pipeline.specs.Graph.{reads_at}
 use Rattle.pl_terms.specs.Nodes.{graph_of, node_of}
 use Rattle.pl_terms.specs.Checked.{Parts, pipeline_of, IsChecked}
-use Rattle.pl_terms.proofs.Graphs.{graph-at}
+use Rattle.pl_terms.proofs.Graphs.{graph-at, graph-long}
 use Rattle.pl_planner.proofs.Pipelines.{ReadsTerms, is-pipeline, window-is}
 use Rattle.pl_planner.proofs.Gathers.{back-of, back-few}
 use Rattle.pl_planner.specs.Extra.{back_from}
@@ -30,9 +30,9 @@ near days s k b c e = subst (λ x. x ≤ max b s) (sym e) (back-few days s k b)
 pub loop-k-init : goal.loop-k-init
 loop-k-init c =
     let p = c.args.checked.now in
-    let ok = c.graph-graph.ensures.checked in
+    let ok = c.requires.asked.checked in
     record {
-      covers = begun c.args.sessions.now c.len-sessions.ensures.days.ascend (graph_of p.graph) ok.graph (sizes p ok) (reads p ok) c.args.t.0 c.args.session _ c.requires.depths;
+      covers = begun c.args.sessions.now c.requires.asked.days.ascend (graph_of p.graph) ok.graph (sizes p ok) (reads p ok) c.args.t.0 c.args.session _ c.requires.depths;
       within = omega arith;
     }
 
@@ -52,7 +52,7 @@ read_node-requires-clause-window c =
     let p = c.args.checked.now in
     let n = c.node-node.result.now in
     let is : slice_get p.graph (c.loop-k.k - 1) ≡ Some n = ap (λ ns. slice_get ns (c.loop-k.k - 1)) (sym c.graph-graph.ensures.value) ∙ c.node-node.ensures in
-    let size = sizes p c.graph-graph.ensures.checked (c.loop-k.k - 1) (node_of n) (graph-at p.graph (c.loop-k.k - 1) n is) in
+    let size = sizes p c.requires.asked.checked (c.loop-k.k - 1) (node_of n) (graph-at p.graph (c.loop-k.k - 1) n is) in
     omega (arith, size.0, window-is n)
 
 pub read_node-requires-clause-room : goal.read_node-requires-clause-room
@@ -60,24 +60,24 @@ read_node-requires-clause-room c =
     let p = c.args.checked.now in
     let n = c.node-node.result.now in
     let is : slice_get p.graph (c.loop-k.k - 1) ≡ Some n = ap (λ ns. slice_get ns (c.loop-k.k - 1)) (sym c.graph-graph.ensures.value) ∙ c.node-node.ensures in
-    let size = sizes p c.graph-graph.ensures.checked (c.loop-k.k - 1) (node_of n) (graph-at p.graph (c.loop-k.k - 1) n is) in
+    let size = sizes p c.requires.asked.checked (c.loop-k.k - 1) (node_of n) (graph-at p.graph (c.loop-k.k - 1) n is) in
     let long = ap (λ (l : List _). length l) c.graph-graph.ensures.value in
     let at : get_or c.loop-k.depths (c.loop-k.k - 1) None ≡ Some c.in-Some.depth = sym c.depth_of.ensures ∙ c.in-Some.is in
     let close : c.back_from-back.result ≤ max c.in-Some.depth c.args.session = near c.args.sessions.now c.args.session (node_of n).kind c.in-Some.depth c.back_from-back.result c.back_from-back.ensures in
-    omega (arith, size.1, window-is n, close, c.requires.session, c.len-sessions.ensures.length, c.len-sessions.ensures.few, c.loop-k.invariant.covers.room (c.loop-k.k - 1) c.in-Some.depth at, c.requires.term, long, c.len-terms.ensures.value, c.len-terms.ensures.few)
+    omega (arith, size.1, window-is n, close, c.requires.session, c.requires.asked.days.few, c.loop-k.invariant.covers.room (c.loop-k.k - 1) c.in-Some.depth at, c.requires.term, graph-long p.graph, c.requires.asked.few)
 
 pub read_node-requires-clause-lower : goal.read_node-requires-clause-lower
 read_node-requires-clause-lower c =
     let p = c.args.checked.now in
     let n = c.node-node.result.now in
     let is : slice_get p.graph (c.loop-k.k - 1) ≡ Some n = ap (λ ns. slice_get ns (c.loop-k.k - 1)) (sym c.graph-graph.ensures.value) ∙ c.node-node.ensures in
-    lower-more (node_of n) (c.loop-k.k - 1) _ (c.graph-graph.ensures.checked.graph.lower (c.loop-k.k - 1) (node_of n) (graph-at p.graph (c.loop-k.k - 1) n is))
+    lower-more (node_of n) (c.loop-k.k - 1) _ (c.requires.asked.checked.graph.lower (c.loop-k.k - 1) (node_of n) (graph-at p.graph (c.loop-k.k - 1) n is))
     (omega (arith, c.loop-k.invariant.covers.long, c.loop-k.invariant.within, c.loop-k-test.true))
 
 pub loop-k-preserved : goal.loop-k-preserved
 loop-k-preserved c =
     let p = c.args.checked.now in
-    let ok = c.graph-graph.ensures.checked in
+    let ok = c.requires.asked.checked in
     let n = c.node-node.result.now in
     let is : slice_get p.graph (c.loop-k.k - 1) ≡ Some n = ap (λ ns. slice_get ns (c.loop-k.k - 1)) (sym c.graph-graph.ensures.value) ∙ c.node-node.ensures in
     let at : get_or c.loop-k.depths (c.loop-k.k - 1) None ≡ Some c.in-Some.depth = sym c.depth_of.ensures ∙ c.in-Some.is in
@@ -85,7 +85,7 @@ loop-k-preserved c =
     let covers = subst (λ j. Covers c.args.sessions.now (graph_of p.graph) c.args.t.0 c.args.session c.loop-k.depths j c.loop-k.deepest) same c.loop-k.invariant.covers in
     let m : c.max-deepest.result ≡ max c.loop-k.deepest c.read_node.result = search rules in
     record {
-      covers = stepped c.args.sessions.now c.len-sessions.ensures.days.ascend (graph_of p.graph) ok.graph (sizes p ok) (reads p ok) c.args.t.0 c.args.session c.loop-k.depths _
+      covers = stepped c.args.sessions.now c.requires.asked.days.ascend (graph_of p.graph) ok.graph (sizes p ok) (reads p ok) c.args.t.0 c.args.session c.loop-k.depths _
           (c.loop-k.k - 1) c.loop-k.deepest _ c.in-Some.depth c.back_from-back.result (node_of n)
           (moved c.args.sessions.now c.args.session (node_of n).kind c.in-Some.depth c.back_from-back.result c.back_from-back.ensures)
           (near c.args.sessions.now c.args.session (node_of n).kind c.in-Some.depth c.back_from-back.result c.back_from-back.ensures) covers (graph-at p.graph (c.loop-k.k - 1) n is) at c.read_node.ensures.asked (m ∙ ap (λ (x : ℕ). max c.loop-k.deepest x) c.read_node.ensures.own);
@@ -95,12 +95,12 @@ loop-k-preserved c =
 pub loop-k-preserved-in-None : goal.loop-k-preserved-in-None
 loop-k-preserved-in-None c =
     let p = c.args.checked.now in
-    let ok = c.graph-graph.ensures.checked in
+    let ok = c.requires.asked.checked in
     let at : get_or c.loop-k.depths (c.loop-k.k - 1) None ≡ None = sym c.depth_of.ensures ∙ c.in-None.is in
     let same : c.loop-k.k ≡ (c.loop-k.k - 1) + 1 = omega (arith, c.loop-k-test.true) in
     let covers = subst (λ j. Covers c.args.sessions.now (graph_of p.graph) c.args.t.0 c.args.session c.loop-k.depths j c.loop-k.deepest) same c.loop-k.invariant.covers in
     record {
-      covers = passed c.args.sessions.now c.len-sessions.ensures.days.ascend (graph_of p.graph) ok.graph (sizes p ok) (reads p ok) c.args.t.0 c.args.session c.loop-k.depths
+      covers = passed c.args.sessions.now c.requires.asked.days.ascend (graph_of p.graph) ok.graph (sizes p ok) (reads p ok) c.args.t.0 c.args.session c.loop-k.depths
           (c.loop-k.k - 1) c.loop-k.deepest covers at;
       within = omega (arith, c.loop-k.invariant.within);
     }
@@ -108,12 +108,12 @@ loop-k-preserved-in-None c =
 pub returns-clause-value : goal.returns-clause-value
 returns-clause-value c =
     let p = c.args.checked.now in
-    let ok = c.graph-graph.ensures.checked in
+    let ok = c.requires.asked.checked in
     let none : c.loop-k.k ≡ 0 = omega (arith, c.loop-k-test.false) in
     let covers = subst (λ j. Covers c.args.sessions.now (graph_of p.graph) c.args.t.0 c.args.session c.loop-k.depths j c.loop-k.deepest) none c.loop-k.invariant.covers in
-    ended c.args.sessions.now c.len-sessions.ensures.days.ascend (graph_of p.graph) ok.graph (sizes p ok) (reads p ok) c.args.t.0 c.args.session c.loop-k.depths c.loop-k.deepest covers
+    ended c.args.sessions.now c.requires.asked.days.ascend (graph_of p.graph) ok.graph (sizes p ok) (reads p ok) c.args.t.0 c.args.session c.loop-k.depths c.loop-k.deepest covers
 
 pub returns-clause-few : goal.returns-clause-few
 returns-clause-few c =
     let long = ap (λ (l : List _). length l) c.graph-graph.ensures.value in
-    omega (arith, c.loop-k.invariant.covers.room_own, c.requires.session, c.len-sessions.ensures.length, c.len-sessions.ensures.few, c.requires.term, long, c.len-terms.ensures.value, c.len-terms.ensures.few)
+    omega (arith, c.loop-k.invariant.covers.room_own, c.requires.session, c.requires.asked.days.few, c.requires.term, graph-long c.args.checked.now.graph, c.requires.asked.few)

@@ -6,8 +6,7 @@ pub returns : goal.returns
 returns c =
     let deepest = c.deepest_read-deepest.result in
     let few : c.deepest_read-deepest.result ≤ 2 ^ 32 = c.deepest_read-deepest.ensures.few in
-    let long = c.len-sessions.ensures.length in
-    let most = c.len-sessions.ensures.few in
+    let most = c.are_asked.ensures.days.few in
     let in_days = c.requires.session in
     let inside : c.args.session < 16000 = omega arith in
     let f1 : to_z w64 c.args.session ≡ pos c.args.session = to_z_pos w64 c.args.session (omega arith) in

@@ -9,55 +9,54 @@ use Rattle.pl_planner.proofs.uses.ask_down.Goals as goal
 
 pub loop-k-init : goal.loop-k-init
 loop-k-init c =
-    let ok = is-pipeline (pipeline_of c.args.checked.now) c.count-k.ensures.checked in
+    let ok = is-pipeline (pipeline_of c.args.checked.now) c.requires.asked.checked in
     record {
-      gathered = pass_begun c.args.sessions.now c.len-count.ensures.days.ascend c.args.session (pipeline_of c.args.checked.now).graph (outputs (pipeline_of c.args.checked.now)) ok c.mark_outputs.new.uses c.count-k.result c.count-k.ensures.count
+      gathered = pass_begun c.args.sessions.now c.requires.asked.days.ascend c.args.session (pipeline_of c.args.checked.now).graph (outputs (pipeline_of c.args.checked.now)) ok c.mark_outputs.new.uses c.count-k.result c.count-k.ensures.count
           (c.mark_outputs.ensures ∙ ap (λ us. all_marked us c.count-k.result (outputs (pipeline_of c.args.checked.now))) c.requires.unused);
       within = (let e = c.count-k.ensures.count in omega arith);
     }
 
 pub ask_all-requires-clause-window : goal.ask_all-requires-clause-window
 ask_all-requires-clause-window c =
-    let ok = is-pipeline (pipeline_of c.args.checked.now) c.node_at-node.ensures.checked in
-    let w = pass_node c.args.sessions.now c.len-count.ensures.days.ascend c.args.session (pipeline_of c.args.checked.now).graph (outputs (pipeline_of c.args.checked.now)) ok (c.loop-k.k - 1) (node_of c.node_at-node.result.now) c.node_at-node.ensures.node in
+    let ok = is-pipeline (pipeline_of c.args.checked.now) c.requires.asked.checked in
+    let w = pass_node c.args.sessions.now c.requires.asked.days.ascend c.args.session (pipeline_of c.args.checked.now).graph (outputs (pipeline_of c.args.checked.now)) ok (c.loop-k.k - 1) (node_of c.node_at-node.result.now) c.node_at-node.ensures in
     let e = window-is c.node_at-node.result.now in
     let l = w.0 in
     omega arith
 
 pub ask_all-requires-clause-room : goal.ask_all-requires-clause-room
 ask_all-requires-clause-room c =
-    let ok = is-pipeline (pipeline_of c.args.checked.now) c.node_at-node.ensures.checked in
-    let w = pass_node c.args.sessions.now c.len-count.ensures.days.ascend c.args.session (pipeline_of c.args.checked.now).graph (outputs (pipeline_of c.args.checked.now)) ok (c.loop-k.k - 1) (node_of c.node_at-node.result.now) c.node_at-node.ensures.node in
+    let ok = is-pipeline (pipeline_of c.args.checked.now) c.requires.asked.checked in
+    let w = pass_node c.args.sessions.now c.requires.asked.days.ascend c.args.session (pipeline_of c.args.checked.now).graph (outputs (pipeline_of c.args.checked.now)) ok (c.loop-k.k - 1) (node_of c.node_at-node.result.now) c.node_at-node.ensures in
     let e = window-is c.node_at-node.result.now in
     let l = w.1 in
-    let r = pass_room c.args.sessions.now c.len-count.ensures.days.ascend c.args.session (pipeline_of c.args.checked.now).graph (outputs (pipeline_of c.args.checked.now)) ok c.node_at-node.ensures.few c.loop-k.uses c.loop-k.k (c.loop-k.k - 1) (node_of c.node_at-node.result.now).kind c.loop-k.invariant.gathered c.if-own.true in
-    let few = c.len-count.ensures.few in
-    let long = c.len-count.ensures.length in
+    let r = pass_room c.args.sessions.now c.requires.asked.days.ascend c.args.session (pipeline_of c.args.checked.now).graph (outputs (pipeline_of c.args.checked.now)) ok c.requires.asked.few c.loop-k.uses c.loop-k.k (c.loop-k.k - 1) (node_of c.node_at-node.result.now).kind c.loop-k.invariant.gathered c.if-own.true in
+    let few = c.requires.asked.days.few in
     let inside = c.requires.within in
     omega arith
 
 pub ask_all-requires-clause-lower : goal.ask_all-requires-clause-lower
 ask_all-requires-clause-lower c =
-    let ok = is-pipeline (pipeline_of c.args.checked.now) c.node_at-node.ensures.checked in
-    pass_lower c.args.sessions.now c.len-count.ensures.days.ascend c.args.session (pipeline_of c.args.checked.now).graph (outputs (pipeline_of c.args.checked.now)) ok c.loop-k.uses c.loop-k.k (c.loop-k.k - 1) (node_of c.node_at-node.result.now) c.loop-k.invariant.gathered c.node_at-node.ensures.node
+    let ok = is-pipeline (pipeline_of c.args.checked.now) c.requires.asked.checked in
+    pass_lower c.args.sessions.now c.requires.asked.days.ascend c.args.session (pipeline_of c.args.checked.now).graph (outputs (pipeline_of c.args.checked.now)) ok c.loop-k.uses c.loop-k.k (c.loop-k.k - 1) (node_of c.node_at-node.result.now) c.loop-k.invariant.gathered c.node_at-node.ensures
 
 pub loop-k-preserved-then-own : goal.loop-k-preserved-then-own
 loop-k-preserved-then-own c =
-    let ok = is-pipeline (pipeline_of c.args.checked.now) c.node_at-node.ensures.checked in
+    let ok = is-pipeline (pipeline_of c.args.checked.now) c.requires.asked.checked in
     record {
-      gathered = pass_step c.args.sessions.now c.len-count.ensures.days.ascend c.args.session (pipeline_of c.args.checked.now).graph (outputs (pipeline_of c.args.checked.now)) ok c.loop-k.uses c.ask_all.new.uses c.loop-k.k (node_of c.node_at-node.result.now) c.loop-k.invariant.gathered c.loop-k-test.true c.node_at-node.ensures.node
+      gathered = pass_step c.args.sessions.now c.requires.asked.days.ascend c.args.session (pipeline_of c.args.checked.now).graph (outputs (pipeline_of c.args.checked.now)) ok c.loop-k.uses c.ask_all.new.uses c.loop-k.k (node_of c.node_at-node.result.now) c.loop-k.invariant.gathered c.loop-k-test.true c.node_at-node.ensures
           c.if-own.true c.ask_all.ensures;
       within = (let l = c.loop-k.invariant.within in omega arith);
     }
 
 pub returns-clause-uses : goal.returns-clause-uses
 returns-clause-uses c =
-    let ok = is-pipeline (pipeline_of c.args.checked.now) c.count-k.ensures.checked in
+    let ok = is-pipeline (pipeline_of c.args.checked.now) c.requires.asked.checked in
     let zero_left : c.loop-k.k ≡ 0 = omega (arith, c.loop-k-test.false) in
-    (pass_ended c.args.sessions.now c.len-count.ensures.days.ascend c.args.session (pipeline_of c.args.checked.now).graph (outputs (pipeline_of c.args.checked.now)) ok c.loop-k.uses (rw zero_left at c.loop-k.invariant.gathered)).0
+    (pass_ended c.args.sessions.now c.requires.asked.days.ascend c.args.session (pipeline_of c.args.checked.now).graph (outputs (pipeline_of c.args.checked.now)) ok c.loop-k.uses (rw zero_left at c.loop-k.invariant.gathered)).0
 
 pub returns-clause-extras : goal.returns-clause-extras
 returns-clause-extras c =
-    let ok = is-pipeline (pipeline_of c.args.checked.now) c.count-k.ensures.checked in
+    let ok = is-pipeline (pipeline_of c.args.checked.now) c.requires.asked.checked in
     let zero_left : c.loop-k.k ≡ 0 = omega (arith, c.loop-k-test.false) in
-    (pass_ended c.args.sessions.now c.len-count.ensures.days.ascend c.args.session (pipeline_of c.args.checked.now).graph (outputs (pipeline_of c.args.checked.now)) ok c.loop-k.uses (rw zero_left at c.loop-k.invariant.gathered)).1
+    (pass_ended c.args.sessions.now c.requires.asked.days.ascend c.args.session (pipeline_of c.args.checked.now).graph (outputs (pipeline_of c.args.checked.now)) ok c.loop-k.uses (rw zero_left at c.loop-k.invariant.gathered)).1

@@ -8,9 +8,9 @@ loop-i-init c = record { marked = ap (all_marked c.args.uses.now c.args.terms) (
 
 pub mark-requires : goal.mark-requires
 mark-requires c =
-    let l = column-within c.args.checked.now c.count-terms.ensures.checked c.loop-i.i c.column_term.result c.column_term.ensures in
+    let l = column-within c.args.checked.now c.requires.checked c.loop-i.i c.column_term.result c.column_term.ensures in
     let s = c.loop-i.invariant.size in
-    let r = c.requires in
+    let r = c.requires.long in
     record { within = omega arith }
 
 pub loop-i-preserved : goal.loop-i-preserved

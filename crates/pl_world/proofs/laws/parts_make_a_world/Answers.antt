@@ -6,11 +6,11 @@ returns c =
     parts_make_a_world c.args.world.now
     record {
       made = c.requires;
-      days = c.len-sessions.ensures.days;
+      days = c.len.ensures.days;
       assets = c.assets_and_labels.ensures.assets;
       labels = c.assets_and_labels.ensures.labels;
-      bars = c.len-bars.ensures.bars;
-      in_order = c.len-adjustments.ensures.in_order;
-      puts = c.len-adjustments.ensures.cells;
-      numbers = c.len-numbers.ensures.numbers;
+      bars = c.len-2.ensures.bars;
+      in_order = c.len-3.ensures.in_order;
+      puts = c.len-3.ensures.cells;
+      numbers = c.len-4.ensures.numbers;
     }

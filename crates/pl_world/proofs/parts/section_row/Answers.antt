@@ -17,8 +17,8 @@ keep_row-requires-clause-mask c =
     let n = c.node.result.now in
     let is : slice_get c.args.checked.now.graph c.args.t.0 ≡ Some n = ap (λ ns. slice_get ns c.args.t.0) (sym c.graph.ensures.value) ∙ c.node.ensures in
     let texts : HasTexts (world_of w) = texts-coded w.sessions.now w.assets.now w.labels.now w.bars.now w.adjustments.now w.numbers.now.rows c.assets_and_labels.ensures.labels in
-    let fit = mask-fits w c.args.checked.now c.graph.ensures.checked c.assets_and_labels.ensures.assets c.args.session c.args.t.0 n is (c.requires.kind n is) texts c.args.values.now _ _ c.requires.rows in
-    some-mapped (λ v. v.items) (λ (m : List ℤ). length m ≡ length w.assets.now) c.args.mask.now fit
+    let fit = mask-fits w c.args.checked.now c.graph.ensures.checked c.assets_and_labels.ensures.assets c.args.session c.args.t.0 n is (c.requires.kind n is) texts c.args.rows.now.values.now _ _ c.requires.rows in
+    some-mapped (λ v. v.items) (λ (m : List ℤ). length m ≡ length w.assets.now) c.args.rows.now.mask.now fit
 
 pub section_cells-requires-clause-parameters : goal.section_cells-requires-clause-parameters
 section_cells-requires-clause-parameters c =
@@ -34,8 +34,8 @@ section_cells-requires-clause-groups c =
     let n = c.node.result.now in
     let is : slice_get c.args.checked.now.graph c.args.t.0 ≡ Some n = ap (λ ns. slice_get ns c.args.t.0) (sym c.graph.ensures.value) ∙ c.node.ensures in
     let texts : HasTexts (world_of w) = texts-coded w.sessions.now w.assets.now w.labels.now w.bars.now w.adjustments.now w.numbers.now.rows c.assets_and_labels.ensures.labels in
-    subst (Fits (length c.args.values.now)) (sym c.lent.ensures)
-    (groups-fit w c.args.checked.now c.graph.ensures.checked c.assets_and_labels.ensures.assets c.args.session c.args.t.0 n is (c.requires.kind n is) texts c.args.values.now _ _ c.requires.rows)
+    subst (Fits (length c.args.rows.now.values.now)) (sym c.lent.ensures)
+    (groups-fit w c.args.checked.now c.graph.ensures.checked c.assets_and_labels.ensures.assets c.args.session c.args.t.0 n is (c.requires.kind n is) texts c.args.rows.now.values.now _ _ c.requires.rows)
 
 pub returns-clause-row : goal.returns-clause-row
 returns-clause-row c =
@@ -47,10 +47,10 @@ returns-clause-row c =
     let f = section-is (kind_of n.kind) (c.requires.kind n is) in
     let ok = c.graph.ensures.checked in
     let assets = c.assets_and_labels.ensures.assets in
-    let given = section-given w p ok assets c.args.session c.args.t.0 n is (c.requires.kind n is) texts c.args.values.now _ _ c.requires.rows c.in_ok-keep.keep.items c.in_ok-keep.ensures f.0 f.1 in
-    let wide = values-long w p ok assets c.args.session c.args.t.0 n is (c.requires.kind n is) texts c.args.values.now _ _ c.requires.rows in
+    let given = section-given w p ok assets c.args.session c.args.t.0 n is (c.requires.kind n is) texts c.args.rows.now.values.now _ _ c.requires.rows c.in_ok-keep.keep.items c.in_ok-keep.ensures f.0 f.1 in
+    let wide = values-long w p ok assets c.args.session c.args.t.0 n is (c.requires.kind n is) texts c.args.rows.now.values.now _ _ c.requires.rows in
     IfOk-weaker c.section_cells.result _ _ (λ v h. row-whole w p c.args.t.0 c.args.session v.items MISSING (h.long ∙ wide)
-    (λ i l. section-end f.0 c.args.values.now c.in_ok-keep.keep.items c.deref.result.now (option_map (λ v. v.items) c.args.groups.now) (labels_in c.lent.result)
+    (λ i l. section-end f.0 c.args.rows.now.values.now c.in_ok-keep.keep.items c.deref.result.now (option_map (λ v. v.items) c.args.rows.now.groups.now) (labels_in c.lent.result)
     i (at v.items i) _ (h.each f.0 f.1 i (omega (arith, l, wide))) c.deref.ensures.value c.lent.ensures (given i l))) c.section_cells.ensures
 
 pub returns-clause-cells : goal.returns-clause-cells
