@@ -17,9 +17,8 @@ use Rattle.pl_pipeline.proofs.Contained.{place-of}
 use Rattle.pl_terms.specs.Sorts.{has_window, window_fits, is_window_from, sort_at, Filters, places, all_fit, AnyTerm, is_downsampled}
 use Rattle.pl_terms.specs.Checked.{IsChecked}
 use Rattle.pl_terms.specs.Uses.{outputs}
-use Rattle.pl_terms.specs.Nodes.{graph_of, node_of}
+use Rattle.pl_terms.specs.Nodes.{node_of}
 use Rattle.pl_terms.specs.Kinds.{kind_of}
-use Rattle.pl_terms.proofs.Graphs.{graph-long}
 use Rattle.pl_terms.specs.declared.node.Node as code
 use Rattle.pl_planner.specs.Extra.{back_from}
 use Rattle.pl_planner.proofs.Moved.{early-still}
@@ -129,7 +128,6 @@ screen-in p k t e = sort-within p.graph t (k.screen t e)
 pub window-is : (n : code.Node) → (node_of n).window ≡ n.window
 unfolding node_of
 window-is n = refl
-
 
 -- ---- how far back a node reads
 

@@ -5,7 +5,7 @@ ghost use Rattle.std.specs.List.{list_any, range_with_len};
 ghost use Rattle.pl_spec.specs.Limits.{most_terms, most_window};
 ghost use Rattle.pl_spec.specs.World.{column_number};
 ghost use Rattle.pl_pipeline.specs.Graph.{bound, columns_at, contains, input_column};
-ghost use Rattle.pl_terms.specs.Checked.{IsChecked, pipeline_of};
+ghost use Rattle.pl_terms.specs.Checked.{pipeline_of};
 ghost use Rattle.pl_terms.specs.Nodes.{input_of, node_of};
 ghost use Rattle.pl_terms.specs.Uses.{outputs};
 ghost use Rattle.pl_planner.specs.Asked.{AreAsked};
@@ -101,8 +101,6 @@ pub(crate) fn bound_of(checked: &Checked, uses: &[Use]) -> usize
     requires { AreUses (pipeline_of checked.now).graph (outputs (pipeline_of checked.now)) uses.now }
     ensures value { result ≡ bound (pipeline_of checked.now).graph (outputs (pipeline_of checked.now)) }
     ensures few { result ≤ most_terms + 5 }
-    ensures checked { IsChecked (pipeline_of checked.now) }
-    ensures terms { length (pipeline_of checked.now).graph ≤ most_terms }
 {
     let mut bound = 0;
     for k in 0..count(checked) {

@@ -28,6 +28,4 @@ returns c =
       value = c.loop-k.invariant.most ∙ ap (λ n. fold max 0 (map (held_at (pipeline_of c.args.checked.now).graph c.args.uses.now) (range_with_len 0 n))) end
           ∙ bound_is (pipeline_of c.args.checked.now).graph (outputs (pipeline_of c.args.checked.now)) c.args.uses.now c.count-k-end.ensures.checked.graph c.requires;
       few = c.loop-k.invariant.few;
-      checked = c.count-k-end.ensures.checked;
-      terms = (let f = c.count-k-end.ensures.few in omega arith);
     }

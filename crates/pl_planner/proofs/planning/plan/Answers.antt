@@ -28,7 +28,7 @@ invariant_of-result c =
     rw (to_z-of_z w64 c.reach_of-reach.result fit)
     (limits c.args.sessions.now c.are_asked.ensures.days.ascend (pipeline_of c.args.checked.now) c.are_asked.ensures.checked c.in-Ok.uses.items c.in-Ok.ensures.uses c.in-Ok-slot_terms.slots.items slotted long c.args.from c.args.to c.requires.order c.requires.within
     c.in-Ok-gather_rows.extras.items c.in-Ok-gather_rows.ensures
-    c.reach_of-reach.result c.bound_of-bound.result c.reach_of-reach.ensures early c.bound_of-bound.ensures.value few c.bound_of-bound.ensures.terms c.bound_of-bound.ensures.few)
+    c.reach_of-reach.result c.bound_of-bound.result c.reach_of-reach.ensures early c.bound_of-bound.ensures.value few c.are_asked.ensures.few c.bound_of-bound.ensures.few)
 
 pub returns-clause-plan : goal.returns-clause-plan
 returns-clause-plan c =

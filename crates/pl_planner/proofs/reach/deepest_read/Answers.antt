@@ -38,8 +38,7 @@ loop-k-init c =
 
 pub overflow_cast-k-in-Some : goal.overflow_cast-k-in-Some
 overflow_cast-k-in-Some c =
-    let long = ap (λ (l : List _). length l) c.graph-graph.ensures.value in
-    let few : c.loop-k.k - 1 < 2 ^ 8 = omega (arith, c.requires.term, c.len-terms.ensures.value, c.len-terms.ensures.few, long, c.loop-k.invariant.within, c.loop-k-test.true) in
+    let few : c.loop-k.k - 1 < 2 ^ 8 = omega (arith, c.requires.term, graph-long c.args.checked.now.graph, c.requires.asked.few, c.loop-k.invariant.within, c.loop-k-test.true) in
     search rules
 
 pub node-node-requires : goal.node-node-requires
@@ -61,7 +60,6 @@ read_node-requires-clause-room c =
     let n = c.node-node.result.now in
     let is : slice_get p.graph (c.loop-k.k - 1) ≡ Some n = ap (λ ns. slice_get ns (c.loop-k.k - 1)) (sym c.graph-graph.ensures.value) ∙ c.node-node.ensures in
     let size = sizes p c.requires.asked.checked (c.loop-k.k - 1) (node_of n) (graph-at p.graph (c.loop-k.k - 1) n is) in
-    let long = ap (λ (l : List _). length l) c.graph-graph.ensures.value in
     let at : get_or c.loop-k.depths (c.loop-k.k - 1) None ≡ Some c.in-Some.depth = sym c.depth_of.ensures ∙ c.in-Some.is in
     let close : c.back_from-back.result ≤ max c.in-Some.depth c.args.session = near c.args.sessions.now c.args.session (node_of n).kind c.in-Some.depth c.back_from-back.result c.back_from-back.ensures in
     omega (arith, size.1, window-is n, close, c.requires.session, c.requires.asked.days.few, c.loop-k.invariant.covers.room (c.loop-k.k - 1) c.in-Some.depth at, c.requires.term, graph-long p.graph, c.requires.asked.few)
@@ -115,5 +113,4 @@ returns-clause-value c =
 
 pub returns-clause-few : goal.returns-clause-few
 returns-clause-few c =
-    let long = ap (λ (l : List _). length l) c.graph-graph.ensures.value in
     omega (arith, c.loop-k.invariant.covers.room_own, c.requires.session, c.requires.asked.days.few, c.requires.term, graph-long c.args.checked.now.graph, c.requires.asked.few)
