@@ -12,6 +12,8 @@ mod world;
 pub use asof::asof_world;
 pub use cell::exists;
 pub use owned::OwnedWorld;
-pub use parts::{SectionRows, input_at, label_cell, number_cell, number_day, section_input, section_row};
+pub use parts::{
+    SectionRows, input_at, label_cell, number_cell, number_day, section_input, section_row,
+};
 pub use present::{has_numbers, present_numbers};
 pub use world::World;
