@@ -83,14 +83,7 @@ fn whole_row(
         mask: &mask,
         groups: &groups,
     };
-    Ok(Some(section_row(
-        alloc,
-        &basis.world,
-        basis.checked,
-        t,
-        session,
-        &rows,
-    )?))
+    Ok(Some(section_row(alloc, &basis.world, basis.checked, t, session, &rows)?))
 }
 
 // The cells of a term for all assets, by what is stated of those that exist.

@@ -211,7 +211,12 @@ fn finish_premises<L: Ledger>(
     if !exists(&source.world, col, session) {
         return Ok(());
     }
-    let mask = mask_read(source.alloc, node, source.world.assets.sid(col), session as u32)?;
+    let mask = mask_read(
+        source.alloc,
+        node,
+        source.world.assets.sid(col),
+        session as u32,
+    )?;
     finish_all(source, walk, t, &mask, steps)?;
     let basis = Basis {
         world: source.world,

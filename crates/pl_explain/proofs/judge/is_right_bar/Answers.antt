@@ -18,20 +18,20 @@ returns-in_default g c =
 pub returns-in_default-index_of : goal.returns-in_default-index_of
 returns-in_default-index_of g c =
     let l = c.args.line.now in
-    let bar_day : FitsSigned w32 l.bar_day = c.ranges.bar_day in
+    let bar_day : FitsSigned w32 c.args.line.now.bar_day = search rules in
     bar-no-session c.requires.table l.column l.sid l.bar_day l.day l.cells.now (sym (simp to_z-of_z at c.index_of.ensures.exact) ∙ none-of c.index_of.result c.in_default-index_of.not-Some)
 
 pub returns-in_default-index_of-2 : goal.returns-in_default-index_of-2
 returns-in_default-index_of-2 g c =
     let l = c.args.line.now in
-    let day : FitsSigned w32 l.day = c.ranges.day in
+    let day : FitsSigned w32 c.args.line.now.day = search rules in
     bar-no-day c.requires.table l.column l.sid l.bar_day l.day l.cells.now (sym (simp to_z-of_z at c.index_of-2.ensures.exact) ∙ none-of c.index_of-2.result c.in_default-index_of-2.not-Some)
 
 pub returns-then-bar-session : goal.returns-then-bar-session
 returns-then-bar-session g c =
     let l = c.args.line.now in
-    let bar_day : FitsSigned w32 l.bar_day = c.ranges.bar_day in
-    let day : FitsSigned w32 l.day = c.ranges.day in
+    let bar_day : FitsSigned w32 c.args.line.now.bar_day = search rules in
+    let day : FitsSigned w32 c.args.line.now.day = search rules in
     let bar_is = sym (simp to_z-of_z at c.in-Some-index_of.ensures.exact) in
     let day_is = sym (simp to_z-of_z at c.in-Some-index_of-2.ensures.exact) in
     bar-late c.requires.table l.column l.sid l.bar_day l.day l.cells.now c.in-Some-index_of.bar c.in-Some-index_of-2.session bar_is day_is c.if-bar-session.true
@@ -39,8 +39,8 @@ returns-then-bar-session g c =
 pub returns-then-not-same_cells : goal.returns-then-not-same_cells
 returns-then-not-same_cells g c =
     let l = c.args.line.now in
-    let bar_day : FitsSigned w32 l.bar_day = c.ranges.bar_day in
-    let day : FitsSigned w32 l.day = c.ranges.day in
+    let bar_day : FitsSigned w32 c.args.line.now.bar_day = search rules in
+    let day : FitsSigned w32 c.args.line.now.day = search rules in
     let bar_is = sym (simp to_z-of_z at c.in-Some-index_of.ensures.exact) in
     let day_is = sym (simp to_z-of_z at c.in-Some-index_of-2.ensures.exact) in
     let place = c.in-Some.ensures.some in
@@ -53,8 +53,8 @@ returns-then-not-same_cells g c =
 pub returns : goal.returns
 returns g c =
     let l = c.args.line.now in
-    let bar_day : FitsSigned w32 l.bar_day = c.ranges.bar_day in
-    let day : FitsSigned w32 l.day = c.ranges.day in
+    let bar_day : FitsSigned w32 c.args.line.now.bar_day = search rules in
+    let day : FitsSigned w32 c.args.line.now.day = search rules in
     let bar_is = sym (simp to_z-of_z at c.in-Some-index_of.ensures.exact) in
     let day_is = sym (simp to_z-of_z at c.in-Some-index_of-2.ensures.exact) in
     let place = c.in-Some.ensures.some in
