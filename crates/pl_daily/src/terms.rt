@@ -40,13 +40,7 @@ fn is_lent(lent: &Lent<'_>)
 }
 
 // The row of a used term on the day.
-fn term_row(
-    lent: &Lent<'_>,
-    terms: &[TermCells],
-    term: TermId,
-    start: &StartCells,
-    room: &mut Room,
-)
+fn term_row(lent: &Lent<'_>, terms: &[TermCells], term: TermId, start: &StartCells, room: &mut Room)
     requires placed { (next : FedDay) × (days : List FedDay)
         × IsAt lent.now term.0 terms.now start.now (next ∷ days) next days }
     requires terms { AreTerms (assets_at lent.now) (pipeline_at lent.now) lent.now.bars.now terms.now }
