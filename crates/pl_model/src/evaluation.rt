@@ -23,7 +23,9 @@ use pl_terms::{Checked, Input, Node, TermId};
 use pl_values::{
     Family, empty_value, family_of, label_test_value, point_value, sids_value, window_value,
 };
-use pl_world::{SectionRows, World, exists, input_at, label_cell, number_cell, section_input, section_row};
+use pl_world::{
+    SectionRows, World, exists, input_at, label_cell, number_cell, section_input, section_row,
+};
 use std::alloc::Global;
 use std::sync::ledger::Ledger;
 
