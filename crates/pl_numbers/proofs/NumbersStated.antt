@@ -17,7 +17,7 @@ use Rattle.pl_spec.specs.declared.AssetRow.{AssetRow}
 use Rattle.pl_assets.specs.LabelPlaces.{key}
 use Rattle.pl_assets.proofs.FirstSeen.{one_place}
 use Rattle.pl_numbers.specs.Numbers.{Rule, BadField, BadHeader, header, col_in, in_column, is_from, number_in, number_rows_in, numbers_of, row_of, number_or_rule, table_of}
-use Rattle.pl_numbers.specs.NumberPlaces.{AreNumbered, IsPlace, IsTableOf, key_of, row_at, shown_rows, states}
+use Rattle.pl_numbers.specs.NumberPlaces.{AreNumbered, AreStated, IsPlace, IsTableOf, key_of, row_at, shown_rows, states}
 use Rattle.pl_numbers.specs.declared.rows.Place.{Place}
 use Rattle.pl_numbers.specs.declared.rows.NumberRows.{NumberRows}
 use Rattle.pl_numbers.proofs.NumberKeys.{from_parts, parts_from}
@@ -135,8 +135,7 @@ table_stated assets records t new h own few e names places =
     }
 
 -- where they can be put in order
-pub stated_in_order : (assets : List AssetRow) (records : List Record) (t : NumberRows) (o : Option NumberRows) → AreNumbered t → length (shown_rows t) ≤ most_numbers
-    → rows_under header BadHeader (states assets) records ≡ Ok (shown_rows t) → OnSome o (HasOwnKeys key_of t.places.items) → IfSome o (λ new. new.names ≡ t.names)
-    → IfSome o (λ new. new.places.items ≡ sorted_by key_of t.places.items) → IfSome o (IsTableOf assets records)
-stated_in_order assets records t None h few e own names places = tt
-stated_in_order assets records t (Some new) h few e own names places = table_stated assets records t new h own few e names places
+pub stated_in_order : (assets : List AssetRow) (records : List Record) (t : NumberRows) (o : Option NumberRows) → AreStated assets records t → OnSome o (HasOwnKeys key_of t.places.items)
+    → IfSome o (λ new. new.names ≡ t.names) → IfSome o (λ new. new.places.items ≡ sorted_by key_of t.places.items) → IfSome o (IsTableOf assets records)
+stated_in_order assets records t None h own names places = tt
+stated_in_order assets records t (Some new) h own names places = table_stated assets records t new h.numbered own h.few h.exact names places

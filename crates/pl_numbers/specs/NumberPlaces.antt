@@ -1,8 +1,8 @@
 -- Rows of numbers as they are kept: numbers for their names, by which they stand.
-use Rattle.std.specs.Prelude.{◌≡◌, ℕ, ◌^◌, ◌==◌, ◌<◌, ◌≤◌, nat_eq, nat_le, true, false, ℤ, List, [], length, map, filter, slice_index_or, bytes_eq, All, AllPairs, Option, Some, None, option_map, Result, Ok, FitsSigned}
+use Rattle.std.specs.Prelude.{◌≡◌, ℕ, ◌^◌, ◌==◌, ◌<◌, ◌≤◌, nat_eq, nat_le, true, false, ℤ, List, [], ◌∷◌, ◌++◌, length, map, filter, slice_index_or, bytes_eq, All, AllPairs, Option, Some, None, option_map, Result, Ok, FitsSigned}
 use Rattle.std.specs.Int.{w32}
 use Rattle.std.specs.Int.RustNames.{int_le}
-use Rattle.std.specs.List.{list_any}
+use Rattle.std.specs.List.{list_any, position_or_len}
 use Rattle.std.specs.Option.{ok_or}
 use Rattle.std.specs.List.Sorted.{IsPartitionPoint}
 use Rattle.std.specs.HashSet.{HashSet, contains}
@@ -10,11 +10,11 @@ use Rattle.pl_spec.specs.Limits.{most_numbers}
 use Rattle.pl_spec.specs.Dates.{IsDay}
 use Rattle.pl_spec.specs.Numbers.{NumberRow, is_number_of, last_known}
 use Rattle.pl_spec.specs.Rounding.{IsCell}
-use Rattle.pl_records.specs.Reading.{Record, field}
+use Rattle.pl_records.specs.Reading.{Record, field, rows_under}
 use Rattle.pl_assets.specs.LabelPlaces.{key}
 use Rattle.pl_spec.specs.Parts.{ColumnNumber}
 use Rattle.pl_spec.specs.declared.AssetRow.{AssetRow}
-use Rattle.pl_numbers.specs.Numbers.{NumberTable, Rule, BadField, by_column, names_of, numbers_of, row_of}
+use Rattle.pl_numbers.specs.Numbers.{NumberTable, Rule, BadField, BadHeader, header, by_column, names_of, numbers_of, row_of}
 use Rattle.pl_numbers.specs.declared.rows.Place.{Place}
 use Rattle.pl_numbers.specs.declared.rows.NumberRows.{NumberRows}
 use Rattle.pl_numbers.specs.declared.reading.Fields.{Fields}
@@ -87,9 +87,22 @@ row_from r n = record { name = field r 0; col = n.col; known = n.known; value = 
 abbrev pub key_next : NextNumber → ℕ
 key_next n = key n.name n.col n.known
 
+-- it is the number of a record for which there is room after these rows, and the keys are known with its own
+pub record IsNumberAfter {S : Type 0} (before : NumberRows) (keys : Option (HashSet ℕ S)) (r : Record) (n : NextNumber) : Type 0 where
+  pub room : length (shown_rows before) < most_numbers
+  pub four : length r ≡ 4
+  pub name : n.name ≡ position_or_len (bytes_eq (field r 0)) before.names
+  pub seen : (p : Place) → key_of p ≡ key_next n → AreSeen keys (before.places.items ++ p ∷ [])
+
 -- the row of a record, whatever rows stand before it
 abbrev pub states : List AssetRow → List ColumnNumber → Record → Result ColumnNumber Rule
 states assets before r = ok_or (row_of assets r) BadField
+
+-- the rows are those that the records of a file state
+pub record AreStated (assets : List AssetRow) (records : List Record) (t : NumberRows) : Type 0 where
+  pub exact : rows_under header BadHeader (states assets) records ≡ Ok (shown_rows t)
+  pub few : length (shown_rows t) ≤ most_numbers
+  pub numbered : AreNumbered t
 
 -- ---- the table
 

@@ -2,12 +2,12 @@
 ghost use Rattle.std.specs.Prelude.{◌≡◌, ◌+◌, ◌==◌, ◌++◌, ◌∷◌, ◌<◌, ◌≤◌, ◌^◌, not, [], length, position, bytes_eq, IfOk, IfSome, IsTrue, OnOk, OnSome, option_map};
 ghost use Rattle.std.specs.List.{list_any, position_or_len};
 ghost use Rattle.pl_spec.specs.Limits.{most_assets, most_numbers};
-ghost use Rattle.pl_records.specs.Reading.{Answers, at_line, field, rows_of};
+ghost use Rattle.pl_records.specs.Reading.{Answers, at_line, rows_of};
 ghost use Rattle.pl_records.specs.Records.{csv_records};
 ghost use Rattle.pl_lifetimes.specs.Assets.{sid_of};
 ghost use Rattle.pl_numbers.specs.Numbers.{is_from, number_in, number_rows_in, number_or_rule};
 ghost use Rattle.pl_numbers.specs.NumberFaults.{fault_of};
-ghost use Rattle.pl_numbers.specs.NumberPlaces.{AreNumbered, AreSeen, key_next, key_of, number_from, row_from, shown_rows};
+ghost use Rattle.pl_numbers.specs.NumberPlaces.{AreNumbered, AreSeen, IsNumberAfter, key_next, key_of, number_from, row_from, shown_rows};
 
 use crate::MOST_NUMBERS;
 use crate::dates::{Dated, day_of};
@@ -95,15 +95,10 @@ fn next_number(
     requires numbered { AreNumbered before.now }
     requires few { length (shown_rows before.now) ≤ most_numbers }
     requires seen { AreSeen seen.old.keys before.now.places.items }
-    ensures room { OnOk result (length (shown_rows before.now) < most_numbers) }
-    ensures four { OnOk result (length row.now.fields ≡ 4) }
-    ensures name { IfOk result (λ n. n.name
-        ≡ position_or_len (bytes_eq (field row.now.fields 0)) before.now.names) }
+    ensures next { IfOk result (IsNumberAfter before.now seen.new.keys row.now.fields) }
     ensures exact { Answers (row_from row.now.fields) fault_of result
         (at_line (2 + length (shown_rows before.now))
         (number_or_rule assets.now (shown_rows before.now) row.now.fields)) }
-    ensures seen { IfOk result (λ n. (p : Place) → key_of p ≡ key_next n
-        → AreSeen seen.new.keys (before.now.places.items ++ p ∷ [])) }
 {
     let line = before.places.len() as u32 + 2;
     if before.places.len() >= MOST_NUMBERS {

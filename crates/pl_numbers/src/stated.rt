@@ -1,11 +1,11 @@
 //! Reads the records of a numbers file, with no look at which of the rows have one key.
-ghost use Rattle.std.specs.Prelude.{◌≡◌, ◌≤◌, ◌<◌, [], drop, length, bytes_eq, IfOk, IfSome, IsTrue, OnOk, OnSome, Ok, Some};
+ghost use Rattle.std.specs.Prelude.{◌≡◌, ◌≤◌, ◌<◌, [], length, bytes_eq, IfOk, IfSome, IsTrue, OnOk, OnSome, Ok, Some};
 ghost use Rattle.std.specs.List.{position_or_len};
 ghost use Rattle.pl_spec.specs.Limits.{most_numbers};
-ghost use Rattle.pl_records.specs.Reading.{field, rows_of, rows_under};
+ghost use Rattle.pl_records.specs.Reading.{field, rows_of};
 ghost use Rattle.pl_records.specs.Records.{csv_records};
-ghost use Rattle.pl_numbers.specs.Numbers.{BadHeader, header, row_of};
-ghost use Rattle.pl_numbers.specs.NumberPlaces.{AreNumbered, row_from, shown_rows, states};
+ghost use Rattle.pl_numbers.specs.Numbers.{row_of};
+ghost use Rattle.pl_numbers.specs.NumberPlaces.{AreNumbered, AreStated, row_from, shown_rows, states};
 
 use crate::MOST_NUMBERS;
 use crate::dates::Dated;
@@ -21,21 +21,38 @@ pub(crate) fn stated_rows(
     bytes: &[u8],
     assets: &Assets,
 ) -> Result<Option<NumberRows>, AllocError>
-    ensures exact { IfOk result (λ o. IfSome o (λ rows.
-        rows_under header BadHeader (states assets.now) (csv_records bytes.now) ≡ Ok (shown_rows rows))) }
-    ensures few { IfOk result (λ o. IfSome o (λ rows. length (shown_rows rows) ≤ most_numbers)) }
-    ensures numbered { IfOk result (λ o. IfSome o AreNumbered) }
+    ensures { IfOk result (λ o. IfSome o (AreStated assets.now (csv_records bytes.now))) }
+{
+    let mut rows = NumberRows::new(alloc);
+    match put_file(alloc, bytes, assets, &mut rows) {
+        Ok(true) => Ok(Some(rows)),
+        Ok(false) => {
+            drop(rows);
+            Ok(None)
+        }
+        Err(error) => {
+            drop(rows);
+            Err(error)
+        }
+    }
+}
+
+// Puts the rows of a file where there is none yet; whether each of its records has one.
+fn put_file(
+    alloc: Global,
+    bytes: &[u8],
+    assets: &Assets,
+    rows: &mut NumberRows,
+) -> Result<bool, AllocError>
+    requires none { shown_rows rows.old ≡ [] }
+    requires numbered { AreNumbered rows.old }
+    ensures { IfOk result (λ b. IsTrue b → AreStated assets.now (csv_records bytes.now) rows.new) }
 {
     let mut records = Records::new(alloc, bytes);
     if !records.read_header(&[b"name", b"sid", b"known", b"value"])? {
-        return Ok(None);
+        return Ok(false);
     }
-    let mut rows = NumberRows::new(alloc);
-    if put_stated(&mut rows, &mut records, assets)? {
-        Ok(Some(rows))
-    } else {
-        Ok(None)
-    }
+    put_stated(rows, &mut records, assets)
 }
 
 // Puts the rows of the records after the header where there is none yet; whether all have one.

@@ -26,12 +26,12 @@ pub rows-preserved : goal.rows-preserved
 rows-preserved c =
     let more = rw c.if-branch.true at c.in_ok-next.ensures in
     let row : shown_rows c.push.new.self ≡ shown_rows c.rows.rows ++ row_from c.next.new.self.fields c.in_ok-number.number ∷ [] = rw c.field.ensures at c.in_ok-push.ensures.rows in
-    let room : length (shown_rows c.rows.rows) < most_numbers = c.in_ok-number.ensures.room in
+    let room : length (shown_rows c.rows.rows) < most_numbers = c.in_ok-number.ensures.next.room in
     record {
       rest = rw row (goes_on 2 (number_or_rule c.args.assets.now) (shown_rows c.rows.rows) c.rows.records.left c.next.new.self.left c.next.new.self.fields (row_from c.next.new.self.fields c.in_ok-number.number) _ more.ok c.in_ok-number.ensures.exact c.rows.invariant.rest);
       few = rw row (omega (arith, length-append (shown_rows c.rows.rows) (row_from c.next.new.self.fields c.in_ok-number.number ∷ [])));
       numbered = c.in_ok-push.ensures.numbered;
-      seen = rw c.in_ok-push.ensures.places (c.in_ok-number.ensures.seen _ (search rules));
+      seen = rw c.in_ok-push.ensures.places (c.in_ok-number.ensures.next.seen _ (search rules));
     }
 
 pub returns-clause-exact : goal.returns-clause-exact
