@@ -105,12 +105,20 @@ fn read_value(text: &[u8]) -> Option<Line>
     let (sid, rest) = cut(b' ', rest?);
     let (day, rest) = cut(b' ', rest?);
     let (value, rest) = cut(b' ', rest?);
+    value_in(term, sid, day, value, rest)
+}
+
+// What four fields say of a value, and what follows them.
+fn value_in(term: &[u8], sid: &[u8], day: &[u8], value: &[u8], known: Option<&[u8]>) -> Option<Line>
+    ensures { option_map line_of result ≡ value_line (term.now ∷ sid.now ∷ day.now ∷ value.now
+        ∷ behind 32 (option_map (λ r. r.now) known.entry)) }
+{
     Some(Line::Value(ValueLine {
         term: read_sid(term)?,
         sid: read_sid(sid)?,
         day: read_day(day)?,
         value: read_number(value)?,
-        known: read_known(rest)?,
+        known: read_known(known)?,
     }))
 }
 
