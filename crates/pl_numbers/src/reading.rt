@@ -1,11 +1,11 @@
 //! Reads the records of a numbers file one after the other, up to the first fault.
-ghost use Rattle.std.specs.Prelude.{◌≡◌, ◌+◌, ◌==◌, ◌++◌, ◌∷◌, ◌<◌, ◌≤◌, ◌^◌, not, [], length, position, bytes_eq, IfOk, IfSome, IsTrue, OnOk, OnSome, option_map};
+ghost use Rattle.std.specs.Prelude.{◌≡◌, ◌+◌, ◌==◌, ◌++◌, ◌∷◌, ◌<◌, ◌≤◌, ◌^◌, not, [], drop, length, position, bytes_eq, IfOk, IfSome, IsTrue, OnOk, OnSome, option_map};
 ghost use Rattle.std.specs.List.{list_any, position_or_len};
 ghost use Rattle.pl_spec.specs.Limits.{most_assets, most_numbers};
-ghost use Rattle.pl_records.specs.Reading.{Answers, at_line, rows_of};
+ghost use Rattle.pl_records.specs.Reading.{Answers, at_line, has_header, rows_of};
 ghost use Rattle.pl_records.specs.Records.{csv_records};
 ghost use Rattle.pl_lifetimes.specs.Assets.{sid_of};
-ghost use Rattle.pl_numbers.specs.Numbers.{is_from, number_in, number_rows_in, number_or_rule};
+ghost use Rattle.pl_numbers.specs.Numbers.{header, is_from, number_in, number_rows_in, number_or_rule};
 ghost use Rattle.pl_numbers.specs.NumberFaults.{fault_of};
 ghost use Rattle.pl_numbers.specs.NumberPlaces.{AreNumbered, AreSeen, IsNumberAfter, key_next, key_of, number_from, row_from, shown_rows};
 
@@ -31,10 +31,18 @@ pub(crate) fn read_rows(
     ensures numbered { IfOk result AreNumbered }
 {
     let mut records = Records::new(alloc, bytes);
-    if !records.read_header(&[b"name", b"sid", b"known", b"value"])? {
+    if !reads_header(&mut records)? {
         return Err(NumbersError::BadHeader);
     }
     rows_behind(alloc, &mut records, assets)
+}
+
+// Reads the first record; whether it is the header.
+pub(crate) fn reads_header(records: &mut Records) -> Result<bool, AllocError>
+    ensures header { IfOk result (λ b. b ≡ has_header header records.old.left) }
+    ensures rest { IfOk result (λ b. IsTrue b → records.new.left ≡ drop 1 records.old.left) }
+{
+    records.read_header(&[b"name", b"sid", b"known", b"value"])
 }
 
 // The numbers of the records after the header.

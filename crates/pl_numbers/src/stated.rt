@@ -9,7 +9,7 @@ ghost use Rattle.pl_numbers.specs.NumberPlaces.{AreNumbered, AreStated, row_from
 
 use crate::MOST_NUMBERS;
 use crate::dates::Dated;
-use crate::reading::{NextNumber, col_of, fields_of};
+use crate::reading::{NextNumber, col_of, fields_of, reads_header};
 use crate::rows::NumberRows;
 use pl_lifetimes::Assets;
 use pl_records::Records;
@@ -49,7 +49,7 @@ fn put_file(
     ensures { IfOk result (λ b. IsTrue b → AreStated assets.now (csv_records bytes.now) rows.new) }
 {
     let mut records = Records::new(alloc, bytes);
-    if !records.read_header(&[b"name", b"sid", b"known", b"value"])? {
+    if !reads_header(&mut records)? {
         return Ok(false);
     }
     put_stated(rows, &mut records, assets)
