@@ -5,8 +5,8 @@ ghost use Rattle.std.specs.List.{list_any};
 ghost use Rattle.pl_bars.specs.Bars.{cell_in, cells_in, fields_in, is_negative};
 ghost use Rattle.pl_bars.specs.ColumnNames.{column_in};
 
-use crate::dates::{Dated, day_of};
-use pl_fixed::{Column, MISSING, read_decimal, read_sid};
+use crate::dates::day_of;
+use pl_fixed::{Column, KnownDate, MISSING, read_decimal, read_sid};
 use pl_records::Records;
 use pl_spec::BarRow;
 
@@ -20,7 +20,7 @@ pub(crate) struct Fields {
 
 // The fields of the record that was read last, after these bars, where they are those of a bar.
 #[tactic(auto, unfolding(crate::specs::Bars::fields_in))]
-pub(crate) fn fields_of(row: &Records, before: &[BarRow], dates: &[Dated]) -> Option<Fields>
+pub(crate) fn fields_of(row: &Records, before: &[BarRow], dates: &[KnownDate]) -> Option<Fields>
     ensures { result ≡ fields_in row.now.fields }
 {
     if row.field_count() != 7 {

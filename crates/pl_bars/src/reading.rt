@@ -12,11 +12,12 @@ ghost use Rattle.pl_spec.specs.Limits.{most_sessions, most_bars};
 
 use crate::MOST_BARS;
 use crate::bar_set::BarSet;
-use crate::dates::{Dated, dates_of};
+use crate::dates::dates_of;
 use crate::error::BarsError;
 use crate::fields::{fields_of, has_negative};
 use crate::places::{col_of, session_of};
 use pl_calendar::Sessions;
+use pl_fixed::KnownDate;
 use pl_lifetimes::Assets;
 use pl_records::Records;
 use pl_spec::BarRow;
@@ -159,7 +160,7 @@ fn rises(a: &BarRow, b: &BarRow) -> bool
 #[tactic(auto, unfolding(crate::specs::Bars::bar_or_rule))]
 fn next_bar(
     before: &[BarRow],
-    dates: &[Dated],
+    dates: &[KnownDate],
     seen: &mut BarSet,
     row: &Records,
     sessions: &Sessions,

@@ -12,7 +12,6 @@ ghost use Rattle.pl_numbers.specs.Numbers.{AreNumbers, known_on, number_on, numb
 ghost use Rattle.pl_numbers.specs.NumberFaults.{fault_of};
 
 mod cut;
-mod dates;
 mod error;
 pub mod laws;
 mod named;

@@ -10,12 +10,11 @@ ghost use Rattle.pl_numbers.specs.NumberFaults.{fault_of};
 ghost use Rattle.pl_numbers.specs.NumberPlaces.{AreNumbered, AreSeen, IsNumberAfter, key_next, key_of, number_from, row_from, shown_rows};
 
 use crate::MOST_NUMBERS;
-use crate::dates::{Dated, day_of};
 use crate::error::NumbersError;
 use crate::rows::{NumberRows, Place, key};
 use crate::seen::Seen;
 use pl_bars::read_cell;
-use pl_fixed::{is_name, read_sid};
+use pl_fixed::{LastDate, is_name, read_sid};
 use pl_lifetimes::Assets;
 use pl_records::Records;
 use std::alloc::{AllocError, Global};
@@ -112,7 +111,7 @@ fn next_number(
     if before.places.len() >= MOST_NUMBERS {
         return Err(NumbersError::TooMany { line });
     }
-    let Some(fields) = fields_of(row, &mut None) else {
+    let Some(fields) = fields_of(row, &mut LastDate::new()) else {
         return Err(NumbersError::BadField { line });
     };
     let Some(col) = col_of(&before.places, assets, fields.sid) else {
@@ -176,10 +175,10 @@ pub(crate) struct Fields {
     pub(crate) value: i64,
 }
 
-// The fields of the record that was read last, where it is a number; `last` is a date before it, and then
-// its own.
+// The fields of the record that was read last, where it is a number; `last` is the date of one before it, and
+// then its own.
 #[tactic(auto, unfolding(crate::specs::Numbers::number_in))]
-pub(crate) fn fields_of(row: &Records, last: &mut Option<Dated>) -> Option<Fields>
+pub(crate) fn fields_of(row: &Records, last: &mut LastDate) -> Option<Fields>
     ensures four { OnSome result (length row.now.fields ≡ 4) }
     ensures exact { option_map (number_from row.now.fields) result ≡ number_in row.now.fields }
 {
@@ -187,7 +186,7 @@ pub(crate) fn fields_of(row: &Records, last: &mut Option<Dated>) -> Option<Field
         return None;
     }
     let sid = read_sid(row.field(1))?;
-    let known = day_of(row.field(2), last)?;
+    let known = last.day_of(row.field(2))?;
     let value = read_cell(row.field(3))?;
     Some(Fields { sid, known, value })
 }
