@@ -1,15 +1,15 @@
 //! Dates whose days are known, so that one that comes again is not read again.
 
-ghost use Rattle.std.specs.Prelude.{◌≡◌, Some, IfSome};
+ghost use Rattle.std.specs.Prelude.{◌≡◌, Some, None, IfSome, bytes_eq, cond};
 ghost use Rattle.pl_spec.specs.Dates.{IsDay, date_in};
 
 use crate::day::{read_day, write_day};
 
-/// The text of a date with its day, counted from 1970-01-01.
+/// The text of a date, `YYYY-MM-DD`, with its day, counted from 1970-01-01.
 #[derive(Clone, Copy)]
 pub struct KnownDate {
-    text: [u8; 10],
-    day: i32,
+    pub text: [u8; 10],
+    pub day: i32,
     ghost written: { date_in text ≡ Some day },
 }
 
@@ -17,6 +17,7 @@ impl KnownDate {
     /// The date of a day from 1900-01-01 to 2199-12-31.
     pub fn new(day: i32) -> KnownDate
         requires { IsDay day }
+        ensures { result.day ≡ day }
     {
         let mut text = [0; 10];
         write_day(day, &mut text);
@@ -25,7 +26,8 @@ impl KnownDate {
 
     /// The day, where the bytes are this date; `None` for all others, which may be another date.
     pub fn day_of(&self, text: &[u8]) -> Option<i32>
-        ensures { IfSome result (λ day. date_in text.now ≡ Some day) }
+        ensures exact { result ≡ cond (bytes_eq text.now self.now.text) (Some self.now.day) None }
+        ensures known { IfSome result (λ day. date_in text.now ≡ Some day) }
     {
         if text == self.text.as_slice() {
             Some(self.day)

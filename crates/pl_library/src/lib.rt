@@ -7,9 +7,9 @@
 /// Cells, ratios, dates and sids, and the counter of steps.
 pub mod numbers {
     pub use pl_fixed::{
-        Column, DecimalFault, Frequency, LIM, MISSING, Memory, Ratio, ReadyRatio, Steps, add, div,
-        div_round, is_cell, isqrt, mul, neg, quot, read_day, read_decimal, read_sid, sub, to_cell,
-        write_day, write_decimal,
+        Column, DecimalFault, Frequency, KnownDate, LIM, LastDate, MISSING, Memory, Ratio,
+        ReadyRatio, Steps, add, div, div_round, is_cell, isqrt, mul, neg, quot, read_day,
+        read_decimal, read_sid, sub, to_cell, write_day, write_decimal,
     };
 }
 
