@@ -9,7 +9,7 @@ use Rattle.pl_spec.specs.declared.Column.{Column}
 use Rattle.pl_spec.specs.Window.{after_all, bar_window, effect, is_between, seen_cell, step_count}
 use Rattle.pl_spec.proofs.Windows.{bar_window-sessions}
 use Rattle.pl_adjarray.specs.Buffered.{Buffered, AreSeen, HasCells, applied_at, cell_at, col_at, ratio_count, world_of}
-use Rattle.pl_adjarray.specs.Inside.{IsReady}
+use Rattle.pl_adjarray.specs.Inside.{IsReadyBuffer}
 use Rattle.pl_adjarray.specs.Stillness.{IsStill}
 use Rattle.pl_adjarray.proofs.Places.{part_is, rows_within}
 use Rattle.pl_adjarray.proofs.Slides.{days_le, has_day, moved_is_seen, next_applied, raw_is_seen}
@@ -38,7 +38,7 @@ none_of_all : (f : ℕ → ℕ) (xs : List ℕ) → ((i : ℕ) → i < length xs
 none_of_all f [] none = refl
 none_of_all f (x ∷ xs) none = sum_by-cons f x xs ∙ (let e = none 0 (omega arith) in let r = none_of_all f xs (λ i h. none (suc i) (omega arith)) in omega (arith, e, r))
 
-module _ (b : Buffered) (ready : IsReady b) (d n : ℕ) (low : b.first ≤ d) (high : d + n ≤ b.first + b.rows) (from to : ℤ) (at_d : slice_get b.days d ≡ Some from) (at_end : slice_get b.days (d + n) ≡ Some to)
+module _ (b : Buffered) (ready : IsReadyBuffer b) (d n : ℕ) (low : b.first ≤ d) (high : d + n ≤ b.first + b.rows) (from to : ℤ) (at_d : slice_get b.days d ≡ Some from) (at_end : slice_get b.days (d + n) ≡ Some to)
     (none : (i : ℕ) → i < length b.cols → filter (is_between from to) (events_of (world_of b) (col_at b i)) ≡ []) where
   -- from a session to the next
   module _ (m : ℕ) (more : m < n) where

@@ -6,7 +6,7 @@ use Rattle.pl_spec.specs.World.{events_of}
 use Rattle.pl_spec.specs.Window.{Effect, after_all, effects_in, step_count}
 use Rattle.pl_adjarray.specs.Buffered.{Buffered, HasCells, cell_at, col_at, ratio_count, world_of}
 use Rattle.pl_spec.specs.Rounding.{IsCell}
-use Rattle.pl_spec.specs.Limits.{cut}
+use Rattle.pl_spec.specs.Limits.{saturated}
 use Rattle.pl_spec.proofs.Places.{row-within}
 use Rattle.pl_adjarray.proofs.Places.{row_behind}
 
@@ -17,9 +17,9 @@ pub record AreSlid (b : Buffered) (shown : ℕ) (from to : ℤ) (n : ℕ) (old n
   pub rest : (k : ℕ) → n * b.rows ≤ k → cell_at new k ≡ cell_at old k
   pub cells : HasCells b new
   pub cost : (bar : ℤ) → steps ≡ steps_old + shown * sum_by (ratio_count b bar from to) (take n b.cols)
-  pub tally : (bar : ℤ) → cut applied ≡ cut (applied_old + shown * sum_by (ratio_count b bar from to) (take n b.cols))
+  pub tally : (bar : ℤ) → saturated applied ≡ saturated (applied_old + shown * sum_by (ratio_count b bar from to) (take n b.cols))
 
-add_cut : (x y z k s t m : ℕ) → t ≡ s + m → cut y ≡ cut (x + k * s) → cut z ≡ cut (y + k * m) → cut z ≡ cut (x + k * t)
+add_cut : (x y z k s t m : ℕ) → t ≡ s + m → saturated y ≡ saturated (x + k * s) → saturated z ≡ saturated (y + k * m) → saturated z ≡ saturated (x + k * t)
 add_cut x y z k s t m e f g = rw e (omega arith)
 
 add_cost : (x y z k s t m : ℕ) → t ≡ s + m → y ≡ x + k * s → z ≡ y + k * m → z ≡ x + k * t
@@ -33,7 +33,7 @@ slid_none b shown from to cells steps applied has_cells = record {
   rest = λ k h. refl;
   cells = has_cells;
   cost = λ bar. omega arith;
-  tally = λ bar. ap cut (omega arith);
+  tally = λ bar. ap saturated (omega arith);
 }
 
 -- the rows of asset n were changed by the effects es on the bars of their days, and no other rows
@@ -60,7 +60,7 @@ module _ (b : Buffered) (shown n : ℕ) (mid new : List ℤ) (es : ℤ → List 
   pub slid_more : (from to : ℤ) (old : List ℤ) (s0 s1 s2 t0 t1 t2 : ℕ)
       → n < length b.cols → ((bar : ℤ) → es bar ≡ effects_in b.column bar from to (events_of (world_of b) (col_at b n)))
       → AreSlid b shown from to n old mid s0 s1 t0 t1
-      → ((bar : ℤ) → s2 ≡ s1 + shown * step_count (es bar)) → ((bar : ℤ) → cut t2 ≡ cut (t1 + shown * step_count (es bar)))
+      → ((bar : ℤ) → s2 ≡ s1 + shown * step_count (es bar)) → ((bar : ℤ) → saturated t2 ≡ saturated (t1 + shown * step_count (es bar)))
       → AreSlid b shown from to (n + 1) old new s0 s2 t0 t2
   slid_more from to old s0 s1 s2 t0 t1 t2 in_cols own so_far cost tally =
       let more : (bar : ℤ) → sum_by (ratio_count b bar from to) (take (n + 1) b.cols) ≡ sum_by (ratio_count b bar from to) (take n b.cols) + ratio_count b bar from to (get_or b.cols n 0) = λ bar. sum_by_more (ratio_count b bar from to) b.cols n 0 in_cols in

@@ -12,9 +12,9 @@ use Rattle.pl_spec.specs.Window.{seen_cell, after_all, effects, effects_in, step
 use Rattle.pl_spec.proofs.Buffer.{effects-split, no_effects, seen_next}
 use Rattle.pl_spec.proofs.Steps.{bars-alike}
 use Rattle.pl_spec.proofs.Windows.{bar_window-sessions}
-use Rattle.pl_spec.specs.Limits.{cut}
+use Rattle.pl_spec.specs.Limits.{saturated}
 use Rattle.pl_adjarray.specs.Buffered.{Buffered, AreSeen, HasCells, cell_at, ratio_count, row_count, applied_at, world_of}
-use Rattle.pl_adjarray.specs.Inside.{IsReady}
+use Rattle.pl_adjarray.specs.Inside.{IsReadyBuffer}
 use Rattle.pl_adjarray.proofs.Counts.{rows_gain, no_rows, no_assets, assets_gain}
 use Rattle.pl_adjarray.proofs.Places.{part_is, rows_within}
 
@@ -74,7 +74,7 @@ module _ (w : World) (ok : IsWorld w) (a : ℕ) (c : Column) where
 
 -- ---- the buffer
 
-module _ (b : Buffered) (ready : IsReady b) where
+module _ (b : Buffered) (ready : IsReadyBuffer b) where
   pub raw_at_first : (cells : List ℤ) → ((i j : ℕ) → i < length b.cols → j < b.rows → cell_at cells (i * b.rows + j) ≡ bar_cell (world_of b) (get_or b.cols i 0) b.column (pos (b.first + j)))
       → AreSeen b cells b.first
   raw_at_first cells raw i j h k =
@@ -130,7 +130,7 @@ module _ (b : Buffered) (ready : IsReady b) where
       ap (cell_at cells) place ∙ seen i ((d - b.first - size) + k) h in_rows ∙ ap (λ s. seen_cell (world_of b) a b.column (pos s) (pos d)) row)
       ∙ sym (bar_window-sessions (world_of b) b.column a d size (omega arith)))
 
-pub next_cut : (applied next before after gain : ℕ) → cut applied ≡ cut before → cut next ≡ cut (applied + gain) → after ≡ before + gain → cut next ≡ cut after
+pub next_cut : (applied next before after gain : ℕ) → saturated applied ≡ saturated before → saturated next ≡ saturated (applied + gain) → after ≡ before + gain → saturated next ≡ saturated after
 next_cut applied next before after gain e f g = omega arith
 
 pub next_cost : (old new before after gain : ℕ) → new ≡ old + gain → after ≡ before + gain → new + before ≡ old + after

@@ -16,7 +16,7 @@ use Rattle.pl_spec.proofs.Signed.{int_le-false}
 use Rattle.pl_adjust.specs.declared.adjust.Adjust.{Adjust}
 use Rattle.pl_adjust.specs.Events.{event_of}
 use Rattle.pl_adjarray.specs.Buffered.{Buffered, col_at, world_of}
-use Rattle.pl_adjarray.specs.Inside.{IsReady}
+use Rattle.pl_adjarray.specs.Inside.{IsReadyBuffer}
 use Rattle.pl_adjarray.specs.Stillness.{IsGreatest, IsQuiet, IsStill, day_at, effective_within}
 use Rattle.pl_adjarray.proofs.Quiet.{still_is, within_none}
 use Rattle.pl_adjarray.proofs.Slides.{days_le, has_day}
@@ -148,7 +148,7 @@ wider P near most n closed h below g = record {
   ];
 }
 
-module _ (b : Buffered) (ready : IsReady b) where
+module _ (b : Buffered) (ready : IsReadyBuffer b) where
   day_up : (s d : ℕ) → s ≤ d → d < length b.days → day_at b s ≤ℤ day_at b d
   day_up s d h in_days =
       days_le (world_of b) ready.world s d (day_at b s) (day_at b d) h (has_day (world_of b) s (omega (arith, h, in_days))) (has_day (world_of b) d in_days)

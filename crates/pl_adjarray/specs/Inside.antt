@@ -18,10 +18,10 @@ buffered_of a =
     }
 
 -- there is a session after the last row, and the days and the events of each asset are in order
-pub record IsReady (b : Buffered) : Type 0 where
+pub record IsReadyBuffer (b : Buffered) : Type 0 where
   pub range : b.first + b.rows < length b.days
   pub days : AreDays b.days
   pub world : IsWorld (world_of b)
 
 abbrev pub IsInside : Inside → Type 0
-IsInside a = IsReady (buffered_of a)
+IsInside a = IsReadyBuffer (buffered_of a)

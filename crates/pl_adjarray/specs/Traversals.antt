@@ -1,6 +1,6 @@
 -- Where a traversal stands.
 use Rattle.std.specs.Prelude.{◌≡◌, ◌⊎◌, ℕ, ◌+◌, ◌-◌, ◌*◌, ◌≤◌, ◌==◌, if◌then◌else◌, ℤ, List, length}
-use Rattle.pl_spec.specs.Limits.{cut}
+use Rattle.pl_spec.specs.Limits.{saturated}
 use Rattle.pl_adjarray.specs.Buffered.{Buffered, AreSeen, HasCells, applied_at}
 use Rattle.pl_adjarray.specs.declared.windows.Windows.TheInside.{Inside}
 
@@ -23,7 +23,7 @@ pub record IsSeen (b : Buffered) (held : List ℤ) (d applied : ℕ) : Type 0 wh
   pub size : length held ≡ b.rows * length b.cols
   pub from : b.first ≤ d
   pub to : d ≤ b.first + b.rows
-  pub tally : cut applied ≡ cut (applied_at b d)
+  pub tally : saturated applied ≡ saturated (applied_at b d)
 
 -- The session is the first of the buffer, before the first advance, or one with a whole window before it.
 pub record IsTraversal (t : Traversal) (cells : List ℤ) (applied : ℕ) : Type 0 where

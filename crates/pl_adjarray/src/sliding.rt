@@ -4,7 +4,7 @@ ghost use Rattle.std.specs.Prelude.{◌≡◌, ◌≢◌, ℕ, ◌+◌, ◌*◌,
 ghost use Rattle.pl_spec.specs.Rounding.{IsCell, scaled};
 ghost use Rattle.pl_spec.specs.Window.{after_all, effect, effects_in, same_column, step_count};
 ghost use Rattle.pl_spec.specs.World.{events_of};
-ghost use Rattle.pl_spec.specs.Limits.{cut};
+ghost use Rattle.pl_spec.specs.Limits.{saturated};
 ghost use Rattle.pl_adjust.specs.Events.{PutCells, PutsCell, effects_of, event_of};
 ghost use Rattle.pl_adjarray.specs.Buffered.{HasCells, applied_at, cell_at, col_at, ratio_count, world_of};
 ghost use Rattle.pl_adjarray.specs.Traversals.{IsSeen};
@@ -110,8 +110,8 @@ fn slide_all<L: Ledger>(
     ensures cells { HasCells array.now scratch.new }
     ensures cost { (bar : ℤ) → steps.new
         ≡ steps.old + older * sum_by (ratio_count array.now bar from to) array.now.cols }
-    ensures tally { (bar : ℤ) → cut applied.new
-        ≡ cut (applied.old + older * sum_by (ratio_count array.now bar from to) array.now.cols) }
+    ensures tally { (bar : ℤ) → saturated applied.new
+        ≡ saturated (applied.old + older * sum_by (ratio_count array.now bar from to) array.now.cols) }
 {
     let sessions = array.sessions;
     let column = array.column;
@@ -158,8 +158,8 @@ fn slide<L: Ledger>(
     ensures cells { (j : ℕ) → j < part.count → IsCell (cell_at cells.new (part.at + j)) }
     ensures cost { (bar : ℤ) → steps.new
         ≡ steps.old + part.count * step_count (effects_of column bar events.now) }
-    ensures tally { (bar : ℤ) → cut applied.new
-        ≡ cut (applied.old + part.count * step_count (effects_of column bar events.now)) }
+    ensures tally { (bar : ℤ) → saturated applied.new
+        ≡ saturated (applied.old + part.count * step_count (effects_of column bar events.now)) }
 {
     for event in events {
         change(cells, part, sessions, event, column, steps, applied);
@@ -188,7 +188,7 @@ fn change<L: Ledger>(
     ensures cells { (j : ℕ) → j < part.count → IsCell (cell_at cells.new (part.at + j)) }
     ensures cost { (bar : ℤ) → steps.new ≡ steps.old
         + part.count * step_count (option_to_list (effect column bar (event_of event.now))) }
-    ensures tally { (bar : ℤ) → cut applied.new ≡ cut (applied.old
+    ensures tally { (bar : ℤ) → saturated applied.new ≡ saturated (applied.old
         + part.count * step_count (option_to_list (effect column bar (event_of event.now)))) }
 {
     match event.change {

@@ -3,7 +3,7 @@ ghost use Rattle.std.specs.Prelude.{◌≡◌, ◌+◌, ◌≤◌, ℕ, [], filt
 ghost use Rattle.pl_spec.specs.Window.{is_between};
 ghost use Rattle.pl_spec.specs.World.{events_of};
 ghost use Rattle.pl_adjarray.specs.Buffered.{world_of};
-ghost use Rattle.pl_adjarray.specs.Inside.{IsReady};
+ghost use Rattle.pl_adjarray.specs.Inside.{IsReadyBuffer};
 ghost use Rattle.pl_adjarray.specs.Stillness.{IsGreatest, IsQuiet, IsStill, effective_within};
 
 use crate::array::AdjustedArray;
@@ -30,7 +30,7 @@ fn first_change(array: &AdjustedArray<'_>, col: u32, from: i32, to: i32) -> Opti
 fn before_change(array: &AdjustedArray<'_>, col: u32, session: usize, most: usize) -> usize
     requires { session + most ≤ array.now.first + array.now.rows }
     ensures greatest { IsGreatest (λ n. effective_within array.now session n col ≡ []) most result }
-    ensures ready { IsReady array.now }
+    ensures ready { IsReadyBuffer array.now }
 {
     let sessions = array.sessions;
     let today = sessions.day(session);

@@ -3,7 +3,7 @@
 ghost use Rattle.std.specs.Prelude.{◌≡◌, ◌+◌, ◌<◌, ◌≤◌, ◌↔◌, ℕ, false, pos, length, take, drop, All, IsTrue};
 ghost use Rattle.pl_spec.specs.Rounding.{IsCell};
 ghost use Rattle.pl_spec.specs.Window.{bar_window};
-ghost use Rattle.pl_spec.specs.Limits.{cut};
+ghost use Rattle.pl_spec.specs.Limits.{saturated};
 ghost use Rattle.pl_adjarray.specs.Buffered.{applied_at, col_at, world_of};
 ghost use Rattle.pl_adjarray.specs.Stillness.{IsQuiet, IsStill};
 ghost use Rattle.pl_adjarray.specs.Traversals.{advances};
@@ -157,7 +157,7 @@ impl<'s> Windows<'s> {
 
     /// How many steps the traversal took so far; u64's greatest value where there were more.
     pub fn applied(&self) -> u64
-        ensures { result ≡ cut (applied_at self.now.array self.now.session) }
+        ensures { result ≡ saturated (applied_at self.now.array self.now.session) }
     {
         self.applied
     }

@@ -3,7 +3,7 @@ use Rattle.std.proofs.Common.{◌≡◌, ◌+◌, ℕ, pos, length, subst, ap, �
 use Rattle.std.specs.Int.RustNames.{unsigned_abs}
 use Rattle.pl_spec.specs.World.{World}
 use Rattle.pl_pipeline.specs.Graph.{bound}
-use Rattle.pl_pipeline.specs.Table.{Pipeline, table, cells}
+use Rattle.pl_pipeline.specs.Table.{Pipeline, table, sum_of_cells}
 use Rattle.pl_terms.specs.Uses.{outputs}
 use Rattle.pl_planner.specs.Plans.{Planned}
 use Rattle.pl_runner.specs.declared.run.RunReport.{RunReport}
@@ -19,7 +19,7 @@ use Rattle.pl_world.specs.Worlds.{owned_world, world_of}
 
 -- what a report tells of the table of a plan's range
 abbrev Tells : World → Pipeline → ℕ → ℕ → RunReport → Type 0
-Tells w p from to r = (r.rows ≡ length (table w p from to)) × (pos r.cells ≡ cells w.texts (table w p from to)) × (r.peak ≡ bound p.graph (outputs p))
+Tells w p from to r = (r.rows ≡ length (table w p from to)) × (pos r.cells ≡ sum_of_cells w.texts (table w p from to)) × (r.peak ≡ bound p.graph (outputs p))
 
 report-of : (w : World) (p : Pipeline) (plan : Planned) (chunk from to : ℕ) (r : RunReport) → plan.from ≡ from → plan.to ≡ to → IsReport w p plan chunk r
     → Tells w p from to r
@@ -57,5 +57,5 @@ steps-of number w p plan chunk before now is means planned cost = (
 pub line-is : (number : ℕ) (n : Numbers) → AreNumbers number n → line_of n ≡ bench_line number
 unfolding bench_line
 line-is number n h =
-    let sum : n.cells ≡ unsigned_abs (cells (stated_world number).texts (bench_rows (stated_world number))) = ap unsigned_abs h.cells in
+    let sum : n.cells ≡ unsigned_abs (sum_of_cells (stated_world number).texts (bench_rows (stated_world number))) = ap unsigned_abs h.cells in
     rw (h.rows, sum, h.peak, h.bound) refl

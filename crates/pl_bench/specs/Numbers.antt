@@ -3,7 +3,7 @@ use Rattle.std.specs.Prelude.{◌≡◌, ℕ, pos, List, length}
 use Rattle.std.specs.Int.RustNames.{unsigned_abs}
 use Rattle.pl_spec.specs.World.{World}
 use Rattle.pl_pipeline.specs.Graph.{bound}
-use Rattle.pl_pipeline.specs.Table.{Row, table, cells}
+use Rattle.pl_pipeline.specs.Table.{Row, table, sum_of_cells}
 use Rattle.pl_terms.specs.Uses.{outputs}
 use Rattle.pl_planner.specs.Plans.{Planned}
 use Rattle.pl_runner.specs.Runs.{run_steps}
@@ -25,7 +25,7 @@ bench_bound = bound bench_pipeline.graph (outputs bench_pipeline)
 -- many may be
 pub record AreNumbersOf (w : World) (n : Numbers) : Type 0 where
   pub rows : n.rows ≡ length (bench_rows w)
-  pub cells : pos n.cells ≡ cells w.texts (bench_rows w)
+  pub cells : pos n.cells ≡ sum_of_cells w.texts (bench_rows w)
   pub peak : n.peak ≡ bench_bound
   pub bound : n.bound ≡ bench_bound
 
@@ -37,7 +37,7 @@ abbrev pub line_of : Numbers → List ℕ
 line_of n = numbers_line n.rows n.cells n.peak n.bound
 
 abbrev pub world_line : World → List ℕ
-world_line w = numbers_line (length (bench_rows w)) (unsigned_abs (cells w.texts (bench_rows w))) bench_bound bench_bound
+world_line w = numbers_line (length (bench_rows w)) (unsigned_abs (sum_of_cells w.texts (bench_rows w))) bench_bound bench_bound
 
 unfoldable pub bench_line : ℕ → List ℕ
 bench_line number = world_line (stated_world number)

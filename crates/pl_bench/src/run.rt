@@ -3,7 +3,7 @@ ghost use Rattle.std.specs.Prelude.{◌≡◌, ◌≤◌, ◌+◌, ◌⊎◌, �
 ghost use Rattle.pl_spec.specs.Limits.{most_chunk};
 ghost use Rattle.pl_outside.specs.Taken.{Writes};
 ghost use Rattle.pl_terms.specs.Checked.{pipeline_of};
-ghost use Rattle.pl_world.specs.Worlds.{owned_world, IsOwned};
+ghost use Rattle.pl_world.specs.Worlds.{owned_world, IsOwnedMade};
 ghost use Rattle.pl_generate.specs.StatedWorld.{stated_days, stated_world};
 ghost use Rattle.pl_bench.specs.Pipeline.{bench_pipeline};
 ghost use Rattle.pl_bench.specs.Numbers.{AreNumbers, TakesSteps, bench_line};
@@ -75,7 +75,7 @@ fn run_over<L: Ledger>(
     requires most { chunk ≤ most_chunk }
     requires checked { pipeline_of checked.now ≡ bench_pipeline }
     requires sessions { stated.now.sessions ≡ stated_days }
-    requires made { IsOwned stated.now }
+    requires made { IsOwnedMade stated.now }
     ensures numbers { (number : ℕ) → owned_world stated.now ≡ stated_world number
         → IfOk result (AreNumbers number) }
     ensures cost { (number : ℕ) → owned_world stated.now ≡ stated_world number

@@ -3,7 +3,7 @@
 ghost use Rattle.std.specs.Prelude.{◌≡◌, ◌<◌, length, IfOk, IfSome};
 ghost use Rattle.pl_spec.specs.Dates.{IsDay};
 ghost use Rattle.pl_world.specs.Worlds.{IsMade};
-ghost use Rattle.pl_load.specs.Loads.{IsReady};
+ghost use Rattle.pl_load.specs.Loads.{IsReadyRun};
 
 use crate::case::Case;
 use crate::fields::{Field, behind_field};
@@ -47,7 +47,7 @@ fn run_differs(alloc: Global, case: &Case, request: &RunRequest<'_>, table: &[u8
 
 // What a run reads, up to all sessions; none where it is refused.
 fn loaded_of(alloc: Global, case: &Case, request: &RunRequest<'_>) -> Result<Option<Loaded>>
-    ensures { IfOk result (λ loaded. IfSome loaded IsReady) }
+    ensures { IfOk result (λ loaded. IfSome loaded IsReadyRun) }
 {
     let whole = RunRequest {
         options: Options {
@@ -87,7 +87,7 @@ fn table_differs<L: Ledger>(
     table: &[u8],
     blank: Blank,
 ) -> Result<bool>
-    requires ready { IsReady loaded.now }
+    requires ready { IsReadyRun loaded.now }
     requires name { blank.name ≡ L.name }
     requires parts { blank.parts ≡ L.parts }
     requires some { 0 < L.parts }

@@ -3,7 +3,7 @@
 ghost use Rattle.std.specs.Prelude.{◌≡◌, ◌<◌, ◌<ℤ◌, ◌-◌, IfOk, IfSome, IsTrue, Some, length, slice_get};
 ghost use Rattle.pl_spec.specs.declared.RawAdjust.{RawAdjust};
 ghost use Rattle.pl_outside.specs.Lists.{IsAscending};
-ghost use Rattle.pl_load.specs.Loads.{IsReady};
+ghost use Rattle.pl_load.specs.Loads.{IsReadyRun};
 
 use crate::case::Case;
 use crate::recorded::RecordedKeeper;
@@ -86,7 +86,7 @@ impl Parts {
 
     /// What a run reads; none where it is refused.
     pub(crate) fn load(&mut self, alloc: Global, request: &RunRequest<'_>) -> Option<Loaded>
-        ensures { IfSome result IsReady }
+        ensures { IfSome result IsReadyRun }
     {
         match load(alloc, request, &mut self.shelf, &mut self.keeper) {
             Ok(loaded) => Some(loaded),

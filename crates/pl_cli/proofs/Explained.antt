@@ -25,8 +25,8 @@ use Rattle.pl_judge.specs.Held.{pipeline_held, world_held}
 use Rattle.pl_judge.specs.Range.{index_of, session_of}
 use Rattle.pl_judge.specs.Rules.{explain_error}
 use Rattle.pl_judge.specs.Stages.{IsRisen, StageEnds}
-use Rattle.pl_judge.specs.Steps.{Step, first_fault}
-use Rattle.pl_judge.specs.Work.{cell_work, data_steps, explain_steps, work}
+use Rattle.pl_judge.specs.Steps.{WorkStep, first_fault}
+use Rattle.pl_judge.specs.Work.{cell_work, data_steps, explain_work, work}
 use Rattle.pl_judge.proofs.Cells.{sid-there, too-long, short}
 use Rattle.pl_judge.proofs.StepsRead.{lines-quiet}
 use Rattle.pl_load.specs.declared.cells.LoadedCell.{LoadedCell}
@@ -112,10 +112,10 @@ module _ {shelf : Change ShelfView} {keeper : Change KeeperView} (q : ExplainReq
 
   module _ (l : LoadedCell) (h : IsCellLoad shelf keeper q (Ok l)) where
     -- what is left of the work
-    abbrev counted : List Step
+    abbrev counted : List WorkStep
     counted = lines_step (owned_world l.world) (pipeline_of l.checked) q ∷ []
 
-    same : (f r : Contents) → IsCellHeld f q l → explain_steps (joint whole true f r) q ≡ cell_work f q ++ counted
+    same : (f r : Contents) → IsCellHeld f q l → explain_work (joint whole true f r) q ≡ cell_work f q ++ counted
     unfolding data_steps
     same f r m = ap₂ (λ w p. cell_work f q ++ lines_step w p q ∷ []) m.world m.pipeline
 

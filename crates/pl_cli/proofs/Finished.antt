@@ -9,7 +9,7 @@ use Rattle.pl_judge.specs.declared.fault.Fault.TheVariants as faults
 use Rattle.pl_judge.specs.declared.fault.Fault.TheVariants.{Unread, Unloaded, Unwritten, Memory}
 use Rattle.pl_judge.specs.Faults.{status_of, line_of, judged_status, judged_line}
 use Rattle.pl_judge.specs.Contents.{Contents}
-use Rattle.pl_judge.specs.Steps.{Source, Step, first_fault, reads_in}
+use Rattle.pl_judge.specs.Steps.{Source, WorkStep, first_fault, reads_in}
 use Rattle.pl_judge.specs.Work.{work}
 use Rattle.pl_judge.specs.Ends.{Ends, EndsJudged, EndsForMemory}
 use Rattle.pl_judge.specs.Stages.{StopsOutside, IsStop, IsFront, IsReadUpTo}
@@ -21,18 +21,18 @@ use Rattle.pl_cli.specs.declared.commands.Stats.{Stats}
 use Rattle.pl_cli.specs.Commands.{IsEnd, IsEnded, SinkView, observed_by, fault_of, numbers_told}
 use Rattle.pl_cli.proofs.Keepers.{store-named}
 
-judged-is : (steps : List Step) (asked : Option Request) (o : Option Fault) → first_fault steps ≡ o → EndsJudged steps asked (judged_status o) (judged_line asked o)
+judged-is : (steps : List WorkStep) (asked : Option Request) (o : Option Fault) → first_fault steps ≡ o → EndsJudged steps asked (judged_status o) (judged_line asked o)
 judged-is steps asked o e = rw e (refl, refl)
 
 -- ---- the ends
 
-outside-ends : (shelf keeper : Bool) (steps : List Step) (asked : Option Request) (f : Fault) → StopsOutside shelf keeper steps f → Ends steps asked (status_of f) (line_of asked f)
+outside-ends : (shelf keeper : Bool) (steps : List WorkStep) (asked : Option Request) (f : Fault) → StopsOutside shelf keeper steps f → Ends steps asked (status_of f) (line_of asked f)
 outside-ends shelf keeper steps asked (Unread file) h = inr (inl (file, (refl, refl), h.0))
 outside-ends shelf keeper steps asked (Unloaded table) h = inr (inr (inl (table, (refl, refl), h.0)))
 outside-ends shelf keeper steps asked Memory h = inr (inr (inr (inr (refl, refl))))
 outside-ends shelf keeper steps asked f h = absurd h
 
-stop-ends : (shelf keeper : Bool) (steps : List Step) (asked : Option Request) (f : Fault) → IsStop shelf keeper steps f → Ends steps asked (status_of f) (line_of asked f)
+stop-ends : (shelf keeper : Bool) (steps : List WorkStep) (asked : Option Request) (f : Fault) → IsStop shelf keeper steps f → Ends steps asked (status_of f) (line_of asked f)
 stop-ends shelf keeper steps asked f h = elim h [ inl p ↦ inl (judged-is steps asked (Some f) p) | inr q ↦ outside-ends shelf keeper steps asked f q ]
 
 end-ends : (o : Observed) (held : Contents) (asked : Option Request) (f : Fault) → IsEnd o held asked f → Ends (work held asked) asked (status_of f) (line_of asked f)
@@ -99,13 +99,13 @@ nine-is Memory e = absurd (omega arith)
 
 -- ---- what was read
 
-up-to-front : (steps : List Step) (reads : List Source) (f : Fault) → IsReadUpTo steps reads f → IsFront reads (reads_in steps)
+up-to-front : (steps : List WorkStep) (reads : List Source) (f : Fault) → IsReadUpTo steps reads f → IsFront reads (reads_in steps)
 up-to-front steps reads (Unread file) h = h
 up-to-front steps reads (Unloaded table) h = h
 up-to-front steps reads Memory h = h
 up-to-front steps reads f h = ([], append-nil reads ∙ h)
 
-up-to-whole : (steps : List Step) (reads : List Source) (f : Fault) → ¬ (status_of f ≡ 7) → ¬ (status_of f ≡ 8) → ¬ (status_of f ≡ 10) → IsReadUpTo steps reads f
+up-to-whole : (steps : List WorkStep) (reads : List Source) (f : Fault) → ¬ (status_of f ≡ 7) → ¬ (status_of f ≡ 8) → ¬ (status_of f ≡ 10) → IsReadUpTo steps reads f
     → reads ≡ reads_in steps
 up-to-whole steps reads (Unread file) a b c h = absurd (a refl)
 up-to-whole steps reads (Unloaded table) a b c h = absurd (b refl)

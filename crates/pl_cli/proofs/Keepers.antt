@@ -11,10 +11,10 @@ use Rattle.pl_spec.specs.World.{World}
 use Rattle.pl_judge.specs.Cells.{cell_steps, lines_step}
 use Rattle.pl_judge.specs.Contents.{Contents}
 use Rattle.pl_judge.specs.Held.{assets_held, days_held, pipeline_held, world_held}
-use Rattle.pl_judge.specs.Steps.{Source, Step, ReachesRead}
+use Rattle.pl_judge.specs.Steps.{Source, WorkStep, ReachesRead}
 use Rattle.pl_judge.specs.Steps.Source.{Input, Load}
 use Rattle.pl_judge.specs.Range.{index_of, dates_steps, plan_steps, range_steps}
-use Rattle.pl_judge.specs.Work.{evaluated_steps, labels_steps, numbers_steps, adjustments_steps, revisions_steps, data_steps, planning_steps, payouts_steps, run_steps, cell_work, explain_steps, verify_steps, work}
+use Rattle.pl_judge.specs.Work.{evaluated_steps, labels_steps, numbers_steps, adjustments_steps, revisions_steps, data_steps, plan_work, payouts_work, run_work, cell_work, explain_work, verify_work, work}
 
 no-input : {A : Type 0} {file : InputFile} {table : Table} → Some (Input file) ≡ Some (Load table) → A
 no-input h = absurd (cc)
@@ -22,7 +22,7 @@ no-input h = absurd (cc)
 no-read : {A : Type 0} {table : Table} → None ≡ Some (Load table) → A
 no-read h = absurd (cc)
 
-reaches-one : (ss ts : List Step) (source : Source) → ReachesRead (ss ++ ts) source → ReachesRead ss source ⊎ ReachesRead ts source
+reaches-one : (ss ts : List WorkStep) (source : Source) → ReachesRead (ss ++ ts) source → ReachesRead ss source ⊎ ReachesRead ts source
 reaches-one [] ts source h = inr h
 reaches-one (s ∷ ss) ts source h = elim h [
   | inl p ↦ inl (inl p)
@@ -87,19 +87,19 @@ of-data held q table h =
     ]
 
 -- no table is read with the pipeline file
-of-pipeline : (numbers file : Option (List ℕ)) (rest : List Step) (table : Table) → ReachesRead (evaluated_steps file numbers ++ rest) (Load table) → ReachesRead rest (Load table)
+of-pipeline : (numbers file : Option (List ℕ)) (rest : List WorkStep) (table : Table) → ReachesRead (evaluated_steps file numbers ++ rest) (Load table) → ReachesRead rest (Load table)
 of-pipeline numbers file rest table h = elim h [
   | inl p ↦ no-input p
   | inr a ↦ elim a.1 [ inl p ↦ no-read p | inr b ↦ elim b.1 [ inl p ↦ no-read p | inr c ↦ c.1 ] ]
 ]
 
-of-run : (held : Contents) (q : RunRequest) (table : Table) → ReachesRead (run_steps held q) (Load table) → IsSome q.world.adjustments
+of-run : (held : Contents) (q : RunRequest) (table : Table) → ReachesRead (run_work held q) (Load table) → IsSome q.world.adjustments
 of-run held q table h = elim (reaches-one (data_steps held q.world) _ (Load table) (of-pipeline q.world.numbers (held.file PipelineFile) _ table h)) [
   | inl e ↦ of-data held q.world table e
   | inr r ↦ absurd (of-range (pipeline_held held) (days_held held) q.from q.to q.options.as_of table r)
 ]
 
-of-verify : (held : Contents) (q : VerifyRequest) (table : Table) → ReachesRead (verify_steps held q) (Load table) → IsSome q.world.adjustments
+of-verify : (held : Contents) (q : VerifyRequest) (table : Table) → ReachesRead (verify_work held q) (Load table) → IsSome q.world.adjustments
 of-verify held q table h = elim (reaches-one (data_steps held q.world) _ (Load table) (of-pipeline q.world.numbers (held.file PipelineFile) _ table h)) [
   | inl e ↦ of-data held q.world table e
   | inr d ↦ elim d [ inl p ↦ no-input p | inr e ↦ absurd e.1 ]
@@ -125,13 +125,13 @@ of-cell-work held q table h = elim (reaches-one (data_steps held q.world) _ (Loa
   | inr c ↦ absurd (of-cell (pipeline_held held) (days_held held) (assets_held held) q table c)
 ]
 
-of-explain : (held : Contents) (q : ExplainRequest) (table : Table) → ReachesRead (explain_steps held q) (Load table) → IsSome q.world.adjustments
+of-explain : (held : Contents) (q : ExplainRequest) (table : Table) → ReachesRead (explain_work held q) (Load table) → IsSome q.world.adjustments
 of-explain held q table h = elim (reaches-one (cell_work held q) _ (Load table) h) [
   | inl e ↦ of-cell-work held q table e
   | inr l ↦ absurd (of-lines (world_held held q.world) (pipeline_held held) q table l)
 ]
 
-of-planning : (held : Contents) (q : PlanRequest) (table : Table) → ReachesRead (planning_steps held q) (Load table) → ⊥
+of-planning : (held : Contents) (q : PlanRequest) (table : Table) → ReachesRead (plan_work held q) (Load table) → ⊥
 of-planning held q table h = elim h [
   | inl p ↦ no-input p
   | inr a ↦ elim a.1 [
@@ -140,7 +140,7 @@ of-planning held q table h = elim h [
   ]
 ]
 
-of-payouts : (held : Contents) (table : Table) → ReachesRead (payouts_steps held) (Load table) → ⊥
+of-payouts : (held : Contents) (table : Table) → ReachesRead (payouts_work held) (Load table) → ⊥
 of-payouts held table h = elim h [
   | inl p ↦ no-input p
   | inr a ↦ elim a.1 [

@@ -3,7 +3,7 @@ use Rattle.std.proofs.Common.{◌≡◌, ◌∙◌, ℕ, Bool, true, cond, [], O
 use Rattle.std.specs.Int.RustNames.{unsigned_abs}
 use Rattle.pl_spec.specs.World.{World}
 use Rattle.pl_pipeline.specs.Graph.{bound}
-use Rattle.pl_pipeline.specs.Table.{Pipeline, table, cells}
+use Rattle.pl_pipeline.specs.Table.{Pipeline, table, sum_of_cells}
 use Rattle.pl_terms.specs.Uses.{outputs}
 use Rattle.pl_planner.specs.Plans.{Planned, IsPlanOf}
 use Rattle.pl_runner.specs.declared.run.RunReport.{RunReport}
@@ -16,7 +16,7 @@ line-is : (w : World) (p : Pipeline) (plan : Planned) (size most : ℕ) (report 
     → most ≡ bound p.graph (outputs p)
     → stats_line report.rows report.cells report.peak most report.applied present ≡ table_stats w p (table w p plan.from plan.to) (run_steps w p plan size) present
 line-is w p plan size most report present r e =
-    let sum : report.cells ≡ unsigned_abs (cells w.texts (table w p plan.from plan.to)) = ap unsigned_abs r.cells in
+    let sum : report.cells ≡ unsigned_abs (sum_of_cells w.texts (table w p plan.from plan.to)) = ap unsigned_abs r.cells in
     rw (r.rows, sum, r.peak, e, r.applied) refl
 
 pub stats-are : (asked : Bool) (w : World) (p : Pipeline) (plan : Planned) (size most : ℕ) (report : RunReport) (present : Option ℕ) → IsReport w p plan size report

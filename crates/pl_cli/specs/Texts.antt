@@ -2,10 +2,10 @@
 use Rattle.std.specs.Prelude.{◌≡◌, ℕ, ℤ, pos, List, [], ◌∷◌, ◌++◌, length, codes, decimal, if◌then◌else◌, Option, Some, None}
 use Rattle.std.specs.Int.RustNames.{unsigned_abs}
 use Rattle.pl_spec.specs.World.{World}
-use Rattle.pl_pipeline.specs.Table.{Pipeline, Row, table, cells}
+use Rattle.pl_pipeline.specs.Table.{Pipeline, Row, table, sum_of_cells}
 use Rattle.pl_pipeline.specs.Text.{text}
 use Rattle.pl_pipeline.specs.Graph.{bound}
-use Rattle.pl_spec.specs.Limits.{cut}
+use Rattle.pl_spec.specs.Limits.{saturated}
 use Rattle.pl_terms.specs.Uses.{outputs}
 use Rattle.pl_plan_text.specs.Text.{plan_text}
 use Rattle.pl_syntax.specs.Canonical.{script_text}
@@ -102,7 +102,7 @@ present_in w p from to = if has_numbers p then Some (present_numbers w p from to
 abbrev pub numbers_of : List (List ℕ) → Pipeline → List Row → ℕ → Option ℕ → List ℕ
 numbers_of texts p rows steps present =
     let most = bound p.graph (outputs p) in
-    stats_line (length rows) (unsigned_abs (cells texts rows)) most most (cut steps) present
+    stats_line (length rows) (unsigned_abs (sum_of_cells texts rows)) most most (saturated steps) present
 
 abbrev pub table_stats : World → Pipeline → List Row → ℕ → Option ℕ → List ℕ
 table_stats w p rows steps present = numbers_of w.texts p rows steps present

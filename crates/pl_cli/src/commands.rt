@@ -5,7 +5,7 @@ ghost use Rattle.pl_outside.specs.Taken.{Writes};
 ghost use Rattle.pl_words.specs.Request.{Run, Fmt, Check, Plan, IsChunk};
 ghost use Rattle.pl_words.specs.Views.{run_of, plan_of};
 ghost use Rattle.pl_load.specs.Views.{KeeperView, change, unchanged, shelf_change, keeper_change};
-ghost use Rattle.pl_load.specs.Loads.{IsReady};
+ghost use Rattle.pl_load.specs.Loads.{IsReadyRun};
 ghost use Rattle.pl_terms.specs.Checked.{pipeline_of};
 ghost use Rattle.pl_table.specs.Numbers.{stats_line};
 ghost use Rattle.pl_cli.specs.Texts.{check_text};
@@ -64,7 +64,7 @@ fn write_loaded<O: Sink, L: Ledger>(
     out: &mut O,
     steps: &mut Steps<L>,
 ) -> Result<Option<Stats>, Fault>
-    requires ready { IsReady loaded.now }
+    requires ready { IsReadyRun loaded.now }
     requires chunk { IsChunk options.now.chunk }
     ensures writes { IsErrOf result Fault.Memory
         ⊎ Writes O.taken O.faults O.sound O.room out.old out.new
@@ -95,7 +95,7 @@ fn write_loaded<O: Sink, L: Ledger>(
 
 // The numbers of a run, where they are asked for.
 fn stats_of(asked: bool, report: &RunReport, loaded: &Loaded) -> Option<Stats>
-    requires ready { IsReady loaded.now }
+    requires ready { IsReadyRun loaded.now }
     ensures { stats_told result
         ≡ (if asked then stats_line report.now.rows report.now.cells report.now.peak loaded.now.plan.bound
         report.now.applied (loaded_present loaded.now) else []) }

@@ -5,7 +5,7 @@ ghost use Rattle.pl_outside.specs.Taken.{Writes};
 ghost use Rattle.pl_words.specs.Request.{Daily};
 ghost use Rattle.pl_words.specs.Views.{run_of};
 ghost use Rattle.pl_load.specs.Views.{change, shelf_change, keeper_change};
-ghost use Rattle.pl_load.specs.Loads.{IsReady};
+ghost use Rattle.pl_load.specs.Loads.{IsReadyRun};
 ghost use Rattle.pl_cli.specs.Commands.{IsAnswered, sink_change, loaded_text, loaded_days};
 
 use crate::commands::Stats;
@@ -48,7 +48,7 @@ fn write_days<O: Sink, L: Ledger>(
     out: &mut O,
     steps: &mut Steps<L>,
 ) -> Result<Option<Stats>, Fault>
-    requires ready { IsReady loaded.now }
+    requires ready { IsReadyRun loaded.now }
     ensures writes { IsErrOf result Fault.Memory
         ⊎ Writes O.taken O.faults O.sound O.room out.old out.new (loaded_text loaded.now format) result }
     ensures quiet { IfOk result (λ stats. stats ≡ None) }

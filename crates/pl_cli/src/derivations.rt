@@ -3,7 +3,7 @@
 ghost use Rattle.std.specs.Prelude.{◌≡◌, ◌<◌, ℕ, None, Some, Ok, IfOk, IfErr};
 ghost use Rattle.pl_outside.specs.Taken.{Writes};
 ghost use Rattle.pl_derivation.specs.Right as spec;
-ghost use Rattle.pl_world.specs.Worlds.{owned_world, IsOwned};
+ghost use Rattle.pl_world.specs.Worlds.{owned_world, IsOwnedMade};
 ghost use Rattle.pl_terms.specs.Checked.{pipeline_of};
 ghost use Rattle.pl_words.specs.Request.{Verify, VerifyRequest as Asked};
 ghost use Rattle.pl_words.specs.Views.{verify_of};
@@ -51,7 +51,7 @@ fn write_judged<O: Sink>(
     loaded: &LoadedDerivation,
     out: &mut O,
 ) -> Result<Option<Stats>, Fault>
-    requires made { IsOwned loaded.now.world }
+    requires made { IsOwnedMade loaded.now.world }
     // for whatever request, and from whatever parts, the derivation was loaded
     ensures { (shelf : Change ShelfView) (keeper : Change KeeperView) (q : Asked) (steps : ℕ)
         → IsDerivationLoad shelf keeper q (Ok loaded.now)
@@ -71,7 +71,7 @@ fn wrong_line<L: Ledger>(
     requires name { blank.name ≡ L.name }
     requires parts { blank.parts ≡ L.parts }
     requires some { 0 < L.parts }
-    requires made { IsOwned loaded.now.world }
+    requires made { IsOwnedMade loaded.now.world }
     ensures { IfOk result (λ wrong. wrong
         ≡ spec.first_wrong (owned_world loaded.now.world)
         (pipeline_of loaded.now.checked) loaded.now.derivation) }

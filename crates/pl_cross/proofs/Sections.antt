@@ -11,10 +11,10 @@ use Rattle.pl_spec.specs.World.{World, exists}
 use Rattle.pl_pipeline.specs.Kind.{CrossKind}
 use Rattle.pl_pipeline.specs.Kind.CrossKind.{Rank, Demean, ZScore, Quantiles, Top, Bottom, PercentileBetween, PeerCount}
 use Rattle.pl_pipeline.specs.Kind.Kind.{Cross}
-use Rattle.pl_pipeline.specs.Cross.{Entry, cross, cross_at, entries_for, counts_at, same_group, at}
+use Rattle.pl_pipeline.specs.Cross.{Entry, cross, cross_at, entries_for, counts_at, same_group, array_at}
 use Rattle.pl_pipeline.specs.Term.{Term, Node, Graph, IsGraph, input_tree, trees}
 use Rattle.pl_pipeline.specs.Term.Term.{node}
-use Rattle.pl_pipeline.specs.Value.{Part, Value, number_of, now, passes, in_group, is_same, entry, counts_for, eligible, group_of, is_cross_filter, empty, sort_over, sort_kind, step, value, part_of}
+use Rattle.pl_pipeline.specs.Value.{Part, Value, number_of, value_of_part, passes, in_group, is_same, entry, counts_for, eligible, group_of, is_cross_filter, empty, sort_over, sort_kind, kind_value, value, part_of}
 use Rattle.pl_pipeline.specs.Value.Part.{Nothing, Bars, Values}
 use Rattle.pl_pipeline.specs.Value.Value.{Number}
 use Rattle.pl_pipeline.specs.NodeValue.{meaning_of, input_part, number_part}
@@ -109,15 +109,15 @@ same_entry e f = rw (e, f) refl
 -- ---- whether an asset counts
 
 told : (w : World) (p : Part) (d : ℤ) (sids : List ℕ) (labels : List ℤ) → IsArray w p d sids labels → IsNumbered p d ⊎ IsLabelled w p d → (i j : ℕ) → i < length sids → j < length sids
-    → (is_present (number_of (now p (sid_in sids i) d)) && is_same (now p (sid_in sids i) d) (now p (sid_in sids j) d)) ≡ (is_present (at labels i) && int_eq (at labels i) (at labels j))
+    → (is_present (number_of (value_of_part p (sid_in sids i) d)) && is_same (value_of_part p (sid_in sids i) d) (value_of_part p (sid_in sids j) d)) ≡ (is_present (array_at labels i) && int_eq (array_at labels i) (array_at labels j))
 told w p d sids labels holds classes i j h l =
-    here classes ∙ sym (ap (λ x. is_present x && int_eq x (at labels j)) (holds.each i h) ∙ ap (λ y. is_present (in_array w.texts (now p (sid_in sids i) d)) && int_eq (in_array w.texts (now p (sid_in sids i) d)) y) (holds.each j l))
+    here classes ∙ sym (ap (λ x. is_present x && int_eq x (array_at labels j)) (holds.each i h) ∙ ap (λ y. is_present (in_array w.texts (value_of_part p (sid_in sids i) d)) && int_eq (in_array w.texts (value_of_part p (sid_in sids i) d)) y) (holds.each j l))
   where
     here : IsNumbered p d ⊎ IsLabelled w p d
-        → (is_present (number_of (now p (sid_in sids i) d)) && is_same (now p (sid_in sids i) d) (now p (sid_in sids j) d))
-        ≡ (is_present (in_array w.texts (now p (sid_in sids i) d)) && int_eq (in_array w.texts (now p (sid_in sids i) d)) (in_array w.texts (now p (sid_in sids j) d)))
-    here (inl n) = same_numbers w.texts (now p (sid_in sids i) d) (now p (sid_in sids j) d) (n (sid_in sids i)) (n (sid_in sids j))
-    here (inr t) = same_labels w.texts (now p (sid_in sids i) d) (now p (sid_in sids j) d) (t (sid_in sids i)) (t (sid_in sids j))
+        → (is_present (number_of (value_of_part p (sid_in sids i) d)) && is_same (value_of_part p (sid_in sids i) d) (value_of_part p (sid_in sids j) d))
+        ≡ (is_present (in_array w.texts (value_of_part p (sid_in sids i) d)) && int_eq (in_array w.texts (value_of_part p (sid_in sids i) d)) (in_array w.texts (value_of_part p (sid_in sids j) d)))
+    here (inl n) = same_numbers w.texts (value_of_part p (sid_in sids i) d) (value_of_part p (sid_in sids j) d) (n (sid_in sids i)) (n (sid_in sids j))
+    here (inr t) = same_labels w.texts (value_of_part p (sid_in sids i) d) (value_of_part p (sid_in sids j) d) (t (sid_in sids i)) (t (sid_in sids j))
 
 -- the group's array tells the groups apart
 groups_told : (w : World) (p : Part) (d : ℤ) (sids : List ℕ) (labels : Option (List ℤ)) → IsGroupArray w p d sids labels → (i j : ℕ) → i < length sids → j < length sids
@@ -153,7 +153,7 @@ columns sids vs keep labels = record { sids = sids; values = vs; keep = keep; la
 
 module _ (w : World) (k : CrossKind) (x mask group : Part) (d : ℤ) (sids : List ℕ) (vs keep : List ℤ) (labels : Option (List ℤ)) (s : AreArrays w k x mask group d (columns sids vs keep labels)) where
   abbrev numbers : ℕ → ℤ
-  numbers j = number_of (now x (sid_in sids j) d)
+  numbers j = number_of (value_of_part x (sid_in sids j) d)
 
   abbrev counting : ℕ → List ℕ
   counting i = filter (counts_at vs keep (labels_for k vs labels) i) (range_with_len 0 (length vs))
@@ -164,10 +164,10 @@ module _ (w : World) (k : CrossKind) (x mask group : Part) (d : ℤ) (sids : Lis
   counted : (i j : ℕ) → i < length sids → j < length sids
       → (exists w (sid_in sids j) d && counts_for x mask (group_of k x group) (sid_in sids i) d (sid_in sids j)) ≡ counts_at vs keep (labels_for k vs labels) i j
   counted i j h l =
-      and-first (exists w (sid_in sids j) d) (passes mask (sid_in sids j) d) (is_present (number_of (now x (sid_in sids j) d))) (in_group (group_of k x group) (sid_in sids i) d (sid_in sids j))
-      ∙ ap (λ b. (b && is_present (number_of (now x (sid_in sids j) d))) && in_group (group_of k x group) (sid_in sids i) d (sid_in sids j)) (sym (s.keep j l))
-      ∙ ap (λ b. (is_true (at keep j) && b) && in_group (group_of k x group) (sid_in sids i) d (sid_in sids j)) (present_code w.texts (now x (sid_in sids j) d) ∙ ap is_present (sym (s.values.each j l)))
-      ∙ ap (λ b. (is_true (at keep j) && is_present (at vs j)) && b) (groups_told w (group_of k x group) d sids (labels_for k vs labels) s.groups i j h l)
+      and-first (exists w (sid_in sids j) d) (passes mask (sid_in sids j) d) (is_present (number_of (value_of_part x (sid_in sids j) d))) (in_group (group_of k x group) (sid_in sids i) d (sid_in sids j))
+      ∙ ap (λ b. (b && is_present (number_of (value_of_part x (sid_in sids j) d))) && in_group (group_of k x group) (sid_in sids i) d (sid_in sids j)) (sym (s.keep j l))
+      ∙ ap (λ b. (is_true (array_at keep j) && b) && in_group (group_of k x group) (sid_in sids i) d (sid_in sids j)) (present_code w.texts (value_of_part x (sid_in sids j) d) ∙ ap is_present (sym (s.values.each j l)))
+      ∙ ap (λ b. (is_true (array_at keep j) && is_present (array_at vs j)) && b) (groups_told w (group_of k x group) d sids (labels_for k vs labels) s.groups i j h l)
 
   listed : (i : ℕ) → i < length sids → eligible w x mask (group_of k x group) (sid_in sids i) d ≡ named (name_at sids) numbers (counting i)
   listed i h =
@@ -190,7 +190,7 @@ module _ (w : World) (k : CrossKind) (x mask group : Part) (d : ℤ) (sids : Lis
       ∙ ap (λ n. map (λ j. (let e : Entry = (name_at sids j, numbers j) in e)) (filter (counts_at vs keep (labels_for k vs labels) i) (range_with_len 0 n))) (sym s.values.long)
 
   -- the asset is in its own list exactly where its place is among those that count
-  any_same : (i : ℕ) (js : List ℕ) → list_any (λ (e : Entry). e.0 == name_at sids i) (map (λ j. (let e : Entry = (name_at sids j, numbers j) in e)) js) ≡ list_any (λ (e : Entry). e.0 == i) (map (λ j. (let e : Entry = (j, at vs j) in e)) js)
+  any_same : (i : ℕ) (js : List ℕ) → list_any (λ (e : Entry). e.0 == name_at sids i) (map (λ j. (let e : Entry = (name_at sids j, numbers j) in e)) js) ≡ list_any (λ (e : Entry). e.0 == i) (map (λ j. (let e : Entry = (j, array_at vs j) in e)) js)
   any_same i [] = refl
   any_same i (j ∷ js) =
       let here : (name_at sids j == name_at sids i) ≡ (j == i) = same_tests (name_at sids j) (name_at sids i) j i (names_rise sids s.ascend j i) (names_rise sids s.ascend i j) in
@@ -199,23 +199,23 @@ module _ (w : World) (k : CrossKind) (x mask group : Part) (d : ℤ) (sids : Lis
 
   crossed : (i : ℕ) → i < length sids → (k ≡ PeerCount) ⊎ IsNumbered x d
       → cross k (named (name_at sids) numbers (counting i)) (name_at sids i) (numbers i)
-      ≡ cross k (placed (at vs) (counting i)) i (at vs i)
+      ≡ cross k (placed (array_at vs) (counting i)) i (array_at vs i)
   unfolding cross
   crossed i h (inl peers) =
       ap (λ q. cross q (named (name_at sids) numbers (counting i)) (name_at sids i) (numbers i)) peers
-      ∙ ap (λ n. pos (n * MILLION)) (length-map (counting i) (λ j. (let e : Entry = (name_at sids j, numbers j) in e)) ∙ sym (length-map (counting i) (λ j. (let e : Entry = (j, at vs j) in e))))
-      ∙ ap (λ q. cross q (placed (at vs) (counting i)) i (at vs i)) (sym peers)
+      ∙ ap (λ n. pos (n * MILLION)) (length-map (counting i) (λ j. (let e : Entry = (name_at sids j, numbers j) in e)) ∙ sym (length-map (counting i) (λ j. (let e : Entry = (j, array_at vs j) in e))))
+      ∙ ap (λ q. cross q (placed (array_at vs) (counting i)) i (array_at vs i)) (sym peers)
   crossed i h (inr numbered) =
       ap (λ l. cross k l (name_at sids i) (numbers i)) same_values
-      ∙ ap (λ v. cross k (named (name_at sids) (at vs) (counting i)) (name_at sids i) v) (value_is i h)
-      ∙ cross-named (name_at sids) (names_rise sids s.ascend) (at vs) (counting i) k i (at vs i)
+      ∙ ap (λ v. cross k (named (name_at sids) (array_at vs) (counting i)) (name_at sids i) v) (value_is i h)
+      ∙ cross-named (name_at sids) (names_rise sids s.ascend) (array_at vs) (counting i) k i (array_at vs i)
     where
-      value_is : (j : ℕ) → j < length sids → numbers j ≡ at vs j
-      value_is j l = both-numbers (now x (sid_in sids j) d) w.texts (numbered (sid_in sids j)) ∙ sym (s.values.each j l)
+      value_is : (j : ℕ) → j < length sids → numbers j ≡ array_at vs j
+      value_is j l = both-numbers (value_of_part x (sid_in sids j) d) w.texts (numbered (sid_in sids j)) ∙ sym (s.values.each j l)
 
-      same_values : named (name_at sids) numbers (counting i) ≡ named (name_at sids) (at vs) (counting i)
+      same_values : named (name_at sids) numbers (counting i) ≡ named (name_at sids) (array_at vs) (counting i)
       same_values =
-          map-filter-range (λ j. (let e : Entry = (name_at sids j, numbers j) in e)) (λ j. (let e : Entry = (name_at sids j, at vs j) in e)) (counts_at vs keep (labels_for k vs labels) i) (counts_at vs keep (labels_for k vs labels) i) 0 (length vs)
+          map-filter-range (λ j. (let e : Entry = (name_at sids j, numbers j) in e)) (λ j. (let e : Entry = (name_at sids j, array_at vs j) in e)) (counts_at vs keep (labels_for k vs labels) i) (counts_at vs keep (labels_for k vs labels) i) 0 (length vs)
           (λ j l m. (refl, same_entry refl (value_is j (omega (arith, s.values.long)))))
 
   -- what the definitions give for the assets that exist and pass the mask
@@ -244,11 +244,11 @@ module _ (w : World) (names : List (List ℕ)) (k : CrossKind) (size : ℕ) (x y
   abbrev list : ℕ → List Entry
   list i = eligible w x mask (group_of k x group) (sid_in sids i) d
 
-  kept-value : (i : ℕ) → i < length sids → step w names (Cross k) size x y z mask group (sid_in sids i) d ≡ Number (section_at k vs keep labels i)
-  unfolding step
+  kept-value : (i : ℕ) → i < length sids → kind_value w names (Cross k) size x y z mask group (sid_in sids i) d ≡ Number (section_at k vs keep labels i)
+  unfolding kind_value
   kept-value i h =
-      ap (λ v. if list_any (λ (e : Entry). e.0 == sid i) (list i) then Number (cross k (list i) (sid i) (number_of (now x (sid i) d))) else v) (empty-is k)
-      ∙ inside (list_any (λ (e : Entry). e.0 == sid i) (list i)) (cross k (list i) (sid i) (number_of (now x (sid i) d))) (empty_number k)
+      ap (λ v. if list_any (λ (e : Entry). e.0 == sid i) (list i) then Number (cross k (list i) (sid i) (number_of (value_of_part x (sid i) d))) else v) (empty-is k)
+      ∙ inside (list_any (λ (e : Entry). e.0 == sid i) (list i)) (cross k (list i) (sid i) (number_of (value_of_part x (sid i) d))) (empty_number k)
       ∙ ap Number (section_is w k x mask group d sids vs keep labels s i (empty_number k) h)
     where
       inside : (b : Bool) (u v : ℤ) → (if b then Number u else Number v) ≡ Number (if b then u else v)
@@ -257,15 +257,15 @@ module _ (w : World) (names : List (List ℕ)) (k : CrossKind) (size : ℕ) (x y
 
   -- an asset that is not kept is not listed
   left-out : (i : ℕ) → i < length sids → (exists w (sid_in sids i) d && passes mask (sid_in sids i) d) ≡ false → section_at k vs keep labels i ≡ empty_number k
-  left-out i h out = not-own k (empty_number k) vs keep (labels_for k vs labels) i (ap (λ b. b && (is_present (at vs i) && is_present (group_at (labels_for k vs labels) i))) (s.keep i h ∙ out))
+  left-out i h out = not-own k (empty_number k) vs keep (labels_for k vs labels) i (ap (λ b. b && (is_present (array_at vs i) && is_present (group_at (labels_for k vs labels) i))) (s.keep i h ∙ out))
 
   pub part-value : (i : ℕ) → i < length sids
-      → (if exists w (sid_in sids i) d && passes mask (sid_in sids i) d then step w names (Cross k) size x y z mask group (sid_in sids i) d else empty (Cross k))
+      → (if exists w (sid_in sids i) d && passes mask (sid_in sids i) d then kind_value w names (Cross k) size x y z mask group (sid_in sids i) d else empty (Cross k))
       ≡ Number (section_at k vs keep labels i)
   part-value i h = here (exists w (sid_in sids i) d && passes mask (sid_in sids i) d) refl
     where
       here : (b : Bool) → (exists w (sid_in sids i) d && passes mask (sid_in sids i) d) ≡ b
-          → (if b then step w names (Cross k) size x y z mask group (sid_in sids i) d else empty (Cross k)) ≡ Number (section_at k vs keep labels i)
+          → (if b then kind_value w names (Cross k) size x y z mask group (sid_in sids i) d else empty (Cross k)) ≡ Number (section_at k vs keep labels i)
       here true e = kept-value i h
       here false e = empty-is k ∙ ap Number (sym (left-out i h e))
 
@@ -285,7 +285,7 @@ node-value w names g t n k d c ok e kind s i h =
     let mask : Part = number_part w names g n.mask in
     value_at-node w names g ok t n e a d
     ∙ ap (λ q. if exists w a d && passes mask a d
-    then step w names q n.window (input_part w names g (slice_get n.inputs 0)) (input_part w names g (slice_get n.inputs 1)) (input_part w names g (slice_get n.inputs 2)) mask (number_part w names g n.group) a d
+    then kind_value w names q n.window (input_part w names g (slice_get n.inputs 0)) (input_part w names g (slice_get n.inputs 1)) (input_part w names g (slice_get n.inputs 2)) mask (number_part w names g n.group) a d
     else empty (sort_over q (sort_kind (input_tree (trees g) (slice_get n.inputs 0))))) kind
     ∙ part-value w names k n.window (input_part w names g (slice_get n.inputs 0)) (input_part w names g (slice_get n.inputs 1)) (input_part w names g (slice_get n.inputs 2)) mask (number_part w names g n.group)
     d c.sids c.values c.keep c.labels s i h

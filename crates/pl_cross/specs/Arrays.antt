@@ -6,10 +6,10 @@ use Rattle.pl_pipeline.specs.Kind.{CrossKind}
 use Rattle.pl_pipeline.specs.Kind.CrossKind.{PeerCount}
 use Rattle.pl_pipeline.specs.Kind.Kind.{Cross, Label}
 use Rattle.pl_spec.specs.Cells.{is_true}
-use Rattle.pl_pipeline.specs.Cross.{at, cross_at}
+use Rattle.pl_pipeline.specs.Cross.{array_at, cross_at}
 use Rattle.pl_pipeline.specs.Term.{Term, Node, Graph, IsGraph}
 use Rattle.pl_pipeline.specs.Term.Term.{node}
-use Rattle.pl_pipeline.specs.Value.{Part, part_of, now, passes, group_of, is_cross_filter, value}
+use Rattle.pl_pipeline.specs.Value.{Part, part_of, value_of_part, passes, group_of, is_cross_filter, value}
 use Rattle.pl_pipeline.specs.Value.Part.{Nothing, Values}
 use Rattle.pl_pipeline.specs.Value.Value.{Number, Text}
 use Rattle.pl_pipeline.specs.NodeValue.{meaning_of, input_part, number_part}
@@ -23,15 +23,15 @@ sid_in sids i = get_or sids i 0
 -- the array holds what the part gives for each asset on session d
 pub record IsArray (w : World) (p : Part) (d : ℤ) (sids : List ℕ) (cells : List ℤ) : Type 0 where
   pub long : length cells ≡ length sids
-  pub each : (i : ℕ) → i < length sids → at cells i ≡ in_array w.texts (now p (sid_in sids i) d)
+  pub each : (i : ℕ) → i < length sids → array_at cells i ≡ in_array w.texts (value_of_part p (sid_in sids i) d)
 
 -- the part gives numbers alone
 abbrev pub IsNumbered : Part → ℤ → Type 0
-IsNumbered p d = (a : ℕ) → (x : ℤ) × (now p a d ≡ Number x)
+IsNumbered p d = (a : ℕ) → (x : ℤ) × (value_of_part p a d ≡ Number x)
 
 -- the part gives labels of the world, or none
 abbrev pub IsLabelled : World → Part → ℤ → Type 0
-IsLabelled w p d = (a : ℕ) → (now p a d ≡ Number MISSING) ⊎ ((t : List ℕ) × (now p a d ≡ Text t) × Contains w.texts t)
+IsLabelled w p d = (a : ℕ) → (value_of_part p a d ≡ Number MISSING) ⊎ ((t : List ℕ) × (value_of_part p a d ≡ Text t) × Contains w.texts t)
 
 -- an array of labels or of numbers where there is a group, and none elsewhere
 abbrev pub IsGroupArray : World → Part → ℤ → List ℕ → Option (List ℤ) → Type 0
@@ -60,7 +60,7 @@ pub record AreArrays (w : World) (k : CrossKind) (x mask group : Part) (d : ℤ)
   pub values : IsArray w x d c.sids c.values
   pub numbers : HasNumbers k x d
   pub keep : (i : ℕ) → i < length c.sids
-      → is_true (at c.keep i) ≡ (exists w (sid_in c.sids i) d && passes mask (sid_in c.sids i) d)
+      → is_true (array_at c.keep i) ≡ (exists w (sid_in c.sids i) d && passes mask (sid_in c.sids i) d)
   pub groups : IsGroupArray w (group_of k x group) d c.sids (labels_for k c.values c.labels)
 
 -- the number in place of a value that is not there

@@ -19,7 +19,7 @@ use Rattle.pl_pipeline.specs.Term.{Term, Graph, Input, Node, IsGraph, tree_over,
 use Rattle.pl_pipeline.specs.Term.Term.{absent, column, node}
 use Rattle.pl_pipeline.specs.Term.Input.{BarColumn, TermInput}
 use Rattle.pl_pipeline.specs.Cross.{cross}
-use Rattle.pl_pipeline.specs.Value.{Value, Part, part_of, number_of, now, passes, eligible, group_of, window_of, is_window_filter, is_point_filter, is_cross_filter, sort_kind, test_value, step, empty, value}
+use Rattle.pl_pipeline.specs.Value.{Value, Part, part_of, number_of, value_of_part, passes, eligible, group_of, window_of, is_window_filter, is_point_filter, is_cross_filter, sort_kind, test_value, kind_value, empty, value}
 use Rattle.pl_pipeline.specs.Value.Value.{Number, Text}
 use Rattle.pl_pipeline.specs.Value.Part.{Bars, Values}
 use Rattle.pl_pipeline.specs.NodeValue.{meaning_of, input_part, number_part, node_value}
@@ -85,19 +85,19 @@ module _ (w : World) (known : HasTexts w) (names : List (List ℕ)) where
   is_open m a d = exists w a d && passes (part_of m (value w names m)) a d
 
   section_kept : (k : CrossKind) (x m g : Part) (a : ℕ) (d : ℤ)
-      → IsKept w.texts (Cross k) (let list = eligible w x m (group_of k x g) a d in if list_any (λ e. e.0 == a) list then Number (cross k list a (number_of (now x a d))) else empty (Cross k))
+      → IsKept w.texts (Cross k) (let list = eligible w x m (group_of k x g) a d in if list_any (λ e. e.0 == a) list then Number (cross k list a (number_of (value_of_part x a d))) else empty (Cross k))
   section_kept k x m g a d =
       let list = eligible w x m (group_of k x g) a d in
-      gate (Cross k) (list_any (λ e. e.0 == a) list) (Number (cross k list a (number_of (now x a d)))) refl
+      gate (Cross k) (list_any (λ e. e.0 == a) list) (Number (cross k list a (number_of (value_of_part x a d)))) refl
 
-  now_kept : (x : Term) (a : ℕ) (d : ℤ) → IsKept w.texts (sort_kind x) (value w names x a d) → IsKept w.texts (sort_kind x) (now (part_of x (value w names x)) a d)
+  now_kept : (x : Term) (a : ℕ) (d : ℤ) → IsKept w.texts (sort_kind x) (value w names x a d) → IsKept w.texts (sort_kind x) (value_of_part (part_of x (value w names x)) a d)
   now_kept absent a d h = refl
   now_kept (column c) a d h = refl
   now_kept (node k size x y z m g) a d h = h
 
   -- the code of a term's value stands for that value
   kept : (x : Term) (a : ℕ) (d : ℤ) → IsKept w.texts (sort_kind x) (value w names x a d)
-  unfolding value step
+  unfolding value kind_value
   kept absent a d = refl
   kept (column c) a d = refl
   kept (node (Constant c) size x y z m g) a d = gate (Constant c) (is_open m a d) _ refl
@@ -106,7 +106,7 @@ module _ (w : World) (known : HasTexts w) (names : List (List ℕ)) where
   kept (node (StaticSids sids) size x y z m g) a d = gate (StaticSids sids) (is_open m a d) _ refl
   kept (node (Window k) size x y z m g) a d = gate (Window k) (is_open m a d) _ refl
   kept (node (Point k) size x y z m g) a d = gate (Point k) (is_open m a d) _ refl
-  kept (node (LabelTest k) size x y z m g) a d = gate (LabelTest k) (is_open m a d) _ (test_kept w.texts k (now (part_of x (value w names x)) a d))
+  kept (node (LabelTest k) size x y z m g) a d = gate (LabelTest k) (is_open m a d) _ (test_kept w.texts k (value_of_part (part_of x (value w names x)) a d))
   kept (node (Cross k) size x y z m g) a d =
       gate (Cross k) (is_open m a d) _ (section_kept k (part_of x (value w names x)) (part_of m (value w names m)) (part_of g (value w names g)) a d)
   kept (node (Downsample f) size x y z m g) a d =
@@ -148,11 +148,11 @@ module _ (w : World) (p : Pipeline) (known : HasTexts w) (ok : IsGraph p.graph) 
     input i = slice_get n.inputs i
 
     step_is : (k : Kind)
-        → step w p.names k n.window (input_read w p (number_in w p) k d (input 0)) (input_read w p (number_in w p) k d (input 1))
+        → kind_value w p.names k n.window (input_read w p (number_in w p) k d (input 0)) (input_read w p (number_in w p) k d (input 1))
         (input_read w p (number_in w p) k d (input 2)) (number_part w p.names p.graph n.mask) (number_part w p.names p.graph n.group) a d
-        ≡ step w p.names k n.window (input_part w p.names p.graph (input 0)) (input_part w p.names p.graph (input 1))
+        ≡ kind_value w p.names k n.window (input_part w p.names p.graph (input 0)) (input_part w p.names p.graph (input 1))
         (input_part w p.names p.graph (input 2)) (number_part w p.names p.graph n.mask) (number_part w p.names p.graph n.group) a d
-    unfolding step
+    unfolding kind_value
     step_is (Constant c) = refl
     step_is (Label l) = refl
     step_is (kinds.Number l) = refl

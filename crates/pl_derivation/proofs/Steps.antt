@@ -10,7 +10,7 @@ use Rattle.pl_spec.specs.Periods.{period_start}
 use Rattle.pl_pipeline.specs.Kind.CrossKind.{PeerCount}
 use Rattle.pl_pipeline.specs.Term.{Input, Node}
 use Rattle.pl_pipeline.specs.Term.Input.{BarColumn, TermInput}
-use Rattle.pl_pipeline.specs.Value.{Value, Part, number_of, holds, now, window_of, passes, in_group, entry, counts_for, eligible, group_of, step}
+use Rattle.pl_pipeline.specs.Value.{Value, Part, number_of, holds, value_of_part, window_of, passes, in_group, entry, counts_for, eligible, group_of, kind_value}
 use Rattle.pl_pipeline.specs.Value.Part.{Nothing, Bars, Values}
 use Rattle.pl_pipeline.specs.Text.{kind_at}
 use Rattle.pl_pipeline.specs.Table.{Pipeline, in_array}
@@ -29,7 +29,7 @@ Alike (Values f) (Values g) b d = f b d ≡ g b d
 Alike x y b d = ⊥
 
 module _ (b : ℕ) (d : ℤ) where
-  now_alike : (x y : Part) → Alike x y b d → now x b d ≡ now y b d
+  now_alike : (x y : Part) → Alike x y b d → value_of_part x b d ≡ value_of_part y b d
   now_alike Nothing Nothing h = refl
   now_alike (Bars c) (Bars c') h = refl
   now_alike (Values f) (Values g) h = h
@@ -129,7 +129,7 @@ module _ (w : World) (p : Pipeline) (r q : Reading) where
 
     abbrev stepped : Reading → Kind → Value
     stepped s k =
-        step w p.names k n.window (input_read w p s k d (input 0)) (input_read w p s k d (input 1)) (input_read w p s k d (input 2))
+        kind_value w p.names k n.window (input_read w p s k d (input 0)) (input_read w p s k d (input 1)) (input_read w p s k d (input 2))
         (number_read w p s n.mask) (number_read w p s n.group) a d
 
     fronts : (f : Option Input → List Fact) → Each Same (over_inputs f n) → Each Same (f (input 0) ++ f (input 1))
@@ -157,7 +157,7 @@ module _ (w : World) (p : Pipeline) (r q : Reading) where
     entries b h = firsts (facts_now b d) (each_back Same (number_facts b d n.mask ++ number_facts b d n.group) (over_inputs (facts_now b d) n) h)
 
     step_same : (k : Kind) → exists w a d ≡ true → Each Same (kind_facts w n k a d) → stepped r k ≡ stepped q k
-    unfolding step
+    unfolding kind_value
     step_same (Constant x) e h = refl
     step_same (Label x) e h = refl
     step_same (Number x) e h = refl

@@ -13,7 +13,7 @@ use Rattle.pl_pipeline.specs.Kind.{Kind}
 use Rattle.pl_pipeline.specs.Kind.Kind.{Label, Window, Point, LabelTest, Cross, Downsample}
 use Rattle.pl_pipeline.specs.Term.{Input, Node}
 use Rattle.pl_pipeline.specs.Term.Input.{BarColumn, TermInput}
-use Rattle.pl_pipeline.specs.Value.{Value, Meaning, Part, passes, step, empty, name_at}
+use Rattle.pl_pipeline.specs.Value.{Value, Meaning, Part, passes, kind_value, empty, name_at}
 use Rattle.pl_pipeline.specs.Value.Value.{Number, Text}
 use Rattle.pl_pipeline.specs.Value.Part.{Nothing, Bars, Values}
 use Rattle.pl_pipeline.specs.Table.{Pipeline, value_of, in_array}
@@ -119,7 +119,7 @@ number_read w p r (Some t) = Values (term_read w p r t)
 abbrev pub node_read : World → Pipeline → Reading → ℕ → Node → Meaning
 node_read w p r t n a d =
     if exists w a d && passes (number_read w p r n.mask) a d
-    then step w p.names n.kind n.window (input_read w p r n.kind d (slice_get n.inputs 0)) (input_read w p r n.kind d (slice_get n.inputs 1))
+    then kind_value w p.names n.kind n.window (input_read w p r n.kind d (slice_get n.inputs 0)) (input_read w p r n.kind d (slice_get n.inputs 1))
     (input_read w p r n.kind d (slice_get n.inputs 2)) (number_read w p r n.mask) (number_read w p r n.group) a d
     else empty (kind_at p.graph t)
 

@@ -6,7 +6,7 @@ use Rattle.std.specs.Cmp.{first_so, second_so}
 use Rattle.pl_pipeline.specs.Term as spec
 use Rattle.pl_pipeline.specs.Term.{IsGraph}
 use Rattle.pl_pipeline.specs.Graph.{columns_at}
-use Rattle.pl_spec.specs.Limits.{cut}
+use Rattle.pl_spec.specs.Limits.{saturated}
 use Rattle.pl_planner.specs.Plans.{is_used, last_user, slot_of}
 use Rattle.pl_planner.proofs.Counting.{count_more}
 use Rattle.pl_planner.specs.Slotting.{one}
@@ -66,7 +66,7 @@ few_columns g ok k = here (slice_get g k) refl
     here None e = rw e (omega arith)
     here (Some n) e = columns_few g k n e (ok.few k n e)
 
-pub cut_more : (a s f x y z : ℕ) → a ≡ cut s → f ≡ cut x → y ≡ s + x → z ≡ cut (a + f) → z ≡ cut y
+pub cut_more : (a s f x y z : ℕ) → a ≡ saturated s → f ≡ saturated x → y ≡ s + x → z ≡ saturated (a + f) → z ≡ saturated y
 cut_more a s f x y z e g h i = omega (arith, e, g, h, i)
 
 pub most_three : (p f h w v : ℕ) → w ≡ max p f → v ≡ max w h → v ≡ max p (max f h)

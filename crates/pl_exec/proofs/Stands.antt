@@ -6,7 +6,7 @@ use Rattle.std.proofs.lemmas.List.Sums.{fold-append}
 use Rattle.pl_spec.specs.declared.Column.{Column}
 use Rattle.pl_spec.specs.Window.{applied_steps}
 use Rattle.pl_pipeline.specs.Term as spec
-use Rattle.pl_spec.specs.Limits.{cut}
+use Rattle.pl_spec.specs.Limits.{saturated}
 use Rattle.pl_adjarray.specs.Buffered.{Buffered, applied_at, row_count as applied_row}
 use Rattle.pl_adjarray.specs.Traversals.{Traversal, advances}
 use Rattle.pl_adjarray.proofs.Worlds.{whole_counts}
@@ -153,5 +153,5 @@ module _ (j : ChunkInputs) (w : Slots) (k : ℕ) (n : spec.Node) (run : IsColumn
       let t : sum_by column_steps (columns_of_term (graph_in (task_of j)) k) ≡ sum_by column_steps (columns_of n) = rw run.node refl in
       omega (arith, a, c, d, s, t)
 
-pub cut_two : (a b x y s : ℕ) → x ≡ cut a → y ≡ cut b → s ≡ cut (x + y) → s ≡ cut (a + b)
+pub cut_two : (a b x y s : ℕ) → x ≡ saturated a → y ≡ saturated b → s ≡ saturated (x + y) → s ≡ saturated (a + b)
 cut_two a b x y s e f g = omega (arith, e, f, g)

@@ -1,6 +1,6 @@
 -- A term that is computed while its bar columns are in slots.
 use Rattle.std.specs.Prelude.{◌≡◌, ℕ, ◌+◌, ◌-◌, ℤ, List, max}
-use Rattle.pl_spec.specs.Limits.{cut}
+use Rattle.pl_spec.specs.Limits.{saturated}
 use Rattle.pl_pipeline.specs.Term as spec
 use Rattle.pl_terms.specs.Nodes.{node_of}
 use Rattle.pl_workspace.specs.Slots.{Slots, live_count}
@@ -34,4 +34,4 @@ pub record IsFilled (t : Task) (k more : ℕ) (old new : Slots) (own : List ℤ)
   pub peak : new.peak ≡ max old.peak (live_count old.slots + more)
   pub held : f.held ≡ live_count old.slots + more
   pub cost : after ≡ before + term_steps t k
-  pub applied : f.applied ≡ cut (term_steps t k)
+  pub applied : f.applied ≡ saturated (term_steps t k)

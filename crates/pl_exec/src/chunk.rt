@@ -1,7 +1,7 @@
 //! The used terms of a chunk, one after the other, each in its planned slot.
 ghost use Rattle.std.specs.Prelude.{◌≡◌, ◌+◌, ◌<◌, ◌≤◌, ◌&&◌, ℕ, true, length, max, option_map};
 ghost use Rattle.pl_pipeline.specs.Graph.{bound, columns_at};
-ghost use Rattle.pl_spec.specs.Limits.{cut};
+ghost use Rattle.pl_spec.specs.Limits.{saturated};
 ghost use Rattle.pl_terms.specs.Checked.{pipeline_of};
 ghost use Rattle.pl_terms.specs.Nodes.{number_of};
 ghost use Rattle.pl_terms.specs.Uses.{outputs};
@@ -132,7 +132,7 @@ fn add_term<'x, L: Ledger>(
     ensures held { result.held ≡ live_count workspace.old.slots + 1
         + columns_at (graph_in (task_of chunk.now)) term.0 }
     ensures cost { steps.new ≡ steps.old + term_steps (task_of chunk.now) term.0 }
-    ensures applied { result.applied ≡ cut (term_steps (task_of chunk.now) term.0) }
+    ensures applied { result.applied ≡ saturated (term_steps (task_of chunk.now) term.0) }
     ensures len { workspace.new.len ≡ workspace.old.len }
     ensures slots { length workspace.new.slots ≡ length workspace.old.slots }
     ensures cross { cross.new ≡ cross.old }
@@ -169,7 +169,7 @@ fn run_term<'x, L: Ledger>(
     ensures peak { workspace.new.peak ≡ max workspace.old.peak (held_in (task_of chunk.now) k) }
     ensures held { result.held ≡ held_in (task_of chunk.now) k }
     ensures cost { steps.new ≡ steps.old + steps_in (task_of chunk.now) k }
-    ensures applied { result.applied ≡ cut (steps_in (task_of chunk.now) k) }
+    ensures applied { result.applied ≡ saturated (steps_in (task_of chunk.now) k) }
     ensures len { workspace.new.len ≡ workspace.old.len }
     ensures slots { length workspace.new.slots ≡ length workspace.old.slots }
     ensures cross { cross.new ≡ cross.old }
@@ -207,7 +207,7 @@ fn run_terms<'x, L: Ledger>(
     ensures workspace { workspace.new.peak ≡ max workspace.old.peak
         (bound (graph_in (task_of chunk.now)) (outputs (task_of chunk.now).pipeline)) }
     ensures peak { result.peak ≡ bound (graph_in (task_of chunk.now)) (outputs (task_of chunk.now).pipeline) }
-    ensures applied { result.applied ≡ cut (chunk_steps (task_of chunk.now)) }
+    ensures applied { result.applied ≡ saturated (chunk_steps (task_of chunk.now)) }
     ensures cost { steps.new ≡ steps.old + chunk_steps (task_of chunk.now) }
     ensures len { workspace.new.len ≡ workspace.old.len }
     ensures slots { length workspace.new.slots ≡ length workspace.old.slots }
@@ -231,7 +231,7 @@ fn greater(a: usize, b: usize) -> usize
 }
 
 fn capped_sum(a: u64, b: u64) -> u64
-    ensures { result ≡ cut (a + b) }
+    ensures { result ≡ saturated (a + b) }
 {
     a.saturating_add(b)
 }
@@ -272,7 +272,7 @@ pub fn execute_chunk<L: Ledger>(
     ensures workspace { workspace.new.peak ≡ max workspace.old.peak
         (bound (pipeline_of checked.now).graph (outputs (pipeline_of checked.now))) }
     ensures peak { result.peak ≡ bound (pipeline_of checked.now).graph (outputs (pipeline_of checked.now)) }
-    ensures applied { result.applied ≡ cut (chunk_steps
+    ensures applied { result.applied ≡ saturated (chunk_steps
         (task world.now checked.now plan.now chunk.now cols.now)) }
     ensures cost { steps.new ≡ steps.old + chunk_steps
         (task world.now checked.now plan.now chunk.now cols.now) }

@@ -3,7 +3,7 @@
 ghost use Rattle.std.specs.Prelude.{◌≡◌, ◌+◌, ◌*◌, ◌<◌, ◌≤◌, ℕ, true, false, pos, get_or, length, slice_set, [], ◌∷◌};
 ghost use Rattle.pl_spec.specs.Rounding.{IsCell};
 ghost use Rattle.pl_pipeline.specs.Graph.{columns_at};
-ghost use Rattle.pl_spec.specs.Limits.{cut};
+ghost use Rattle.pl_spec.specs.Limits.{saturated};
 ghost use Rattle.pl_adjarray.specs.Buffered.{applied_at};
 ghost use Rattle.pl_values.specs.Arrays.{IsRow};
 ghost use Rattle.pl_values.specs.Families.{IsOf};
@@ -324,7 +324,7 @@ fn fill_asset<L: Ledger>(
     ensures out { FillsLane lane.now.course.now lane.now.i out.new }
     ensures cost { steps.new ≡ steps.old + steps_of lane.now.course.now.chunk.now lane.now.course.now.term.0
         (node_in lane.now.course.now) (one_col lane.now.course.now.chunk.now lane.now.i) }
-    ensures applied { result ≡ cut (steps_of lane.now.course.now.chunk.now lane.now.course.now.term.0
+    ensures applied { result ≡ saturated (steps_of lane.now.course.now.chunk.now lane.now.course.now.term.0
         (node_in lane.now.course.now) (one_col lane.now.course.now.chunk.now lane.now.i)) }
 {
     let course = lane.course;
@@ -362,7 +362,7 @@ pub(crate) fn fill_bars<'x, L: Ledger>(
     requires third { HasRows (task_in course.now) course.now.term.0 (node_in course.now) 2 third.old }
     ensures array { IsArray (task_in course.now) course.now.term.0 own.new }
     ensures cost { steps.new ≡ steps.old + term_steps (task_in course.now) course.now.term.0 }
-    ensures applied { result ≡ cut (term_steps (task_in course.now) course.now.term.0) }
+    ensures applied { result ≡ saturated (term_steps (task_in course.now) course.now.term.0) }
 {
     let sources = sources_of(course);
     let count = course.count;

@@ -1,7 +1,7 @@
 //! The windows of a node's inputs: of its bar columns, which are traversed together, and of terms.
 ghost use Rattle.std.specs.Prelude.{◌≡◌, ◌+◌, ◌-◌, ◌<◌, ◌≤◌, ℕ, true, All, get_or, length, pos, slice_get};
 ghost use Rattle.pl_spec.specs.Rounding.{IsCell};
-ghost use Rattle.pl_spec.specs.Limits.{cut};
+ghost use Rattle.pl_spec.specs.Limits.{saturated};
 ghost use Rattle.pl_adjarray.specs.Buffered.{applied_at};
 ghost use Rattle.pl_adjarray.specs.Stillness.{IsStill};
 ghost use Rattle.pl_terms.specs.Sorts.{is_windowed};
@@ -82,7 +82,7 @@ pub(crate) fn pass(bars: &mut Bars<'_>, more: usize)
 
 /// How many steps they took, or u64's greatest value where there were more.
 pub(crate) fn applied(bars: &Bars<'_>) -> u64
-    ensures { result ≡ cut (counted bars.now) }
+    ensures { result ≡ saturated (counted bars.now) }
 {
     bars.first
         .applied()

@@ -3,7 +3,7 @@ use Rattle.std.proofs.Common.{◌≡◌, ℕ, suc, ◌+◌, ◌<◌, ℤ, pos, L
 use Rattle.std.proofs.lemmas.Option.{slice_get-get_or}
 use Rattle.pl_spec.specs.declared.AssetRow.{AssetRow}
 use Rattle.pl_spec.specs.Parts.{ColumnAdjustment, ColumnNumber, sid_at}
-use Rattle.pl_pipeline.specs.Table.{NamedColumn, Pipeline, in_array, row, session_rows, value_of}
+use Rattle.pl_pipeline.specs.Table.{NamedColumn, Pipeline, in_array, table_row, session_rows, value_of}
 use Rattle.pl_assets.specs.Labels.{LabelTable}
 use Rattle.pl_values.specs.Arrays.{cell_of}
 use Rattle.pl_table.proofs.Outputs.{cell-is, sid-of-place}
@@ -87,7 +87,7 @@ cell-here w p s h is same column i x gives inside c at =
 
 module _ (f : FedSession) (is : IsFedSession f) where
   -- those that are kept have its rows
-  pub rows-are : session_rows (world_in f) (pipeline_in f) (pos f.session) ≡ map (row (world_in f) (pipeline_in f) (pos f.session)) (sids_in f)
+  pub rows-are : session_rows (world_in f) (pipeline_in f) (pos f.session) ≡ map (table_row (world_in f) (pipeline_in f) (pos f.session)) (sids_in f)
   rows-are = session-rows f.asked.world is.asked.sound (pipeline_in f) f.session is.within is.asked.world f.daily.now is.fed is.answered
 
   pub cell-in : (column i : ℕ) (x : ℤ) → Gives f.daily.now column i x → i < length f.daily.now.kept → (c : NamedColumn) → slice_get (pipeline_in f).columns column ≡ Some c

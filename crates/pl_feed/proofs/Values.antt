@@ -12,7 +12,7 @@ use Rattle.pl_spec.specs.declared.Format.{Format}
 use Rattle.pl_pipeline.specs.Graph.{least_of, reach}
 use Rattle.pl_pipeline.specs.Lows.{least_reach}
 use Rattle.pl_spec.specs.Parts.{ColumnNumber, sid_at}
-use Rattle.pl_pipeline.specs.Table.{Pipeline, Row, kept_sids, row, session_rows, table, value_of}
+use Rattle.pl_pipeline.specs.Table.{Pipeline, Row, kept_sids, table_row, session_rows, table, value_of}
 use Rattle.pl_pipeline.specs.Term.{Graph, term_at}
 use Rattle.pl_pipeline.specs.Text.{row_line}
 use Rattle.pl_spec.specs.World as worlds
@@ -53,7 +53,7 @@ not_below x y h l = grind (arith, ints)
 
 -- ---- rows
 
-sids-of : (w : worlds.World) (p : Pipeline) (d : ℤ) (xs : List ℕ) → map (λ (r : Row). r.sid) (map (row w p d) xs) ≡ xs
+sids-of : (w : worlds.World) (p : Pipeline) (d : ℤ) (xs : List ℕ) → map (λ (r : Row). r.sid) (map (table_row w p d) xs) ≡ xs
 sids-of w p d [] = refl
 sids-of w p d (x ∷ xs) = ap (λ (l : List ℕ). x ∷ l) (sids-of w p d xs)
 
@@ -62,17 +62,17 @@ kept-sids w v p d same = sym (sids-of w p d (kept_sids w p d)) ∙ ap (map (λ (
 
 -- the lines of the rows of some sids
 abbrev pub lines_of : worlds.World → Pipeline → Format → ℕ → List ℕ → List ℕ
-lines_of w p format s sids = lines w p format (map (row w p (pos s)) sids)
+lines_of w p format s sids = lines w p format (map (table_row w p (pos s)) sids)
 
 -- the line of a place, and the lines of the places after it
 abbrev pub piece_at : worlds.World → Pipeline → Format → ℕ → List ℕ → ℕ → List ℕ
-piece_at w p format s sids i = row_line w p format (row w p (pos s) (get_or sids i 0))
+piece_at w p format s sids i = row_line w p format (table_row w p (pos s) (get_or sids i 0))
 
 abbrev pub left_at : worlds.World → Pipeline → Format → ℕ → List ℕ → ℕ → List ℕ
 left_at w p format s sids i = lines_of w p format s (drop (i + 1) sids)
 
 pub lines-next : (w : worlds.World) (p : Pipeline) (format : Format) (s : ℕ) (sids : List ℕ) (i : ℕ) → i < length sids
-    → lines_of w p format s (drop i sids) ≡ row_line w p format (row w p (pos s) (get_or sids i 0)) ++ lines_of w p format s (drop (i + 1) sids)
+    → lines_of w p format s (drop i sids) ≡ row_line w p format (table_row w p (pos s) (get_or sids i 0)) ++ lines_of w p format s (drop (i + 1) sids)
 lines-next w p format s sids i h =
     let e : suc i ≡ i + 1 = omega arith in
     ap (lines_of w p format s) (drop-cons sids i 0 h ∙ ap (λ (n : ℕ). get_or sids i 0 ∷ drop n sids) e)
@@ -123,11 +123,11 @@ module _ (w : World) (sound : AreSound w) (p : Pipeline) (s : ℕ) (within : s <
     values t a = let e : s + 1 ≡ suc s = omega arith in ap (λ (n : ℕ). value_of (fed_world w n) p t a (pos s)) e ∙ same-values t a
 
     -- those that are kept have its rows
-    pub session-rows : (h : Held) → IsFed w p (s + 1) h → h.answered ≡ true → session_rows (world_of w) p (pos s) ≡ map (row (world_of w) p (pos s)) (map (sid_at w.assets.now) h.kept)
+    pub session-rows : (h : Held) → IsFed w p (s + 1) h → h.answered ≡ true → session_rows (world_of w) p (pos s) ≡ map (table_row (world_of w) p (pos s)) (map (sid_at w.assets.now) h.kept)
     session-rows h fed_so answered =
         let own = at-suc w p s h fed_so in
         let rows = rows_same (fed_world w (suc s)) (world_of w) (pos s) (day_at w.sessions.now s) own-world ok (agree-seen (fed_world w (suc s)) (world_of w) (pos s) (day_at w.sessions.now s) (agree w sound s within)) p (pos s) (omega (arith, ints)) in
-        ap (map (row (world_of w) p (pos s))) (sym (kept-sids (fed_world w (suc s)) (world_of w) p (pos s) rows)
+        ap (map (table_row (world_of w) p (pos s))) (sym (kept-sids (fed_world w (suc s)) (world_of w) p (pos s) rows)
         ∙ sym (kept-is h own answered))
       where
         kept-is : (h : Held) → IsFed w p (suc s) h → h.answered ≡ true → map (sid_at w.assets.now) h.kept ≡ kept_sids (fed_world w (suc s)) p (pos s)

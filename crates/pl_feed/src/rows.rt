@@ -1,6 +1,6 @@
 //! The rows of a session.
 ghost use Rattle.std.specs.Prelude.{◌≡◌, ◌≤◌, ◌<◌, ◌+◌, ◌++◌, pos, length, slice_get, Some, OnOk};
-ghost use Rattle.pl_pipeline.specs.Table.{NamedColumn, row, session_rows};
+ghost use Rattle.pl_pipeline.specs.Table.{NamedColumn, table_row, session_rows};
 ghost use Rattle.pl_pipeline.specs.Text.{row_line};
 ghost use Rattle.pl_outside.specs.Taken.{IsWrittenIn, Writes};
 ghost use Rattle.pl_table.specs.Asked.{IsAsked, asked_field, asked_pipeline, asked_world};
@@ -71,7 +71,7 @@ fn write_row<O: Sink>(
     requires kept { i < length fed.now.daily.now.kept }
     ensures writes { Writes O.taken O.faults O.sound O.room out.old out.new
         (row_line (world_in fed.now) (pipeline_in fed.now) fed.now.asked.format
-        (row (world_in fed.now) (pipeline_in fed.now) (pos fed.now.session)
+        (table_row (world_in fed.now) (pipeline_in fed.now) (pos fed.now.session)
         (sid_of fed.now i))) result }
     ensures pieces { IsWrittenIn O.whole O.calls out.old out.new 1 }
 {

@@ -4,7 +4,7 @@ use Rattle.pl_fixed.specs.Ratios.{IsRatio}
 use Rattle.pl_fixed.specs.declared.ready.ReadyRatio.TheInside.{Inside}
 
 -- it has the ratio's parts, and the product of its greatest size and the numerator is far below 2 ^ 63
-pub record IsReady (r : Inside) : Type 0 where
+pub record IsReadyRatio (r : Inside) : Type 0 where
   pub num : r.num ≡ r.ratio.num
   pub den : r.den ≡ r.ratio.den
   pub ratio : IsRatio r.ratio

@@ -30,11 +30,11 @@ impl Model for ReadyRatio {
 
     ghost Value = { Fraction };
 
-    ghost use Rattle.pl_fixed.specs.Ready.{IsReady};
+    ghost use Rattle.pl_fixed.specs.Ready.{IsReadyRatio};
 
     ghost view = { λ r. r.ratio };
 
-    ghost invariant = { IsReady };
+    ghost invariant = { IsReadyRatio };
 }
 
 impl Ratio {

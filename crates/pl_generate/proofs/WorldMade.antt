@@ -2,7 +2,7 @@
 use Rattle.std.proofs.Common.{◌≡◌, ℕ, ◌<◌, length, refl, arith}
 use Rattle.std.specs.Prelude.{All}
 use Rattle.pl_world.specs.declared.owned.OwnedWorld.{OwnedWorld}
-use Rattle.pl_world.specs.Worlds.{owned_world, IsOwned}
+use Rattle.pl_world.specs.Worlds.{owned_world, IsOwnedMade}
 use Rattle.pl_generate.specs.Draws.{behind}
 use Rattle.pl_generate.specs.StatedWorld.{IsStated, stated_world}
 use Rattle.pl_generate.proofs.Assets.{length-assets}
@@ -15,7 +15,7 @@ unfolding stated_world
 world-is number w is = rw (is.sessions, is.assets, is.labels, is.bars, is.adjustments, is.numbers) refl
 
 pub made-for : (number : ℕ) (w : OwnedWorld) → IsStated number w → All (λ x. x.col < length w.assets) w.adjustments
-    → IsOwned w
+    → IsOwnedMade w
 made-for number w is cols =
     let many : length w.assets ≡ 400 = rw is.assets length-assets in
     let long : length w.sessions ≡ 600 = rw is.sessions length-stated_days in

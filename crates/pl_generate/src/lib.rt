@@ -6,7 +6,7 @@
 #![tactic(auto)]
 
 ghost use Rattle.std.specs.Prelude.{◌≡◌, ◌<◌, All, IfOk, length};
-ghost use Rattle.pl_world.specs.Worlds.{owned_world, IsOwned};
+ghost use Rattle.pl_world.specs.Worlds.{owned_world, IsOwnedMade};
 ghost use Rattle.pl_generate.specs.StatedWorld.{IsStated, stated_world};
 ghost use Rattle.pl_generate.specs.StatedWorld.{stated_adjustments, stated_assets, stated_bars};
 ghost use Rattle.pl_generate.specs.StatedWorld.{stated_days, stated_labels};
@@ -68,7 +68,7 @@ pub fn make_world(alloc: Global, number: u32) -> Result<OwnedWorld, Memory>
     ensures stated { IfOk result (IsStated number) }
     ensures world { IfOk result (λ w. owned_world w ≡ stated_world number) }
     // Its parts were made for its own sessions and assets.
-    ensures made { IfOk result IsOwned }
+    ensures made { IfOk result IsOwnedMade }
 {
     let sessions = sessions::make_sessions(alloc)?;
     let assets = sessions::make_assets(alloc, &sessions)?;

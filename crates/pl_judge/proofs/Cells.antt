@@ -27,7 +27,7 @@ use Rattle.pl_judge.specs.declared.fault.Fault.TheVariants.{NotSession, UnknownS
 use Rattle.pl_judge.specs.declared.fault.Limit.TheVariants as limits
 use Rattle.pl_judge.specs.Cells.{asset_of, cell_steps, column_term, lines_step, term_reach}
 use Rattle.pl_judge.specs.Range.{session_of}
-use Rattle.pl_judge.specs.Steps.{Step, first_fault, rule, when}
+use Rattle.pl_judge.specs.Steps.{WorkStep, first_fault, rule, when}
 use Rattle.pl_judge.proofs.Ranges.{late, early}
 
 -- ---- the column of a name
@@ -126,7 +126,7 @@ module _ (p : Pipeline) (days : List ℤ) (assets : List AssetRow) (q : ExplainR
 
 -- ---- the lines of its derivation
 
-abbrev counted : ℕ → Step
+abbrev counted : ℕ → WorkStep
 counted n = rule (when (nat_lt most_lines n) (Passed limits.Derivation))
 
 past : (n : ℕ) → most_lines < n → first_fault (counted n ∷ []) ≡ Some (Passed limits.Derivation)

@@ -8,7 +8,7 @@ use Rattle.pl_words.specs.declared.request.InputFile.{InputFile}
 use Rattle.pl_words.specs.Request.{Dated, ExplainRequest}
 use Rattle.pl_judge.specs.declared.fault.Fault.{Fault}
 use Rattle.pl_judge.specs.declared.fault.Fault.TheVariants.{Unread, Unloaded, Memory}
-use Rattle.pl_judge.specs.Steps.{Source, Step, first_fault, reads_in, names_read, tables_read}
+use Rattle.pl_judge.specs.Steps.{Source, WorkStep, first_fault, reads_in, names_read, tables_read}
 use Rattle.pl_judge.specs.Steps.Source.{Input, Load}
 use Rattle.pl_judge.specs.Stages.{IsStop, IsFront, IsReadUpTo, HasRead, StageEnds}
 use Rattle.pl_judge.specs.Range.{dates_steps, plan_steps}
@@ -27,13 +27,13 @@ stop-one None p f r all front e h = ap (λ xs. r ++ xs) (h e)
 stop-one (Some g) p f r all front e h = refl
 
 -- steps without a fault leave the rest to read
-reads-on : (ss ts : List Step) → first_fault ss ≡ None → reads_in (ss ++ ts) ≡ reads_in ss ++ reads_in ts
+reads-on : (ss ts : List WorkStep) → first_fault ss ≡ None → reads_in (ss ++ ts) ≡ reads_in ss ++ reads_in ts
 reads-on [] ts h = refl
 reads-on (s ∷ ss) ts h =
     on-one s.fault (first_fault ss) (option_to_list s.reads) (reads_in (ss ++ ts)) (reads_in ss) (reads_in ts) h (reads-on ss ts)
 
 -- and after a fault nothing is read
-reads-stop : (ss ts : List Step) (f : Fault) → first_fault ss ≡ Some f → reads_in (ss ++ ts) ≡ reads_in ss
+reads-stop : (ss ts : List WorkStep) (f : Fault) → first_fault ss ≡ Some f → reads_in (ss ++ ts) ≡ reads_in ss
 reads-stop [] ts f h = absurd (cc)
 reads-stop (s ∷ ss) ts f h =
     stop-one s.fault (first_fault ss) f (option_to_list s.reads) (reads_in (ss ++ ts)) (reads_in ss) h (reads-stop ss ts f)
@@ -55,7 +55,7 @@ front-all xs = ([], append-nil xs)
 pub front-none : (xs : List Source) → IsFront [] xs
 front-none xs = (xs, refl)
 
-reads-front : (ss ts : List Step) → IsFront (reads_in ss) (reads_in (ss ++ ts))
+reads-front : (ss ts : List WorkStep) → IsFront (reads_in ss) (reads_in (ss ++ ts))
 reads-front ss ts = by-fault (first_fault ss) refl
   where
     by-fault : (o : Option Fault) → first_fault ss ≡ o → IsFront (reads_in ss) (reads_in (ss ++ ts))
@@ -64,13 +64,13 @@ reads-front ss ts = by-fault (first_fault ss) refl
 
 -- ---- stages
 
-up-to-stop : (shelf keeper : Bool) (ss ts : List Step) (reads : List Source) (f : Fault) → IsStop shelf keeper ss f → IsReadUpTo ss reads f → IsReadUpTo (ss ++ ts) reads f
+up-to-stop : (shelf keeper : Bool) (ss ts : List WorkStep) (reads : List Source) (f : Fault) → IsStop shelf keeper ss f → IsReadUpTo ss reads f → IsReadUpTo (ss ++ ts) reads f
 up-to-stop shelf keeper ss ts reads (Unread file) stop h = front-on reads _ _ h (reads-front ss ts)
 up-to-stop shelf keeper ss ts reads (Unloaded table) stop h = front-on reads _ _ h (reads-front ss ts)
 up-to-stop shelf keeper ss ts reads Memory stop h = front-on reads _ _ h (reads-front ss ts)
 up-to-stop shelf keeper ss ts reads f stop h = elim stop [ inl p ↦ h ∙ sym (reads-stop ss ts f p) | inr q ↦ absurd q ]
 
-up-to-later : (ss ts : List Step) (first reads : List Source) (f : Fault) → reads_in (ss ++ ts) ≡ first ++ reads_in ts → IsReadUpTo ts reads f
+up-to-later : (ss ts : List WorkStep) (first reads : List Source) (f : Fault) → reads_in (ss ++ ts) ≡ first ++ reads_in ts → IsReadUpTo ts reads f
     → IsReadUpTo (ss ++ ts) (first ++ reads) f
 up-to-later ss ts first reads (Unread file) e h = front-same _ _ _ (front-behind first reads (reads_in ts) h) (sym e)
 up-to-later ss ts first reads (Unloaded table) e h = front-same _ _ _ (front-behind first reads (reads_in ts) h) (sym e)
@@ -78,13 +78,13 @@ up-to-later ss ts first reads Memory e h = front-same _ _ _ (front-behind first 
 up-to-later ss ts first reads f e h = ap (λ xs. first ++ xs) h ∙ sym e
 
 -- a stage that stops, stops the work
-pub read-stops : {T U : Type 0} {shelf keeper : Bool} {ss : List Step} {reads : List Source} {stop : Fault} (ts : List Step)
+pub read-stops : {T U : Type 0} {shelf keeper : Bool} {ss : List WorkStep} {reads : List Source} {stop : Fault} (ts : List WorkStep)
     → StageEnds {T = T} shelf keeper ss (Err stop) → HasRead {T = T} ss reads (Err stop) → HasRead {T = U} (ss ++ ts) reads (Err stop)
 read-stops {shelf = shelf} {keeper = keeper} {ss = ss} {reads = reads} {stop = stop} ts e h =
     record { whole = tt; up_to = up-to-stop shelf keeper ss ts reads stop e.stopped h.up_to }
 
 -- a stage that has ended well leaves the rest to the others
-pub read-goes_on : {T U : Type 0} {s k : Bool} {ss ts : List Step} {first reads : List Source} {x : T} {r : Result U Fault}
+pub read-goes_on : {T U : Type 0} {s k : Bool} {ss ts : List WorkStep} {first reads : List Source} {x : T} {r : Result U Fault}
     → StageEnds s k ss (Ok x) → HasRead ss first (Ok x) → HasRead ts reads r → HasRead (ss ++ ts) (first ++ reads) r
 read-goes_on {ss = ss} {ts = ts} {first = first} {reads = reads} {r = Ok y} e h k =
     let on = reads-on ss ts e.passed ∙ ap (λ xs. xs ++ reads_in ts) (sym h.whole) in
@@ -94,17 +94,17 @@ read-goes_on {ss = ss} {ts = ts} {first = first} {reads = reads} {r = Err stop} 
     record { whole = tt; up_to = up-to-later ss ts first reads stop on k.up_to }
 
 -- whatever the end is, where all was read, or where nothing is read
-up-to-all : (ss : List Step) (reads : List Source) (f : Fault) → reads ≡ reads_in ss → IsReadUpTo ss reads f
+up-to-all : (ss : List WorkStep) (reads : List Source) (f : Fault) → reads ≡ reads_in ss → IsReadUpTo ss reads f
 up-to-all ss reads (Unread file) e = front-same _ _ _ (front-all reads) e
 up-to-all ss reads (Unloaded table) e = front-same _ _ _ (front-all reads) e
 up-to-all ss reads Memory e = front-same _ _ _ (front-all reads) e
 up-to-all ss reads f e = e
 
-pub read-all : {T : Type 0} {ss : List Step} {reads : List Source} (r : Result T Fault) → reads_in ss ≡ reads → HasRead ss reads r
+pub read-all : {T : Type 0} {ss : List WorkStep} {reads : List Source} (r : Result T Fault) → reads_in ss ≡ reads → HasRead ss reads r
 read-all (Ok x) e = record { whole = sym e; up_to = tt }
 read-all {ss = ss} {reads = reads} (Err f) e = record { whole = tt; up_to = up-to-all ss reads f (sym e) }
 
-pub read-over : {T : Type 0} {ss ts : List Step} {reads : List Source} {r : Result T Fault} → ss ≡ ts → HasRead ss reads r → HasRead ts reads r
+pub read-over : {T : Type 0} {ss ts : List WorkStep} {reads : List Source} {r : Result T Fault} → ss ≡ ts → HasRead ss reads r → HasRead ts reads r
 read-over {reads = reads} {r = r} e h = subst (λ xs. HasRead xs reads r) e h
 
 -- rules read nothing, and a file is one read
@@ -112,7 +112,7 @@ only-rules : (o : Option Fault) (xs : List Source) → xs ≡ [] → cond (is_no
 only-rules None xs e = e
 only-rules (Some f) xs e = refl
 
-abbrev pub AreRules : List Step → Type 0
+abbrev pub AreRules : List WorkStep → Type 0
 AreRules [] = Unit {0}
 AreRules (s ∷ ss) = (s.reads ≡ None) × AreRules ss
 
@@ -120,7 +120,7 @@ quiet-one : (o : Option Source) (f : Option Fault) (xs : List Source) → o ≡ 
 quiet-one None f xs is e = only-rules f xs e
 quiet-one (Some x) f xs is e = absurd (cc)
 
-pub quiet : (ss : List Step) → AreRules ss → reads_in ss ≡ []
+pub quiet : (ss : List WorkStep) → AreRules ss → reads_in ss ≡ []
 quiet [] h = refl
 quiet (s ∷ ss) h = quiet-one s.reads s.fault (reads_in ss) h.0 (quiet ss h.1)
 
@@ -140,7 +140,7 @@ pub lines-quiet : (w : World) (p : Pipeline) (q : ExplainRequest) → reads_in (
 unfolding lines_step
 lines-quiet w p q = quiet (lines_step w p q ∷ []) (refl, tt)
 
-pub one-read : (s : Step) (source : Source) (ss : List Step) → s.reads ≡ Some source → AreRules ss → reads_in (s ∷ ss) ≡ source ∷ []
+pub one-read : (s : WorkStep) (source : Source) (ss : List WorkStep) → s.reads ≡ Some source → AreRules ss → reads_in (s ∷ ss) ≡ source ∷ []
 one-read s source ss is rules =
     ap (λ o. option_to_list o ++ cond (is_none s.fault) (reads_in ss) []) is ∙ ap (λ xs. source ∷ xs) (only-rules s.fault (reads_in ss) (quiet ss rules))
 

@@ -15,7 +15,7 @@ use Rattle.pl_words.specs.Request.{ExplainRequest}
 use Rattle.pl_judge.specs.declared.fault.Fault.TheVariants.{NotSession, UnknownSid, UnknownColumn, TooEarly, Passed}
 use Rattle.pl_judge.specs.declared.fault.Limit.TheVariants as limits
 use Rattle.pl_judge.specs.Range.{session_of, index_of}
-use Rattle.pl_judge.specs.Steps.{Step, rule, when}
+use Rattle.pl_judge.specs.Steps.{WorkStep, rule, when}
 
 -- the place of the asset of a sid
 abbrev pub asset_of : List AssetRow → ℕ → Option ℕ
@@ -34,7 +34,7 @@ term_reach days p t d = reach days (term_at p.graph t) (pos d)
 
 -- the date is a session, the sid is of an asset, the column is one of the pipeline, and its value on the date
 -- needs no session before the first one
-unfoldable pub cell_steps : Pipeline → List ℤ → List AssetRow → ExplainRequest → List Step
+unfoldable pub cell_steps : Pipeline → List ℤ → List AssetRow → ExplainRequest → List WorkStep
 cell_steps p days assets q =
     let needs = term_reach days p (term_asked p q) (index_of days q.date.day) in
     rule (when (not (is_some (session_of days q.date.day))) (NotSession At))
@@ -44,7 +44,7 @@ cell_steps p days assets q =
     ∷ []
 
 -- the derivation of the cell has no more lines than a derivation may have
-unfoldable pub lines_step : World → Pipeline → ExplainRequest → Step
+unfoldable pub lines_step : World → Pipeline → ExplainRequest → WorkStep
 lines_step w p q =
     let cell = TermValue (term_asked p q) q.sid (pos (index_of w.days q.date.day)) in
     rule (when (nat_lt most_lines (length (facts_for w p cell))) (Passed limits.Derivation))

@@ -8,7 +8,7 @@ use Rattle.pl_words.specs.Request.{Dated}
 use Rattle.pl_judge.specs.declared.fault.Fault.TheVariants.{NotSession, Backwards, TooEarly, Passed}
 use Rattle.pl_judge.specs.declared.fault.Limit.TheVariants.{Extra}
 use Rattle.pl_judge.specs.Planning.{reach_at, is_too_deep}
-use Rattle.pl_judge.specs.Steps.{Step, rule, when}
+use Rattle.pl_judge.specs.Steps.{WorkStep, rule, when}
 
 abbrev pub session_of : List ℤ → ℤ → Option ℕ
 session_of days day = position (λ d. int_eq d day) days
@@ -36,7 +36,7 @@ abbrev pub are_backwards : ℕ → ℕ → Option ℕ → Bool
 are_backwards from to as_of = nat_lt to from || unwrap_or (option_map (λ known. nat_lt known to) as_of) false
 
 -- the dates are sessions, in their order
-unfoldable pub dates_steps : Dated → Dated → Option Dated → List ℤ → List Step
+unfoldable pub dates_steps : Dated → Dated → Option Dated → List ℤ → List WorkStep
 dates_steps from to as_of days =
     rule (when (not (is_some (session_of days from.day))) (NotSession From))
     ∷ rule (when (not (is_some (session_of days to.day))) (NotSession To))
@@ -46,13 +46,13 @@ dates_steps from to as_of days =
 
 -- The range from .. to has a plan: on its first session no bars of a session before the first one are shown,
 -- and no term has too many extra rows.
-unfoldable pub plan_steps : Pipeline → List ℤ → ℕ → ℕ → List Step
+unfoldable pub plan_steps : Pipeline → List ℤ → ℕ → ℕ → List WorkStep
 plan_steps p days from to =
     rule (when (int_lt (reach_at days p from) (pos 0)) (TooEarly (reach_at days p from)))
     ∷ rule (when (is_too_deep days p from to) (Passed Extra))
     ∷ []
 
 -- the sessions of the dates, and the plan of a pipeline over them
-abbrev pub range_steps : Pipeline → List ℤ → Dated → Dated → Option Dated → List Step
+abbrev pub range_steps : Pipeline → List ℤ → Dated → Dated → Option Dated → List WorkStep
 range_steps p days from to as_of =
     dates_steps from to as_of days ++ plan_steps p days (index_of days from.day) (index_of days to.day)

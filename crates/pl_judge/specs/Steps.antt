@@ -11,21 +11,21 @@ pub data Source : Type 0 where
   Load : (table : Table) → Source
 
 -- one step of the work: what it reads, if it reads something, and its fault, if it has one
-pub record Step : Type 0 where
+pub record WorkStep : Type 0 where
   pub reads : Option Source
   pub fault : Option Fault
 
-abbrev pub first_fault : List Step → Option Fault
+abbrev pub first_fault : List WorkStep → Option Fault
 first_fault [] = None
 first_fault (s ∷ ss) = option_or s.fault (first_fault ss)
 
 -- some step reads it, and no step before that one has a fault
-abbrev pub ReachesRead : List Step → Source → Type 0
+abbrev pub ReachesRead : List WorkStep → Source → Type 0
 ReachesRead [] source = ⊥
 ReachesRead (s ∷ ss) source = (s.reads ≡ Some source) ⊎ ((s.fault ≡ None) × ReachesRead ss source)
 
 -- what the steps read, each once and in their order, up to the first step that has a fault
-abbrev pub reads_in : List Step → List Source
+abbrev pub reads_in : List WorkStep → List Source
 reads_in [] = []
 reads_in (s ∷ ss) = option_to_list s.reads ++ (if is_none s.fault then reads_in ss else [])
 
@@ -42,7 +42,7 @@ tables_read (Input file ∷ sources) = tables_read sources
 tables_read (Load table ∷ sources) = 1 + tables_read sources
 
 -- a step that judges what was read before
-abbrev pub rule : Option Fault → Step
+abbrev pub rule : Option Fault → WorkStep
 rule fault = record { reads = None; fault = fault }
 
 abbrev pub when : Bool → Fault → Option Fault

@@ -34,7 +34,7 @@ use Rattle.pl_judge.specs.declared.fault.RuleFault.TheVariants.{NoNumbers}
 use Rattle.pl_judge.specs.Contents.{Contents}
 use Rattle.pl_judge.specs.Rules.{syntax_fault, rule_fault, sessions_fault, assets_fault, labels_fault, numbers_fault, bars_fault, revisions_fault, payouts_fault, lines_fault, rows_fault}
 use Rattle.pl_judge.specs.Held.{script_in, pipeline_held, days_held, assets_held, world_held, adjustments_of_rows}
-use Rattle.pl_judge.specs.Steps.{Step, rule}
+use Rattle.pl_judge.specs.Steps.{WorkStep, rule}
 use Rattle.pl_judge.specs.Steps.Source.{Input, Load}
 use Rattle.pl_judge.specs.Range.{range_steps}
 use Rattle.pl_judge.specs.Cells.{cell_steps, lines_step}
@@ -68,7 +68,7 @@ abbrev pub file_fault : InputFile → (List ℕ → Option Fault) → Option (Li
 file_fault file rule None = Some (Unread file)
 file_fault file rule (Some bytes) = if nat_lt (cap_of file) (length bytes) then Some (Passed (limit_of file)) else rule bytes
 
-abbrev pub read_step : InputFile → (List ℕ → Option Fault) → Option (List ℕ) → Step
+abbrev pub read_step : InputFile → (List ℕ → Option Fault) → Option (List ℕ) → WorkStep
 read_step file rule bytes = record { reads = Some (Input file); fault = file_fault file rule bytes }
 
 -- ---- the rules of the bytes of files, of a script, of a pipeline and of the rows of three tables
@@ -128,11 +128,11 @@ rows_rule assets rows = fault_of_rows (adjustments_of_rows assets rows)
 
 -- ---- the work
 
-abbrev pub syntax_step : Option (List ℕ) → Step
+abbrev pub syntax_step : Option (List ℕ) → WorkStep
 syntax_step file = read_step PipelineFile syntax_rule file
 
 -- a pipeline file is read: its syntax, and then the rules of its script
-abbrev pub pipeline_steps : Option (List ℕ) → List Step
+abbrev pub pipeline_steps : Option (List ℕ) → List WorkStep
 pipeline_steps file = syntax_step file ∷ rule (script_rule (script_in file)) ∷ []
 
 -- A pipeline that mentions a number is not computed where no numbers file is named; the fault stands at the
@@ -144,92 +144,92 @@ abbrev pub unnumbered : Parsed → Option (List ℕ) → Option Fault
 unnumbered script None = option_map no_numbers_at (first_number script)
 unnumbered script (Some name) = None
 
-abbrev pub numbers_step : Parsed → Option (List ℕ) → Step
+abbrev pub numbers_step : Parsed → Option (List ℕ) → WorkStep
 numbers_step script numbers = rule (unnumbered script numbers)
 
 -- the pipeline file of a command that reads bars
-abbrev pub evaluated_steps : Option (List ℕ) → Option (List ℕ) → List Step
+abbrev pub evaluated_steps : Option (List ℕ) → Option (List ℕ) → List WorkStep
 evaluated_steps file numbers = pipeline_steps file ++ numbers_step (script_in file) numbers ∷ []
 
-abbrev pub sessions_step : Option (List ℕ) → Step
+abbrev pub sessions_step : Option (List ℕ) → WorkStep
 sessions_step file = read_step Sessions sessions_rule file
 
 -- a labels file is read where its name is asked for
-abbrev pub labels_steps : List AssetRow → Option (List ℕ) → Option (List ℕ) → List Step
+abbrev pub labels_steps : List AssetRow → Option (List ℕ) → Option (List ℕ) → List WorkStep
 labels_steps assets None file = []
 labels_steps assets (Some name) file = read_step Labels (labels_rule assets) file ∷ []
 
 -- and so is a numbers file
-abbrev pub numbers_steps : List AssetRow → Option (List ℕ) → Option (List ℕ) → List Step
+abbrev pub numbers_steps : List AssetRow → Option (List ℕ) → Option (List ℕ) → List WorkStep
 numbers_steps assets None file = []
 numbers_steps assets (Some name) file = read_step Numbers (numbers_rule assets) file ∷ []
 
-abbrev pub load_step : Table → Step
+abbrev pub load_step : Table → WorkStep
 load_step table = record { reads = Some (Load table); fault = None }
 
 -- where a name is asked for, the three tables are loaded, and then their rows are judged
-abbrev pub adjustments_steps : List AssetRow → Option (List ℕ) → (Table → List RawAdjust) → List Step
+abbrev pub adjustments_steps : List AssetRow → Option (List ℕ) → (Table → List RawAdjust) → List WorkStep
 adjustments_steps assets None rows = []
 adjustments_steps assets (Some name) rows =
     load_step Splits ∷ load_step Mergers ∷ load_step Dividends ∷ rule (rows_rule assets rows) ∷ []
 
 -- a revisions file is read where its name is asked for
-abbrev pub revisions_steps : List ℤ → List AssetRow → Option (List ℕ) → Option (List ℕ) → List Step
+abbrev pub revisions_steps : List ℤ → List AssetRow → Option (List ℕ) → Option (List ℕ) → List WorkStep
 revisions_steps days assets None file = []
 revisions_steps days assets (Some name) file = read_step Revisions (revisions_rule days assets) file ∷ []
 
 -- the tables come after the bars, and the revisions last
-abbrev pub revised_steps : List ℤ → List AssetRow → Contents → WorldNames → List Step
+abbrev pub revised_steps : List ℤ → List AssetRow → Contents → WorldNames → List WorkStep
 revised_steps days assets held q =
     adjustments_steps assets q.adjustments held.rows ++ revisions_steps days assets q.revisions (held.file Revisions)
 
 -- the labels, the numbers, the bars and the adjustments of a world with these sessions and assets
-abbrev pub rows_steps : List ℤ → List AssetRow → Contents → WorldNames → List Step
+abbrev pub rows_steps : List ℤ → List AssetRow → Contents → WorldNames → List WorkStep
 rows_steps days assets held q =
     labels_steps assets q.labels (held.file Labels)
     ++ (numbers_steps assets q.numbers (held.file Numbers)
     ++ read_step Bars (bars_rule days assets) (held.file Bars) ∷ revised_steps days assets held q)
 
 -- Each file is read whole and judged before the next one is begun.
-unfoldable pub data_steps : Contents → WorldNames → List Step
+unfoldable pub data_steps : Contents → WorldNames → List WorkStep
 data_steps held q =
     sessions_step (held.file Sessions) ∷ read_step Assets assets_rule (held.file Assets)
     ∷ rows_steps (days_held held) (assets_held held) held q
 
 -- first the pipeline file, then the data, and then the range
-abbrev pub run_steps : Contents → RunRequest → List Step
-run_steps held q =
+abbrev pub run_work : Contents → RunRequest → List WorkStep
+run_work held q =
     evaluated_steps (held.file PipelineFile) q.world.numbers
     ++ (data_steps held q.world ++ range_steps (pipeline_held held) (days_held held) q.from q.to q.options.as_of)
 
-abbrev pub derivation_step : Option (List ℕ) → Step
+abbrev pub derivation_step : Option (List ℕ) → WorkStep
 derivation_step file = read_step Derivation lines_rule file
 
 -- the pipeline file, the data, and then the cell
-abbrev pub cell_work : Contents → ExplainRequest → List Step
+abbrev pub cell_work : Contents → ExplainRequest → List WorkStep
 cell_work held q =
     evaluated_steps (held.file PipelineFile) q.world.numbers
     ++ (data_steps held q.world ++ cell_steps (pipeline_held held) (days_held held) (assets_held held) q)
 
 -- ... and how long its derivation is
-abbrev pub explain_steps : Contents → ExplainRequest → List Step
-explain_steps held q = cell_work held q ++ lines_step (world_held held q.world) (pipeline_held held) q ∷ []
+abbrev pub explain_work : Contents → ExplainRequest → List WorkStep
+explain_work held q = cell_work held q ++ lines_step (world_held held q.world) (pipeline_held held) q ∷ []
 
 -- the pipeline file, the data, and then the derivation
-abbrev pub verify_steps : Contents → VerifyRequest → List Step
-verify_steps held q =
+abbrev pub verify_work : Contents → VerifyRequest → List WorkStep
+verify_work held q =
     evaluated_steps (held.file PipelineFile) q.world.numbers
     ++ (data_steps held q.world ++ derivation_step (held.file Derivation) ∷ [])
 
 -- the pipeline file, the sessions, and the range
-abbrev pub planning_steps : Contents → PlanRequest → List Step
-planning_steps held q =
+abbrev pub plan_work : Contents → PlanRequest → List WorkStep
+plan_work held q =
     pipeline_steps (held.file PipelineFile)
     ++ (sessions_step (held.file Sessions) ∷ range_steps (pipeline_held held) (days_held held) q.from q.to None)
 
 -- the sessions, the assets, the bars, and then the payouts
-abbrev pub payouts_steps : Contents → List Step
-payouts_steps held =
+abbrev pub payouts_work : Contents → List WorkStep
+payouts_work held =
     let days = days_held held in
     let assets = assets_held held in
     sessions_step (held.file Sessions) ∷ read_step Assets assets_rule (held.file Assets)
@@ -237,14 +237,14 @@ payouts_steps held =
     ∷ read_step PayoutsFile (payouts_rule assets) (held.file PayoutsFile) ∷ []
 
 -- A stated world is read from nowhere, and a table that is computed session by session is judged as a run.
-unfoldable pub work : Contents → Option Request → List Step
+unfoldable pub work : Contents → Option Request → List WorkStep
 work held None = rule (Some Usage) ∷ []
-work held (Some (Run q)) = run_steps held q
+work held (Some (Run q)) = run_work held q
 work held (Some (Fmt name)) = syntax_step (held.file PipelineFile) ∷ []
 work held (Some (Check name)) = pipeline_steps (held.file PipelineFile)
-work held (Some (Plan q)) = planning_steps held q
+work held (Some (Plan q)) = plan_work held q
 work held (Some (Bench q)) = []
-work held (Some (Payouts q)) = payouts_steps held
-work held (Some (Explain q)) = explain_steps held q
-work held (Some (Verify q)) = verify_steps held q
-work held (Some (Daily q)) = run_steps held q
+work held (Some (Payouts q)) = payouts_work held
+work held (Some (Explain q)) = explain_work held q
+work held (Some (Verify q)) = verify_work held q
+work held (Some (Daily q)) = run_work held q

@@ -13,10 +13,10 @@ use Rattle.pl_spec.specs.World.{World, IsWorld, bar_cell, day_of, events_of, exi
 use Rattle.pl_pipeline.specs.Term.{Term}
 use Rattle.pl_pipeline.specs.Term.Term.{absent, column, node}
 use Rattle.pl_pipeline.specs.Value.{empty, sort_kind, value}
-use Rattle.pl_pipeline.specs.Table.{Pipeline, Row, is_kept, row, session_rows, table}
+use Rattle.pl_pipeline.specs.Table.{Pipeline, Row, is_kept, table_row, session_rows, table}
 use Rattle.pl_spec.specs.Dates.{date_text}
 use Rattle.pl_pipeline.specs.Text.{header, row_fields, row_line, text}
-use Rattle.pl_spec.specs.Lines.{line}
+use Rattle.pl_spec.specs.Lines.{line_text}
 use Rattle.pl_laws.specs.PermutedLaws.{AgreeingWorldsAreAlike}
 use Rattle.pl_laws.proofs.Law as law
 use Rattle.pl_laws.proofs.Law.{SeenAlike}
@@ -41,7 +41,7 @@ empty_there w names (column c) a s e = refl
 empty_there w names (node k size x y z m g) a s e = rw (not_there w a s e) refl
 
 no_rows : (w : World) (p : Pipeline) (s : ℤ) → day_of w s ≡ None → session_rows w p s ≡ []
-no_rows w p s e = ap (λ l. map (row w p s) (filter (is_kept w p p.screen s) l)) (none_living w s e)
+no_rows w p s e = ap (λ l. map (table_row w p s) (filter (is_kept w p p.screen s) l)) (none_living w s e)
 
 -- The worlds show the same on each session: whatever is looked up is the same, and of adjustments what they
 -- do to each cell.
@@ -103,7 +103,7 @@ module _ (w v : World) (ok : IsWorld w) (ok' : IsWorld v) (all : SeenInAll w v) 
 
   line_same : (p : Pipeline) (format : Format) (r : Row) → row_line w p format r ≡ row_line v p format r
   line_same p format r =
-      ap (λ o. line format (date_text (unwrap_or o (pos 0))) (decimal r.sid) (row_fields p format p.columns r.values)) (same-day r.session)
+      ap (λ o. line_text format (date_text (unwrap_or o (pos 0))) (decimal r.sid) (row_fields p format p.columns r.values)) (same-day r.session)
 
   pub text_same : (p : Pipeline) (format : Format) (from to : ℕ) → text w p format (table w p from to) ≡ text v p format (table v p from to)
   unfolding text

@@ -21,7 +21,7 @@ use Rattle.pl_laws.proofs.Starts.{start-same, start-within}
 use Rattle.pl_pipeline.specs.Term.{Term}
 use Rattle.pl_pipeline.specs.Term.Term.{absent, column, node}
 use Rattle.pl_pipeline.specs.Value.Value.{Number}
-use Rattle.pl_pipeline.specs.Value.{Meaning, part_of, number_of, holds, now, window_of, passes, in_group, entry, counts_for, eligible, group_of, label_value, name_at, test_value, step, value}
+use Rattle.pl_pipeline.specs.Value.{Meaning, part_of, number_of, holds, value_of_part, window_of, passes, in_group, entry, counts_for, eligible, group_of, label_value, name_at, test_value, kind_value, value}
 use Rattle.pl_spec.proofs.Lists.{filter-filter}
 use Rattle.pl_spec.proofs.Windows.{before-less}
 
@@ -208,7 +208,7 @@ module _ (w v : World) (d day : ℤ) (ok : IsWorld w) (ok' : IsWorld v) (agree :
   abbrev SameBy : Meaning → Meaning → Type 0
   SameBy f g = (a : ℕ) (s : ℤ) → s ≤ℤ d → f a s ≡ g a s
 
-  now_same : (t : Term) (f g : Meaning) → SameBy f g → SameBy (now (part_of t f)) (now (part_of t g))
+  now_same : (t : Term) (f g : Meaning) → SameBy f g → SameBy (value_of_part (part_of t f)) (value_of_part (part_of t g))
   now_same absent f g h a s l = refl
   now_same (column c) f g h a s l = refl
   now_same (node k size x y z m p) f g h a s l = h a s l
@@ -228,7 +228,7 @@ module _ (w v : World) (d day : ℤ) (ok : IsWorld w) (ok' : IsWorld v) (agree :
   in_group_same (column c) f g h a s b l = refl
   in_group_same (node k n x y z m p) f g h a s b l = rw (h a s l, h b s l) refl
 
-  entry_same : (t : Term) (f g : Meaning) → SameBy f g → (s : ℤ) → s ≤ℤ d → (b : ℕ) → number_of (now (part_of t f) b s) ≡ number_of (now (part_of t g) b s)
+  entry_same : (t : Term) (f g : Meaning) → SameBy f g → (s : ℤ) → s ≤ℤ d → (b : ℕ) → number_of (value_of_part (part_of t f) b s) ≡ number_of (value_of_part (part_of t g) b s)
   entry_same t f g h s l b = ap number_of (now_same t f g h b s l)
 
   eligible_same : (x m p : Term) (f f' g g' e e' : Meaning) → SameBy f f' → SameBy g g' → SameBy e e' → (a : ℕ) (s : ℤ) → s ≤ℤ d
@@ -254,9 +254,9 @@ module _ (w v : World) (d day : ℤ) (ok : IsWorld w) (ok' : IsWorld v) (agree :
 
   step_same : (names : List (List ℕ)) (k : Kind) (size : ℕ) (x y z m p : Term) (f f' g g' h h' q q' e e' : Meaning)
       → SameBy f f' → SameBy g g' → SameBy h h' → SameBy q q' → SameBy e e' → (a : ℕ) (s : ℤ) → s ≤ℤ d
-      → step w names k size (part_of x f) (part_of y g) (part_of z h) (part_of m q) (part_of p e) a s
-      ≡ step v names k size (part_of x f') (part_of y g') (part_of z h') (part_of m q') (part_of p e') a s
-  unfolding step
+      → kind_value w names k size (part_of x f) (part_of y g) (part_of z h) (part_of m q) (part_of p e) a s
+      ≡ kind_value v names k size (part_of x f') (part_of y g') (part_of z h') (part_of m q') (part_of p e') a s
+  unfolding kind_value
   step_same names (Constant cell) size x y z m p f f' g g' h h' q q' e e' hf hg hh hq he a s l = refl
   step_same names (Label n) size x y z m p f f' g g' h h' q q' e e' hf hg hh hq he a s l = ap label_value (agree.labels (name_at names n) a s l)
   step_same names (kinds.Number n) size x y z m p f f' g g' h h' q q' e e' hf hg hh hq he a s l = ap Number (number_same (name_at names n) a s l)
@@ -269,7 +269,7 @@ module _ (w v : World) (d day : ℤ) (ok : IsWorld w) (ok' : IsWorld v) (agree :
   step_same names (Cross k) size x y z m p f f' g g' h h' q q' e e' hf hg hh hq he a s l =
       rw (group_same k x m p f f' q q' e e' hf hq he a s l, entry_same x f f' hf s l a) refl
   step_same names (Downsample k) size x y z m p f f' g g' h h' q q' e e' hf hg hh hq he a s l =
-      ap (now (part_of x f) a) (start-same k w.days v.days s (λ i n. agree.days (pos i) (omega (arith, ints))))
+      ap (value_of_part (part_of x f) a) (start-same k w.days v.days s (λ i n. agree.days (pos i) (omega (arith, ints))))
       ∙ now_same x f f' hf a (period_start k v.days s) (omega (arith, ints, start-within k v.days s))
 
   -- The law: values at sessions up to d are the same in both worlds.
@@ -279,7 +279,7 @@ module _ (w v : World) (d day : ℤ) (ok : IsWorld w) (ok' : IsWorld v) (agree :
   values_agree names (column c) a s l = refl
   values_agree names (node k size x y z m p) a s l =
       let same_mask : passes (part_of m (value w names m)) a s ≡ passes (part_of m (value v names m)) a s = passes_same m (value w names m) (value v names m) (values_agree names m) a s l in
-      let same_step : step w names k size (part_of x (value w names x)) (part_of y (value w names y)) (part_of z (value w names z)) (part_of m (value w names m)) (part_of p (value w names p)) a s
-      ≡ step v names k size (part_of x (value v names x)) (part_of y (value v names y)) (part_of z (value v names z)) (part_of m (value v names m)) (part_of p (value v names p)) a s
+      let same_step : kind_value w names k size (part_of x (value w names x)) (part_of y (value w names y)) (part_of z (value w names z)) (part_of m (value w names m)) (part_of p (value w names p)) a s
+      ≡ kind_value v names k size (part_of x (value v names x)) (part_of y (value v names y)) (part_of z (value v names z)) (part_of m (value v names m)) (part_of p (value v names p)) a s
       = step_same names k size x y z m p _ _ _ _ _ _ _ _ _ _ (values_agree names x) (values_agree names y) (values_agree names z) (values_agree names m) (values_agree names p) a s l in
       rw (agree.lifetimes a s l, same_mask, same_step) refl

@@ -10,7 +10,7 @@ use Rattle.pl_pipeline.specs.Kind.Kind.{Constant, Label, StaticSids, Window, Poi
 use Rattle.pl_pipeline.specs.Cross.{Entry, cross}
 use Rattle.pl_pipeline.specs.Term.{Term}
 use Rattle.pl_pipeline.specs.Term.Term.{absent, column, node}
-use Rattle.pl_pipeline.specs.Value.{Part, part_of, number_of, holds, now, passes, in_group, entry, counts_for, eligible, group_of, sort_over, sort_kind, empty, step, value}
+use Rattle.pl_pipeline.specs.Value.{Part, part_of, number_of, holds, value_of_part, passes, in_group, entry, counts_for, eligible, group_of, sort_over, sort_kind, empty, kind_value, value}
 use Rattle.pl_pipeline.specs.Value.Value.{Number}
 use Rattle.pl_pipeline.specs.Value.Part.{Nothing}
 
@@ -27,15 +27,15 @@ module _ (w : World) (names : List (List ℕ)) (mask : Part) (d : ℤ) (open_to_
   eligible-open x group a =
       ap (map (entry x d))
       (filter-agree (counts_for x mask group a d) (counts_for x Nothing group a d) (living_sids w d)
-      (λ b e. ap (λ t. t && is_present (number_of (now x b d)) && in_group group a d b) (open_to_all b e)))
+      (λ b e. ap (λ t. t && is_present (number_of (value_of_part x b d)) && in_group group a d b) (open_to_all b e)))
 
   cross-open : (k : CrossKind) (x group : Part) (a : ℕ) (list other : List Entry) → list ≡ other
-      → cond (list_any (λ e. e.0 == a) list) (Number (cross k list a (number_of (now x a d)))) (empty (Cross k))
-      ≡ cond (list_any (λ e. e.0 == a) other) (Number (cross k other a (number_of (now x a d)))) (empty (Cross k))
-  cross-open k x group a list other e = ap (λ l. cond (list_any (λ e. e.0 == a) l) (Number (cross k l a (number_of (now x a d)))) (empty (Cross k))) e
+      → cond (list_any (λ e. e.0 == a) list) (Number (cross k list a (number_of (value_of_part x a d)))) (empty (Cross k))
+      ≡ cond (list_any (λ e. e.0 == a) other) (Number (cross k other a (number_of (value_of_part x a d)))) (empty (Cross k))
+  cross-open k x group a list other e = ap (λ l. cond (list_any (λ e. e.0 == a) l) (Number (cross k l a (number_of (value_of_part x a d)))) (empty (Cross k))) e
 
-  pub step-open : (kind : Kind) (size : ℕ) (x y z group : Part) (a : ℕ) → step w names kind size x y z mask group a d ≡ step w names kind size x y z Nothing group a d
-  unfolding step
+  pub step-open : (kind : Kind) (size : ℕ) (x y z group : Part) (a : ℕ) → kind_value w names kind size x y z mask group a d ≡ kind_value w names kind size x y z Nothing group a d
+  unfolding kind_value
   step-open (Constant cell) size x y z group a = refl
   step-open (Label n) size x y z group a = refl
   step-open (kinds.Number n) size x y z group a = refl
@@ -78,6 +78,6 @@ module _ (w : World) (names : List (List ℕ)) where
       G = part_of group (value w names group)
 
       here : (b : Bool) → exists w a d ≡ b
-          → cond (b && passes M a d) (step w names kind size X Y Z M G a d) (empty (sort_over kind (sort_kind x))) ≡ cond (b && true) (step w names kind size X Y Z Nothing G a d) (empty (sort_over kind (sort_kind x)))
+          → cond (b && passes M a d) (kind_value w names kind size X Y Z M G a d) (empty (sort_over kind (sort_kind x))) ≡ cond (b && true) (kind_value w names kind size X Y Z Nothing G a d) (empty (sort_over kind (sort_kind x)))
       here false e = refl
       here true e = rw (passes-open mask open_to_all a d e) (step-open w names M d (λ b f. passes-open mask open_to_all b d f) kind size X Y Z G a)

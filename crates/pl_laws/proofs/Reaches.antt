@@ -13,7 +13,7 @@ use Rattle.pl_pipeline.specs.Kind.Kind.{Constant, Label, Number, StaticSids, Win
 use Rattle.pl_pipeline.specs.Kind.CrossKind.{PeerCount}
 use Rattle.pl_pipeline.specs.Term.{Term}
 use Rattle.pl_pipeline.specs.Term.Term.{absent, column, node}
-use Rattle.pl_pipeline.specs.Value.{Meaning, part_of, number_of, holds, now, window_of, passes, in_group, entry, counts_for, eligible, group_of, test_value, step, value}
+use Rattle.pl_pipeline.specs.Value.{Meaning, part_of, number_of, holds, value_of_part, window_of, passes, in_group, entry, counts_for, eligible, group_of, test_value, kind_value, value}
 use Rattle.pl_pipeline.specs.Graph.{least_of, part_reach, reads_at, reach}
 use Rattle.pl_spec.specs.Periods.{period_start}
 use Rattle.pl_pipeline.specs.Reaching.{HasWindows, SameBarsFrom}
@@ -78,12 +78,12 @@ module _ (w : World) (bars : List Bar) (low : ℤ) (same : SameBarsFrom w (recor
     abbrev SameNow : Meaning → Meaning → Type 0
     SameNow f g = (b : ℕ) → f b d ≡ g b d
 
-    now_same : (t : Term) (f g : Meaning) → SameNow f g → SameNow (now (part_of t f)) (now (part_of t g))
+    now_same : (t : Term) (f g : Meaning) → SameNow f g → SameNow (value_of_part (part_of t f)) (value_of_part (part_of t g))
     now_same absent f g h b = refl
     now_same (column c) f g h b = refl
     now_same (node k size x y z m p) f g h b = h b
 
-    number_same : (t : Term) (f g : Meaning) → SameNow f g → (b : ℕ) → number_of (now (part_of t f) b d) ≡ number_of (now (part_of t g) b d)
+    number_same : (t : Term) (f g : Meaning) → SameNow f g → (b : ℕ) → number_of (value_of_part (part_of t f) b d) ≡ number_of (value_of_part (part_of t g) b d)
     number_same t f g h b = ap number_of (now_same t f g h b)
 
     passes_same : (t : Term) (f g : Meaning) → SameNow f g → (b : ℕ) → passes (part_of t f) b d ≡ passes (part_of t g) b d
@@ -121,9 +121,9 @@ module _ (w : World) (bars : List Bar) (low : ℤ) (same : SameBarsFrom w (recor
       → low ≤ℤ part_reach x (reach w.days x) size (reads_at w.days k d) → low ≤ℤ part_reach y (reach w.days y) size (reads_at w.days k d)
       → low ≤ℤ part_reach z (reach w.days z) size (reads_at w.days k d)
       → low ≤ℤ part_reach m (reach w.days m) 1 d → low ≤ℤ part_reach p (reach w.days p) 1 d → (a : ℕ)
-      → step w names k size (part_of x f) (part_of y g) (part_of z h) (part_of m q) (part_of p e) a d
-      ≡ step other names k size (part_of x f') (part_of y g') (part_of z h') (part_of m q') (part_of p e') a d
-  unfolding step
+      → kind_value w names k size (part_of x f) (part_of y g) (part_of z h) (part_of m q) (part_of p e) a d
+      ≡ kind_value other names k size (part_of x f') (part_of y g') (part_of z h') (part_of m q') (part_of p e') a d
+  unfolding kind_value
   step_same names (Constant cell) size x y z m p f f' g g' h h' q q' e e' d some hf hg hh hq he rx ry rz rm rp a = refl
   step_same names (Label n) size x y z m p f f' g g' h h' q q' e e' d some hf hg hh hq he rx ry rz rm rp a = refl
   step_same names (Number n) size x y z m p f f' g g' h h' q q' e e' d some hf hg hh hq he rx ry rz rm rp a = refl

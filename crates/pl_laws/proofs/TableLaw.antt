@@ -5,7 +5,7 @@ use Rattle.std.specs.List.{range_with_len}
 use Rattle.std.proofs.lemmas.Int.{ints}
 use Rattle.pl_spec.specs.World.{World, IsWorld, living_sids}
 use Rattle.pl_pipeline.specs.Value.{Value, holds}
-use Rattle.pl_pipeline.specs.Table.{Pipeline, Row, is_kept, kept_sids, row, session_rows, table}
+use Rattle.pl_pipeline.specs.Table.{Pipeline, Row, is_kept, kept_sids, table_row, session_rows, table}
 use Rattle.pl_laws.proofs.Law as law
 use Rattle.pl_laws.proofs.Law.{SeenAlike}
 
@@ -24,14 +24,14 @@ module _ (w v : World) (d day : ℤ) (ok : IsWorld w) (ok' : IsWorld v) (agree :
       screened None = refl
       screened (Some t) = fun_ext (λ a. ap holds (law.values_agree w v d day ok ok' agree p.names _ a s l))
 
-  row_same : (s : ℤ) → s ≤ℤ d → row w p s ≡ row v p s
+  row_same : (s : ℤ) → s ≤ℤ d → table_row w p s ≡ table_row v p s
   row_same s l = fun_ext (λ a. ap (λ vs. made a vs) (ap (λ f. map f p.columns) (fun_ext (λ c. law.values_agree w v d day ok ok' agree p.names _ a s l))))
     where
       made : ℕ → List Value → Row
       made a vs = record { session = s; sid = a; values = vs }
 
   pub rows_same : (s : ℤ) → s ≤ℤ d → session_rows w p s ≡ session_rows v p s
-  rows_same s l = ap (λ f. map f (kept_sids w p s)) (row_same s l) ∙ ap (map (row v p s)) (kept_same s l)
+  rows_same s l = ap (λ f. map f (kept_sids w p s)) (row_same s l) ∙ ap (map (table_row v p s)) (kept_same s l)
 
   pub table_same : (from to : ℕ) → pos to ≤ℤ d → table w p from to ≡ table v p from to
   table_same from to l = range_same (λ s. session_rows w p (pos s)) (λ s. session_rows v p (pos s)) (suc to - from) from (λ k m h. rows_same (pos k) (omega (arith, ints)))

@@ -13,7 +13,7 @@ use Rattle.pl_judge.specs.declared.fault.Fault.{Fault}
 use Rattle.pl_judge.specs.declared.fault.Fault.TheVariants.{Unread, Unloaded, Passed, Memory}
 use Rattle.pl_judge.specs.declared.fault.Limit.{Limit}
 use Rattle.pl_judge.specs.Rules.{told_at}
-use Rattle.pl_judge.specs.Steps.{Step, first_fault}
+use Rattle.pl_judge.specs.Steps.{WorkStep, first_fault}
 use Rattle.pl_judge.specs.Work.{cap_of, limit_of, read_step, file_fault, fault_in}
 use Rattle.pl_judge.specs.Stages.{IsStop, IsRisen, StopsOutside}
 use Rattle.pl_judge.proofs.Steps.{risen-inside}
@@ -31,7 +31,7 @@ held-told tells name = λ n is files f. rw (is, f) refl
 
 module _ {c : Change ShelfView} where
   -- memory may be wanted at any place
-  pub wanting : {T : Type 0} (name : List ℕ) (steps : Option (List ℕ) → List Step) (Means : Option (List ℕ) → T → Type 0)
+  pub wanting : {T : Type 0} (name : List ℕ) (steps : Option (List ℕ) → List WorkStep) (Means : Option (List ℕ) → T → Type 0)
       → BeginsAll c.before.begun c.after.begun (name ∷ []) → ShelfLeft c → IsRead c (Some name) steps Means (Err Memory)
   wanting name steps Means begun kept =
       record {
@@ -169,7 +169,7 @@ read-stops {bytes = bytes} f rule Means fault h few stops inside =
     }
 
 -- no name is given, and no file is read
-pub not-asked : {T : Type 0} {a : ShelfView} {steps : Option (List ℕ) → List Step} {Means : Option (List ℕ) → T → Type 0} {x : T} → steps None ≡ [] → Means None x
+pub not-asked : {T : Type 0} {a : ShelfView} {steps : Option (List ℕ) → List WorkStep} {Means : Option (List ℕ) → T → Type 0} {x : T} → steps None ≡ [] → Means None x
     → IsRead (change a a) None steps Means (Ok x)
 not-asked {a = a} none means =
     record {

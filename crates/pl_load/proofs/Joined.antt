@@ -13,7 +13,7 @@ use Rattle.pl_words.specs.Request.{Request, name_asked, adjustments_of}
 use Rattle.pl_judge.specs.declared.fault.Fault.{Fault}
 use Rattle.pl_judge.specs.declared.fault.Fault.TheVariants.{Memory}
 use Rattle.pl_judge.specs.Contents.{Contents, AreHeld}
-use Rattle.pl_judge.specs.Steps.{Source, Step, reads_in, names_read, tables_read, rule}
+use Rattle.pl_judge.specs.Steps.{Source, WorkStep, reads_in, names_read, tables_read, rule}
 use Rattle.pl_judge.specs.Steps.Source.{Input}
 use Rattle.pl_judge.specs.Stages.{StageEnds, IsRisen}
 use Rattle.pl_judge.specs.Held.{script_in}
@@ -94,7 +94,7 @@ by-file P f x y p q g = q g
 
 -- ---- two parts after each other
 
-ends-back : {T : Type 0} {s t k l : Bool} {ss : List Step} {r : Result T Fault} → s ≡ t → k ≡ l → StageEnds s k ss r → StageEnds t l ss r
+ends-back : {T : Type 0} {s t k l : Bool} {ss : List WorkStep} {r : Result T Fault} → s ≡ t → k ≡ l → StageEnds s k ss r → StageEnds t l ss r
 ends-back {t = t} {k = k} {ss = ss} {r = r} e f h = subst (λ x. StageEnds t x ss r) f (subst (λ x. StageEnds x k ss r) e h)
 
 held-back : {f g : Option Files} {k l : Option Lists} {asked : Option Request} {held : Contents} → f ≡ g → k ≡ l → AreHeld f k asked held → AreHeld g l asked held
@@ -102,8 +102,8 @@ held-back {g = g} {k = k} {asked = asked} {held = held} e f h = subst (λ x. Are
 
 module _ {a b : ShelfView} {k l : KeeperView} {asked : Option Request} where
   -- the first part stops the work
-  pub stops : {T U : Type 0} {first steps : Contents → List Step} {First : Contents → T → Type 0} {Means : Contents → U → Type 0} {fault : Fault}
-      → IsLoadOf (change a b) (change k l) asked first First (Err fault) → (more : Contents → List Step) → ((f : Contents) → steps f ≡ first f ++ more f)
+  pub stops : {T U : Type 0} {first steps : Contents → List WorkStep} {First : Contents → T → Type 0} {Means : Contents → U → Type 0} {fault : Fault}
+      → IsLoadOf (change a b) (change k l) asked first First (Err fault) → (more : Contents → List WorkStep) → ((f : Contents) → steps f ≡ first f ++ more f)
       → IsLoadOf (change a b) (change k l) asked steps Means (Err fault)
   stops h more same =
       record {
@@ -122,14 +122,14 @@ module _ {a b : ShelfView} {k l : KeeperView} {asked : Option Request} where
       }
 
   -- the same of a part, of which no answer is kept
-  pub part-stops : {T : Type 0} {first : Contents → List Step} {First : Contents → T → Type 0} {fault : Fault} (steps : Contents → List Step)
-      → IsLoadOf (change a b) (change k l) asked first First (Err fault) → (more : Contents → List Step) → ((f : Contents) → steps f ≡ first f ++ more f)
+  pub part-stops : {T : Type 0} {first : Contents → List WorkStep} {First : Contents → T → Type 0} {fault : Fault} (steps : Contents → List WorkStep)
+      → IsLoadOf (change a b) (change k l) asked first First (Err fault) → (more : Contents → List WorkStep) → ((f : Contents) → steps f ≡ first f ++ more f)
       → IsLoadOf (change a b) (change k l) asked steps (λ held (u : Unit {0}). Unit {0}) (Err fault)
   part-stops steps h more same = stops h more same
 
 module _ {a b c : ShelfView} {k l m : KeeperView} {asked : Option Request} where
   -- the first part passes, and in the rest the work stops ...
-  pub stops-later : {T U V : Type 0} {first rest steps : Contents → List Step} {First : Contents → T → Type 0} {Rest : Contents → U → Type 0}
+  pub stops-later : {T U V : Type 0} {first rest steps : Contents → List WorkStep} {First : Contents → T → Type 0} {Rest : Contents → U → Type 0}
       {Means : Contents → V → Type 0} {x : T} {fault : Fault}
       → IsLoadOf (change a b) (change k l) asked first First (Ok x) → IsLoadOf (change b c) (change l m) asked rest Rest (Err fault)
       → (picked : InputFile → Bool) (tables : Bool) → ((f r : Contents) → First f x → steps (joint picked tables f r) ≡ first f ++ rest r)
@@ -151,7 +151,7 @@ module _ {a b c : ShelfView} {k l m : KeeperView} {asked : Option Request} where
       }
 
   -- ... or all of it is done
-  pub both-done : {T U V : Type 0} {first rest steps : Contents → List Step} {First : Contents → T → Type 0} {Rest : Contents → U → Type 0}
+  pub both-done : {T U V : Type 0} {first rest steps : Contents → List WorkStep} {First : Contents → T → Type 0} {Rest : Contents → U → Type 0}
       {Means : Contents → V → Type 0} {x : T} {y : U} {z : V}
       → IsLoadOf (change a b) (change k l) asked first First (Ok x) → IsLoadOf (change b c) (change l m) asked rest Rest (Ok y)
       → (picked : InputFile → Bool) (tables : Bool) → ((f r : Contents) → First f x → steps (joint picked tables f r) ≡ first f ++ rest r)
@@ -174,7 +174,7 @@ module _ {a b c : ShelfView} {k l m : KeeperView} {asked : Option Request} where
       }
 
   -- the same, where the last part's answer is the whole's
-  pub last-done : {T U : Type 0} {first rest steps : Contents → List Step} {First : Contents → T → Type 0} {Rest Means : Contents → U → Type 0}
+  pub last-done : {T U : Type 0} {first rest steps : Contents → List WorkStep} {First : Contents → T → Type 0} {Rest Means : Contents → U → Type 0}
       {x : T} (r : Result U Fault)
       → IsLoadOf (change a b) (change k l) asked first First (Ok x) → IsLoadOf (change b c) (change l m) asked rest Rest r
       → (picked : InputFile → Bool) (tables : Bool) → ((f r : Contents) → First f x → steps (joint picked tables f r) ≡ first f ++ rest r)
@@ -184,15 +184,15 @@ module _ {a b c : ShelfView} {k l m : KeeperView} {asked : Option Request} where
   last-done (Err fault) h r picked tables same means = stops-later h r picked tables same
 
   -- the same of a part, of which no answer is kept but what its files mean
-  pub part-stops-later : {T U : Type 0} {first rest : Contents → List Step} {First : Contents → T → Type 0} {Rest : Contents → U → Type 0}
-      {x : T} {fault : Fault} (steps : Contents → List Step)
+  pub part-stops-later : {T U : Type 0} {first rest : Contents → List WorkStep} {First : Contents → T → Type 0} {Rest : Contents → U → Type 0}
+      {x : T} {fault : Fault} (steps : Contents → List WorkStep)
       → IsLoadOf (change a b) (change k l) asked first First (Ok x) → IsLoadOf (change b c) (change l m) asked rest Rest (Err fault)
       → (picked : InputFile → Bool) (tables : Bool) → ((f r : Contents) → First f x → steps (joint picked tables f r) ≡ first f ++ rest r)
       → IsLoadOf (change a c) (change k m) asked steps (λ held (u : Unit {0}). Unit {0}) (Err fault)
   part-stops-later steps h r picked tables same = stops-later h r picked tables same
 
-  pub part-done : {T U : Type 0} {first rest : Contents → List Step} {First : Contents → T → Type 0} {Rest : Contents → U → Type 0}
-      {x : T} {y : U} (steps : Contents → List Step) (Means : Contents → Type 0)
+  pub part-done : {T U : Type 0} {first rest : Contents → List WorkStep} {First : Contents → T → Type 0} {Rest : Contents → U → Type 0}
+      {x : T} {y : U} (steps : Contents → List WorkStep) (Means : Contents → Type 0)
       → IsLoadOf (change a b) (change k l) asked first First (Ok x) → IsLoadOf (change b c) (change l m) asked rest Rest (Ok y)
       → (picked : InputFile → Bool) (tables : Bool) → ((f r : Contents) → First f x → steps (joint picked tables f r) ≡ first f ++ rest r)
       → ((f r : Contents) → First f x → Rest r y → Means (joint picked tables f r))
@@ -201,13 +201,13 @@ module _ {a b c : ShelfView} {k l m : KeeperView} {asked : Option Request} where
 
 -- ---- the parts
 
-ends-inside : {T : Type 0} {ss : List Step} (s k : Bool) (r : Result T Fault) → StageEnds true true ss r → StageEnds s k ss r
+ends-inside : {T : Type 0} {ss : List WorkStep} (s k : Bool) (r : Result T Fault) → StageEnds true true ss r → StageEnds s k ss r
 ends-inside s k (Ok x) h = stage-done h
 ends-inside s k (Err f) h = stage-weaker always always h
 
 module _ (a : ShelfView) (k : KeeperView) (asked : Option Request) where
   -- a judgement of what was read before, which answers this
-  pub judged-as : {T : Type 0} {ss : List Step} (Means : T → Type 0) (r : Result T Fault) → reads_in ss ≡ [] → StageEnds true true ss r
+  pub judged-as : {T : Type 0} {ss : List WorkStep} (Means : T → Type 0) (r : Result T Fault) → reads_in ss ≡ [] → StageEnds true true ss r
       → IfErr r (IsRisen ⊥ ⊥) → IfOk r Means → IsLoadOf (change a a) (change k k) asked (λ held. ss) (λ held x. Means x) r
   judged-as Means r quiet ends risen means =
       record {
@@ -225,16 +225,16 @@ module _ (a : ShelfView) (k : KeeperView) (asked : Option Request) where
         alone = λ none. alone-same k;
       }
 
-  pub judged : {T : Type 0} {ss : List Step} {x : T} → reads_in ss ≡ [] → StageEnds true true ss (Ok x)
+  pub judged : {T : Type 0} {ss : List WorkStep} {x : T} → reads_in ss ≡ [] → StageEnds true true ss (Ok x)
       → IsLoadOf (change a a) (change k k) asked (λ held. ss) (λ held (y : T). Unit {0}) (Ok x)
   judged {x = x} quiet ends = judged-as (λ y. Unit {0}) (Ok x) quiet ends tt tt
 
-  pub refused : {T : Type 0} {ss : List Step} {fault : Fault} → reads_in ss ≡ [] → StageEnds {T = T} true true ss (Err fault) → IsRisen ⊥ ⊥ fault
+  pub refused : {T : Type 0} {ss : List WorkStep} {fault : Fault} → reads_in ss ≡ [] → StageEnds {T = T} true true ss (Err fault) → IsRisen ⊥ ⊥ fault
       → IsLoadOf (change a a) (change k k) asked (λ held. ss) (λ held (y : T). Unit {0}) (Err fault)
   refused {fault = fault} quiet ends risen = judged-as (λ y. Unit {0}) (Err fault) quiet ends risen tt
 
   -- memory may be wanted at any place
-  pub wants-memory : {T : Type 0} (steps : Contents → List Step) (Means : Contents → T → Type 0) → IsLoadOf (change a a) (change k k) asked steps Means (Err Memory)
+  pub wants-memory : {T : Type 0} (steps : Contents → List WorkStep) (Means : Contents → T → Type 0) → IsLoadOf (change a a) (change k k) asked steps Means (Err Memory)
   wants-memory steps Means =
       record {
         held = left a.holds k.lists asked;
@@ -263,16 +263,16 @@ no-tables : (f : InputFile) (name : Option (List ℕ)) → tables_read (inputs f
 no-tables f None = refl
 no-tables f (Some n) = refl
 
-of-shelf : {T : Type 0} (s k : Bool) (ss : List Step) (r : Result T Fault) → StageEnds s true ss r → StageEnds s k ss r
+of-shelf : {T : Type 0} (s k : Bool) (ss : List WorkStep) (r : Result T Fault) → StageEnds s true ss r → StageEnds s k ss r
 of-shelf s k ss (Ok x) h = stage-done h
 of-shelf s k ss (Err f) h = stage-weaker (λ t. t) always h
 
-of-keeper : {T : Type 0} (s : Bool) (k : Bool) (ss : List Step) (r : Result T Fault) → StageEnds true k ss r → StageEnds s k ss r
+of-keeper : {T : Type 0} (s : Bool) (k : Bool) (ss : List WorkStep) (r : Result T Fault) → StageEnds true k ss r → StageEnds s k ss r
 of-keeper s k ss (Ok x) h = stage-done h
 of-keeper s k ss (Err f) h = stage-weaker always (λ t. t) h
 
 -- a file was read, or wasn't
-pub file-read : {T : Type 0} {c : Change ShelfView} {steps : Option (List ℕ) → List Step} {Means : Option (List ℕ) → T → Type 0} {name : Option (List ℕ)} {r : Result T Fault}
+pub file-read : {T : Type 0} {c : Change ShelfView} {steps : Option (List ℕ) → List WorkStep} {Means : Option (List ℕ) → T → Type 0} {name : Option (List ℕ)} {r : Result T Fault}
     (k : KeeperView) (asked : Option Request) (f : InputFile) → name_asked asked f ≡ name → ((x : Option (List ℕ)) → reads_in (steps x) ≡ inputs f name)
     → IsRead c name steps Means r → IsLoadOf c (change k k) asked (λ held. steps (held.file f)) (λ held. Means (held.file f)) r
 file-read {c = c} {steps = steps} {Means = Means} {name = name} {r = r} k asked f named one h =
@@ -297,7 +297,7 @@ file-read {c = c} {steps = steps} {Means = Means} {name = name} {r = r} k asked 
     }
 
 -- the tables were loaded, or weren't
-pub tables-loaded : {T : Type 0} {c : Change KeeperView} {steps : (Table → List RawAdjust) → List Step} {Means : (Table → List RawAdjust) → T → Type 0} {name : Option (List ℕ)} {r : Result T Fault}
+pub tables-loaded : {T : Type 0} {c : Change KeeperView} {steps : (Table → List RawAdjust) → List WorkStep} {Means : (Table → List RawAdjust) → T → Type 0} {name : Option (List ℕ)} {r : Result T Fault}
     (a : ShelfView) (asked : Option Request) → adjustments_of asked ≡ name
     → AreLoaded c name steps Means r → IsLoadOf (change a a) c asked (λ held. steps held.rows) (λ held. Means held.rows) r
 tables-loaded {c = c} {steps = steps} {name = name} {r = r} a asked named h =

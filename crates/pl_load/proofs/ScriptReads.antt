@@ -17,7 +17,7 @@ use Rattle.pl_judge.specs.declared.fault.Fault.TheVariants.{Memory}
 use Rattle.pl_judge.specs.Rules.{syntax_error, check_error}
 use Rattle.pl_judge.specs.Held.{script_in, pipeline_in}
 use Rattle.pl_judge.specs.Work.{syntax_rule, script_rule, syntax_step, pipeline_steps, evaluated_steps, numbers_step}
-use Rattle.pl_judge.specs.Steps.{Step, rule}
+use Rattle.pl_judge.specs.Steps.{WorkStep, rule}
 use Rattle.pl_judge.specs.Stages.{StageEnds, IsRisen}
 use Rattle.pl_judge.proofs.Steps.{always, stage-done, stage-goes_on, stage-over, stage-stops, stage-weaker, risen-inside}
 use Rattle.pl_load.specs.Reads.{IsRead}
@@ -85,8 +85,8 @@ no-pipeline {script = script} said Means e fault h fails is inside =
     })
 
 -- what stops some steps stops them with more
-pub stopped-before : {S T : Type 0} {c : Change ShelfView} {name : Option (List ℕ)} {fault : Fault} {first steps : Option (List ℕ) → List Step} {First : Option (List ℕ) → S → Type 0}
-    {Means : Option (List ℕ) → T → Type 0} → IsRead c name first First (Err fault) → (more : Option (List ℕ) → List Step) → ((x : Option (List ℕ)) → steps x ≡ first x ++ more x)
+pub stopped-before : {S T : Type 0} {c : Change ShelfView} {name : Option (List ℕ)} {fault : Fault} {first steps : Option (List ℕ) → List WorkStep} {First : Option (List ℕ) → S → Type 0}
+    {Means : Option (List ℕ) → T → Type 0} → IsRead c name first First (Err fault) → (more : Option (List ℕ) → List WorkStep) → ((x : Option (List ℕ)) → steps x ≡ first x ++ more x)
     → IsRead c name steps Means (Err fault)
 stopped-before h more same =
     record {

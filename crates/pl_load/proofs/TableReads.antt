@@ -16,7 +16,7 @@ use Rattle.pl_judge.specs.declared.fault.Fault.{Fault}
 use Rattle.pl_judge.specs.declared.fault.Fault.TheVariants.{Unloaded, Memory}
 use Rattle.pl_judge.specs.Rules.{told, rows_fault}
 use Rattle.pl_judge.specs.Held.{adjustments_asked, adjustments_from}
-use Rattle.pl_judge.specs.Steps.{Source, Step, ReachesRead, reads_in, names_read, tables_read, rule}
+use Rattle.pl_judge.specs.Steps.{Source, WorkStep, ReachesRead, reads_in, names_read, tables_read, rule}
 use Rattle.pl_judge.specs.Steps.Source.{Load}
 use Rattle.pl_judge.specs.Work.{adjustments_steps, rows_rule}
 use Rattle.pl_judge.specs.Stages.{StopsOutside, IsFront, IsReadUpTo, IsRisen}
@@ -66,7 +66,7 @@ pub two-calls : (a b c : ℕ) → b ≡ count_plus a 1 → c ≡ count_plus b 1 
 two-calls a b c e f = rw (f, e) (omega arith)
 
 -- what was read up to a table, which was not loaded
-up-to-table : (ss : List Step) (reads : List Source) (table : Table) (sound : Bool) (risen : Type 0) (fault : Fault) → IsUnloaded sound risen table fault
+up-to-table : (ss : List WorkStep) (reads : List Source) (table : Table) (sound : Bool) (risen : Type 0) (fault : Fault) → IsUnloaded sound risen table fault
     → IsFront reads (reads_in ss) → IsReadUpTo ss reads fault
 up-to-table ss reads table sound risen (Unloaded t) h front = front
 up-to-table ss reads table sound risen Memory h front = front

@@ -14,8 +14,8 @@ use Rattle.pl_judge.specs.Held.{pipeline_in, days_in, assets_in, days_held, asse
 use Rattle.pl_judge.specs.Planning.{HasRows}
 use Rattle.pl_judge.specs.Cells.{cell_steps}
 use Rattle.pl_judge.specs.Range.{dates_steps, plan_steps, range_steps, index_of}
-use Rattle.pl_judge.specs.Steps.{Step}
-use Rattle.pl_judge.specs.Work.{read_step, sessions_step, bars_rule, assets_rule, payouts_rule, derivation_step, pipeline_steps, evaluated_steps, numbers_steps, revised_steps, rows_steps, data_steps, run_steps, planning_steps, payouts_steps, cell_work, verify_steps}
+use Rattle.pl_judge.specs.Steps.{WorkStep}
+use Rattle.pl_judge.specs.Work.{read_step, sessions_step, bars_rule, assets_rule, payouts_rule, derivation_step, pipeline_steps, evaluated_steps, numbers_steps, revised_steps, rows_steps, data_steps, run_work, plan_work, payouts_work, cell_work, verify_work}
 use Rattle.pl_load.specs.Loads.{IsWorldHeld}
 use Rattle.pl_load.specs.Parts.{world_steps, plan_steps_for}
 use Rattle.pl_load.proofs.Joined.{joint, is_file}
@@ -30,7 +30,7 @@ but_for f g = not (is_file f g)
 -- ---- the data of a world
 
 -- after the sessions, and after the assets
-abbrev pub after_days : WorldNames → List ℤ → Contents → List Step
+abbrev pub after_days : WorldNames → List ℤ → Contents → List WorkStep
 after_days q days held = read_step file.Assets assets_rule (held.file file.Assets) ∷ rows_steps days (assets_held held) held q
 
 pub days-first : (q : WorldNames) (days : List ℤ) (f r : Contents) → days_in (f.file file.Sessions) ≡ days
@@ -43,10 +43,10 @@ pub assets-first : (q : WorldNames) (days : List ℤ) (assets : List AssetRow) (
 assets-first q days assets f r m = ap (λ a. read_step file.Assets assets_rule (f.file file.Assets) ∷ rows_steps days a r q) m
 
 -- after the numbers, and after the labels
-abbrev pub after_numbers : WorldNames → List ℤ → List AssetRow → Contents → List Step
+abbrev pub after_numbers : WorldNames → List ℤ → List AssetRow → Contents → List WorkStep
 after_numbers q days assets held = read_step file.Bars (bars_rule days assets) (held.file file.Bars) ∷ revised_steps days assets held q
 
-abbrev pub after_labels : WorldNames → List ℤ → List AssetRow → Contents → List Step
+abbrev pub after_labels : WorldNames → List ℤ → List AssetRow → Contents → List WorkStep
 after_labels q days assets held = numbers_steps assets q.numbers (held.file file.Numbers) ++ after_numbers q days assets held
 
 -- ---- a range
@@ -58,7 +58,7 @@ range-is p days from to as_of a b e f = ap₂ (λ x y. dates_steps from to as_of
 -- ---- a run and a plan
 
 pub run-first : (q : RunRequest) (p : Pipeline) (f r : Contents) → pipeline_in (f.file file.Pipeline) ≡ p
-    → run_steps (joint (is_file file.Pipeline) false f r) q ≡ evaluated_steps (f.file file.Pipeline) q.world.numbers ++ world_steps q p r
+    → run_work (joint (is_file file.Pipeline) false f r) q ≡ evaluated_steps (f.file file.Pipeline) q.world.numbers ++ world_steps q p r
 unfolding data_steps
 run-first q p f r m = ap (λ x. evaluated_steps (f.file file.Pipeline) q.world.numbers ++ world_steps q x r) m
 
@@ -68,7 +68,7 @@ unfolding data_steps
 world-first q p w f r m = ap (λ days. data_steps f q.world ++ range_steps p days q.from q.to q.options.as_of) m.days
 
 pub plan-first : (q : PlanRequest) (p : Pipeline) (f r : Contents) → pipeline_in (f.file file.Pipeline) ≡ p
-    → planning_steps (joint (is_file file.Pipeline) false f r) q ≡ pipeline_steps (f.file file.Pipeline) ++ plan_steps_for q p r
+    → plan_work (joint (is_file file.Pipeline) false f r) q ≡ pipeline_steps (f.file file.Pipeline) ++ plan_steps_for q p r
 plan-first q p f r m = ap (λ x. pipeline_steps (f.file file.Pipeline) ++ plan_steps_for q x r) m
 
 pub plan-days : (q : PlanRequest) (p : Pipeline) (days : List ℤ) (f r : Contents) → days_in (f.file file.Sessions) ≡ days
@@ -88,7 +88,7 @@ are-planned days p from (Err f) a b c = tt
 
 -- ---- a cell and a derivation
 
-abbrev pub cell_rest : ExplainRequest → Pipeline → Contents → List Step
+abbrev pub cell_rest : ExplainRequest → Pipeline → Contents → List WorkStep
 cell_rest q p held = data_steps held q.world ++ cell_steps p (days_held held) (assets_held held) q
 
 pub cell-first : (q : ExplainRequest) (p : Pipeline) (f r : Contents) → pipeline_in (f.file file.Pipeline) ≡ p
@@ -102,11 +102,11 @@ unfolding data_steps
 cell-world q p w f r m =
     ap₂ (λ days assets. data_steps f q.world ++ cell_steps p days assets q) m.days (ap (λ (x : World). x.assets) m.world)
 
-abbrev pub verify_rest : VerifyRequest → Contents → List Step
+abbrev pub verify_rest : VerifyRequest → Contents → List WorkStep
 verify_rest q held = data_steps held q.world ++ derivation_step (held.file file.Derivation) ∷ []
 
 pub verify-first : (q : VerifyRequest) (f r : Contents)
-    → verify_steps (joint (is_file file.Pipeline) false f r) q ≡ evaluated_steps (f.file file.Pipeline) q.world.numbers ++ verify_rest q r
+    → verify_work (joint (is_file file.Pipeline) false f r) q ≡ evaluated_steps (f.file file.Pipeline) q.world.numbers ++ verify_rest q r
 unfolding data_steps
 verify-first q f r = refl
 
@@ -117,17 +117,17 @@ verify-world q f r = refl
 
 -- ---- payouts
 
-abbrev pub paid_after_days : List ℤ → Contents → List Step
+abbrev pub paid_after_days : List ℤ → Contents → List WorkStep
 paid_after_days days held =
     read_step file.Assets assets_rule (held.file file.Assets) ∷ read_step file.Bars (bars_rule days (assets_held held)) (held.file file.Bars)
     ∷ read_step file.Payouts (payouts_rule (assets_held held)) (held.file file.Payouts) ∷ []
 
-abbrev pub paid_after_assets : List ℤ → List AssetRow → Contents → List Step
+abbrev pub paid_after_assets : List ℤ → List AssetRow → Contents → List WorkStep
 paid_after_assets days assets held =
     read_step file.Bars (bars_rule days assets) (held.file file.Bars) ∷ read_step file.Payouts (payouts_rule assets) (held.file file.Payouts) ∷ []
 
 pub paid-days : (days : List ℤ) (f r : Contents) → days_in (f.file file.Sessions) ≡ days
-    → payouts_steps (joint (is_file file.Sessions) false f r) ≡ sessions_step (f.file file.Sessions) ∷ paid_after_days days r
+    → payouts_work (joint (is_file file.Sessions) false f r) ≡ sessions_step (f.file file.Sessions) ∷ paid_after_days days r
 paid-days days f r m = ap (λ d. sessions_step (f.file file.Sessions) ∷ paid_after_days d r) m
 
 pub paid-assets : (days : List ℤ) (assets : List AssetRow) (f r : Contents) → assets_in (f.file file.Assets) ≡ assets

@@ -2,7 +2,7 @@
 use Rattle.std.specs.Prelude.{◌≡◌, ◌<◌, pos, ◌≤ℤ◌, true, length, Some, Result}
 use Rattle.pl_terms.specs.Checked.{pipeline_of}
 use Rattle.pl_terms.specs.Uses.{is_used}
-use Rattle.pl_world.specs.Worlds.{owned_world, IsOwned}
+use Rattle.pl_world.specs.Worlds.{owned_world, IsOwnedMade}
 use Rattle.pl_words.specs.Request.{ExplainRequest, Explain}
 use Rattle.pl_judge.specs.declared.fault.Fault.{Fault}
 use Rattle.pl_judge.specs.Contents.{Contents}
@@ -24,7 +24,7 @@ pub record IsCellHeld (held : Contents) (q : ExplainRequest) (l : LoadedCell) : 
 
 -- what the derivation of the cell asks
 pub record IsExplainable (l : LoadedCell) : Type 0 where
-  pub made : IsOwned l.world
+  pub made : IsOwnedMade l.world
   pub used : is_used (pipeline_of l.checked) l.cell.term.0 ≡ true
   pub col : l.cell.col < length l.world.assets
   pub within : l.cell.session < length l.world.sessions

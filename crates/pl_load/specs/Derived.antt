@@ -6,7 +6,7 @@ use Rattle.pl_words.specs.Request.{VerifyRequest, Verify}
 use Rattle.pl_judge.specs.declared.fault.Fault.{Fault}
 use Rattle.pl_judge.specs.Contents.{Contents}
 use Rattle.pl_judge.specs.Held.{pipeline_held, world_held, derivation_held}
-use Rattle.pl_judge.specs.Work.{verify_steps}
+use Rattle.pl_judge.specs.Work.{verify_work}
 use Rattle.pl_load.specs.Loads.{IsLoadOf}
 use Rattle.pl_load.specs.Views.{ShelfView, KeeperView, Change}
 use Rattle.pl_load.specs.declared.derivations.LoadedDerivation.{LoadedDerivation}
@@ -20,4 +20,4 @@ pub record IsDerivationHeld (held : Contents) (q : VerifyRequest) (l : LoadedDer
 -- A derivation is loaded in this way with its pipeline and its world.
 abbrev pub IsDerivationLoad : Change ShelfView → Change KeeperView → VerifyRequest → Result LoadedDerivation Fault → Type 0
 IsDerivationLoad shelf keeper q result =
-    IsLoadOf shelf keeper (Some (Verify q)) (λ held. verify_steps held q) (λ held l. IsDerivationHeld held q l) result
+    IsLoadOf shelf keeper (Some (Verify q)) (λ held. verify_work held q) (λ held l. IsDerivationHeld held q l) result

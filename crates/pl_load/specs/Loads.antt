@@ -7,7 +7,7 @@ use Rattle.pl_outside.specs.Counts.{Rose, count_plus}
 use Rattle.pl_outside.specs.Files.{BeginsAll}
 use Rattle.pl_world.specs.declared.owned.OwnedWorld.{OwnedWorld}
 use Rattle.pl_world.specs.Known.{ShowsSame}
-use Rattle.pl_world.specs.Worlds.{owned_world, IsOwned}
+use Rattle.pl_world.specs.Worlds.{owned_world, IsOwnedMade}
 use Rattle.pl_planner.specs.Plans.{IsPlanOf}
 use Rattle.pl_words.specs.declared.request.InputFile.TheVariants.{Sessions, Assets, Labels, Numbers, Bars, Revisions}
 use Rattle.pl_words.specs.Request.{Request, RunRequest, PlanRequest, WorldNames, Run, Plan, name_asked, adjustments_of}
@@ -15,8 +15,8 @@ use Rattle.pl_judge.specs.declared.fault.Fault.{Fault}
 use Rattle.pl_judge.specs.Contents.{Contents, AreHeld}
 use Rattle.pl_judge.specs.Held.{pipeline_held, days_held, world_held}
 use Rattle.pl_judge.specs.Known.{world_known}
-use Rattle.pl_judge.specs.Steps.{Source, Step, names_read, tables_read}
-use Rattle.pl_judge.specs.Work.{data_steps, run_steps, planning_steps}
+use Rattle.pl_judge.specs.Steps.{Source, WorkStep, names_read, tables_read}
+use Rattle.pl_judge.specs.Work.{data_steps, run_work, plan_work}
 use Rattle.pl_judge.specs.Planning.{HasRows}
 use Rattle.pl_judge.specs.Range.{index_of}
 use Rattle.pl_judge.specs.Stages.{StageEnds, HasRead, IsRisen}
@@ -28,7 +28,7 @@ use Rattle.pl_load.specs.Views.{ShelfView, KeeperView, Change, ShelfLeft, Keeper
 -- where they tell, over which the steps of that part end so, and of which the value is. What was read is what
 -- these steps read, each file and each table once and in their order. The parts are left as parts.
 pub record IsLoadOf {T : Type 0} (shelf : Change ShelfView) (keeper : Change KeeperView) (asked : Option Request)
-    (steps : Contents → List Step) (Means : Contents → T → Type 0) (result : Result T Fault) : Type 0 where
+    (steps : Contents → List WorkStep) (Means : Contents → T → Type 0) (result : Result T Fault) : Type 0 where
   pub held : Contents
   pub are_held : AreHeld shelf.before.holds keeper.before.lists asked held
   pub ends : StageEnds shelf.before.sound keeper.before.sound (steps held) result
@@ -67,8 +67,8 @@ pub record IsLoaded (held : Contents) (q : RunRequest) (l : Loaded) : Type 0 whe
   pub to : index_of (days_held held) q.to.day ≡ l.plan.to
 
 -- what a writer of the rows asks
-pub record IsReady (l : Loaded) : Type 0 where
-  pub made : IsOwned l.world
+pub record IsReadyRun (l : Loaded) : Type 0 where
+  pub made : IsOwnedMade l.world
   pub plan : IsPlanOf l.world.sessions (pipeline_of l.checked) l.plan
 
 -- the names of a world are those under which a command asks for its files and its tables
@@ -95,7 +95,7 @@ IsData shelf keeper q result =
 -- A run is loaded in this way.
 abbrev pub IsLoad : Change ShelfView → Change KeeperView → RunRequest → Result Loaded Fault → Type 0
 IsLoad shelf keeper q result =
-    IsLoadOf shelf keeper (Some (Run q)) (λ held. run_steps held q) (λ held l. IsLoaded held q l) result
+    IsLoadOf shelf keeper (Some (Run q)) (λ held. run_work held q) (λ held l. IsLoaded held q l) result
 
 -- The pipeline is that of the contents, and the plan is one of it over their sessions, for the range of the
 -- two dates.
@@ -108,4 +108,4 @@ pub record IsPlanned (held : Contents) (q : PlanRequest) (l : PlannedPipeline) :
 -- A plan is loaded in this way.
 abbrev pub IsPlanLoad : Change ShelfView → Change KeeperView → PlanRequest → Result PlannedPipeline Fault → Type 0
 IsPlanLoad shelf keeper q result =
-    IsLoadOf shelf keeper (Some (Plan q)) (λ held. planning_steps held q) (λ held l. IsPlanned held q l) result
+    IsLoadOf shelf keeper (Some (Plan q)) (λ held. plan_work held q) (λ held l. IsPlanned held q l) result

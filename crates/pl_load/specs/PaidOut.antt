@@ -5,7 +5,7 @@ use Rattle.pl_words.specs.Request.{PayoutsRequest, Payouts}
 use Rattle.pl_judge.specs.declared.fault.Fault.{Fault}
 use Rattle.pl_judge.specs.Contents.{Contents}
 use Rattle.pl_judge.specs.Held.{days_held, assets_held, bars_held, payouts_held}
-use Rattle.pl_judge.specs.Work.{payouts_steps}
+use Rattle.pl_judge.specs.Work.{payouts_work}
 use Rattle.pl_load.specs.Loads.{IsLoadOf}
 use Rattle.pl_load.specs.Views.{ShelfView, KeeperView, Change}
 use Rattle.pl_load.specs.declared.payouts.LoadedPayouts.{LoadedPayouts}
@@ -25,4 +25,4 @@ pub record IsPayable (l : LoadedPayouts) : Type 0 where
 -- The payouts are loaded in this way.
 abbrev pub IsPayoutsLoad : Change ShelfView → Change KeeperView → PayoutsRequest → Result LoadedPayouts Fault → Type 0
 IsPayoutsLoad shelf keeper q result =
-    IsLoadOf shelf keeper (Some (Payouts q)) (λ held. payouts_steps held) (λ held l. ArePayoutsHeld held l) result
+    IsLoadOf shelf keeper (Some (Payouts q)) (λ held. payouts_work held) (λ held l. ArePayoutsHeld held l) result

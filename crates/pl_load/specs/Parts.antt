@@ -15,7 +15,7 @@ use Rattle.pl_judge.specs.Held.{days_held, world_held, labels_asked, numbers_ask
 use Rattle.pl_judge.specs.Known.{world_known}
 use Rattle.pl_judge.specs.Planning.{HasRows}
 use Rattle.pl_judge.specs.Range.{index_of, range_steps}
-use Rattle.pl_judge.specs.Steps.{Step}
+use Rattle.pl_judge.specs.Steps.{WorkStep}
 use Rattle.pl_judge.specs.Work.{data_steps, revised_steps, rows_steps, sessions_step}
 use Rattle.pl_load.specs.declared.loading.PlannedWorld.{PlannedWorld}
 use Rattle.pl_load.specs.declared.loading.WorldRows.{WorldRows}
@@ -54,7 +54,7 @@ pub record IsPlannedWorld (q : RunRequest) (p : Pipeline) (held : Contents) (w :
   pub from : index_of (days_held held) q.from.day ≡ w.plan.from
   pub to : index_of (days_held held) q.to.day ≡ w.plan.to
 
-abbrev pub world_steps : RunRequest → Pipeline → Contents → List Step
+abbrev pub world_steps : RunRequest → Pipeline → Contents → List WorkStep
 world_steps q p held =
     data_steps held q.world ++ range_steps p (days_held held) q.from q.to q.options.as_of
 
@@ -68,7 +68,7 @@ pub record IsPlanHeld (q : PlanRequest) (p : Pipeline) (held : Contents) (made :
   pub rows : HasRows (days_held held) p made
   pub from : index_of (days_held held) q.from.day ≡ made.from
 
-abbrev pub plan_steps_for : PlanRequest → Pipeline → Contents → List Step
+abbrev pub plan_steps_for : PlanRequest → Pipeline → Contents → List WorkStep
 plan_steps_for q p held =
     sessions_step (held.file Sessions) ∷ range_steps p (days_held held) q.from q.to None
 

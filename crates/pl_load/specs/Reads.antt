@@ -8,7 +8,7 @@ use Rattle.pl_outside.specs.declared.keeper.Table.{Table}
 use Rattle.pl_words.specs.declared.request.InputFile.{InputFile}
 use Rattle.pl_judge.specs.declared.fault.Fault.{Fault}
 use Rattle.pl_judge.specs.declared.fault.Fault.TheVariants.{Unloaded, Memory}
-use Rattle.pl_judge.specs.Steps.{Source, Step, names_read, tables_read}
+use Rattle.pl_judge.specs.Steps.{Source, WorkStep, names_read, tables_read}
 use Rattle.pl_judge.specs.Stages.{StageEnds, HasRead, IsRisen}
 use Rattle.pl_load.specs.Views.{ShelfView, KeeperView, Change, ShelfLeft, KeeperLeft, KeeperAlone}
 
@@ -18,7 +18,7 @@ no_rule bytes = None
 
 -- There is a file, that which the shelf holds under the name where it tells, over which the stage ends as its
 -- steps say, and whose meaning is the value. The name was begun once, and a failure has counted its fault.
-pub record IsRead {T : Type 0} (shelf : Change ShelfView) (name : Option (List ℕ)) (steps : Option (List ℕ) → List Step)
+pub record IsRead {T : Type 0} (shelf : Change ShelfView) (name : Option (List ℕ)) (steps : Option (List ℕ) → List WorkStep)
     (Means : Option (List ℕ) → T → Type 0) (result : Result T Fault) : Type 0 where
   pub file : Option (List ℕ)
   pub is_told : ForSome name (λ n. ForSome shelf.before.holds (λ files. file ≡ files n))
@@ -32,7 +32,7 @@ pub record IsRead {T : Type 0} (shelf : Change ShelfView) (name : Option (List �
 -- steps say, and whose meaning is the value. The keeper took one call for each table that the steps load, and
 -- a failure has counted its fault.
 pub record AreLoaded {T : Type 0} (keeper : Change KeeperView) (name : Option (List ℕ))
-    (steps : (Table → List RawAdjust) → List Step) (Means : (Table → List RawAdjust) → T → Type 0) (result : Result T Fault) : Type 0 where
+    (steps : (Table → List RawAdjust) → List WorkStep) (Means : (Table → List RawAdjust) → T → Type 0) (result : Result T Fault) : Type 0 where
   pub rows : Table → List RawAdjust
   pub are_told : (table : Table) → ForSome name (λ n. ForSome keeper.before.lists (λ lists. rows table ≡ lists n table))
   pub ends : StageEnds true keeper.before.sound (steps rows) result

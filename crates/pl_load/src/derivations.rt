@@ -2,7 +2,7 @@
 
 ghost use Rattle.std.specs.Prelude.{IfOk};
 ghost use Rattle.pl_words.specs.Views.{verify_of};
-ghost use Rattle.pl_world.specs.Worlds.{IsOwned};
+ghost use Rattle.pl_world.specs.Worlds.{IsOwnedMade};
 ghost use Rattle.pl_load.specs.Views.{shelf_change, keeper_change};
 ghost use Rattle.pl_load.specs.Derived.{IsDerivationLoad};
 
@@ -46,7 +46,7 @@ pub fn load_derivation<S: Shelf, K: AdjustKeeper>(
     ensures load { IsDerivationLoad (shelf_change S.holds S.begun S.sound S.faults shelf.old shelf.new)
         (keeper_change K.lists K.sound K.faults K.calls keeper.old keeper.new)
         (verify_of request.now) result }
-    ensures made { IfOk result (λ l. IsOwned l.world) }
+    ensures made { IfOk result (λ l. IsOwnedMade l.world) }
 {
     let checked = read_evaluated(alloc, shelf, request.pipeline, request.world.numbers)?;
     let world = read_world(alloc, &request.world, shelf, keeper)?;

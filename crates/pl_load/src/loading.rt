@@ -4,11 +4,11 @@ ghost use Rattle.std.specs.Prelude.{◌≡◌, ◌<◌, [], length, All, IfOk, I
 ghost use Rattle.pl_terms.specs.Checked.{pipeline_of};
 ghost use Rattle.pl_planner.specs.Plans.{IsPlanOf};
 ghost use Rattle.pl_words.specs.Views.{run_of, world_names_of};
-ghost use Rattle.pl_world.specs.Worlds.{AreMadeFor, IsOwned};
+ghost use Rattle.pl_world.specs.Worlds.{AreMadeFor, IsOwnedMade};
 ghost use Rattle.pl_judge.specs.declared.fault.Fault.TheVariants.{Memory};
 ghost use Rattle.pl_load.specs.Views.{shelf_change, keeper_change};
 ghost use Rattle.pl_load.specs.Parts.{IsWorldLoad, IsRowsLoad, IsRevisedLoad};
-ghost use Rattle.pl_load.specs.Loads.{IsData, IsKnown, IsLoad, IsReady};
+ghost use Rattle.pl_load.specs.Loads.{IsData, IsKnown, IsLoad, IsReadyRun};
 
 use crate::inputs::{
     read_assets, read_bars, read_evaluated, read_labels, read_numbers, read_revisions,
@@ -65,8 +65,8 @@ pub(crate) struct WorldRows {
 
 /// Reads and judges all that a run asks for, each file whole before the next one: the pipeline file, the
 /// sessions, assets, labels, numbers, bars, adjustments and revisions, and then the range. Labels, numbers,
-/// adjustments and revisions are read only where they are asked for. The fault is the first one in this order,
-/// or want of memory.
+/// adjustments and revisions are read only where they are asked for. The fault is the first one in this
+/// order, or want of memory.
 pub fn load<S: Shelf, K: AdjustKeeper>(
     alloc: Global,
     request: &RunRequest<'_>,
@@ -76,7 +76,7 @@ pub fn load<S: Shelf, K: AdjustKeeper>(
     ensures load { IsLoad (shelf_change S.holds S.begun S.sound S.faults shelf.old shelf.new)
         (keeper_change K.lists K.sound K.faults K.calls keeper.old keeper.new)
         (run_of request.now) result }
-    ensures ready { IfOk result IsReady }
+    ensures ready { IfOk result IsReadyRun }
 {
     let checked = read_evaluated(alloc, shelf, request.pipeline, request.world.numbers)?;
     let planned = load_world(alloc, request, &checked, shelf, keeper)?;
@@ -99,7 +99,7 @@ fn load_world<S: Shelf, K: AdjustKeeper>(
     ensures load { IsWorldLoad (shelf_change S.holds S.begun S.sound S.faults shelf.old shelf.new)
         (keeper_change K.lists K.sound K.faults K.calls keeper.old keeper.new)
         (run_of request.now) (pipeline_of checked.now) result }
-    ensures made { IfOk result (λ w. IsOwned w.world) }
+    ensures made { IfOk result (λ w. IsOwnedMade w.world) }
     ensures plan { IfOk result (λ w. IsPlanOf w.world.sessions (pipeline_of checked.now) w.plan) }
 {
     let world = read_world(alloc, &request.world, shelf, keeper)?;
@@ -120,10 +120,10 @@ fn known_world(
     world: OwnedWorld,
     session: Option<usize>,
 ) -> Result<OwnedWorld, Fault>
-    requires made { IsOwned world }
+    requires made { IsOwnedMade world }
     requires within { IfSome session (λ d. d < length world.sessions) }
     ensures known { IfOk result (IsKnown world session) }
-    ensures made { IfOk result IsOwned }
+    ensures made { IfOk result IsOwnedMade }
     ensures memory { IfErr result (λ fault. fault ≡ Memory) }
 {
     match session {
@@ -142,7 +142,7 @@ pub(crate) fn read_world<S: Shelf, K: AdjustKeeper>(
     ensures data { IsData (shelf_change S.holds S.begun S.sound S.faults shelf.old shelf.new)
         (keeper_change K.lists K.sound K.faults K.calls keeper.old keeper.new)
         (world_names_of names.now) result }
-    ensures made { IfOk result IsOwned }
+    ensures made { IfOk result IsOwnedMade }
 {
     let sessions = read_sessions(alloc, shelf, names.sessions)?;
     let assets = read_assets(alloc, shelf, names.assets)?;

@@ -11,7 +11,7 @@ use Rattle.std.proofs.Math.Nat.{div-mul-le_self, lt-div-mul-add}
 use Rattle.std.proofs.lemmas.List.FromFn.{length-range_with_len}
 use Rattle.pl_spec.specs.Cells.{truth}
 use Rattle.pl_pipeline.specs.Kind.CrossKind.{PercentileBetween}
-use Rattle.pl_pipeline.specs.Cross.{Entry, values, below, same, value_at, edge, bin_of, is_percentile_between, cross}
+use Rattle.pl_pipeline.specs.Cross.{Entry, values, count_less, count_equal, value_at, edge, bin_of, is_percentile_between, cross}
 use Rattle.pl_pipeline.specs.CrossFacts.{edge_of}
 use Rattle.pl_pipeline.proofs.Bins.{times-le, bins-few}
 use Rattle.pl_spec.proofs.Counts.{count-cons, count-fewer}
@@ -205,12 +205,12 @@ module _ (bins : ℕ) (vs : List ℤ) (x : ℤ) where
 
 -- ---- the whole range
 
-pub same-some : (x : ℤ) (vs : List ℤ) → In x vs → 0 < same x vs
+pub same-some : (x : ℤ) (vs : List ℤ) → In x vs → 0 < count_equal x vs
 same-some x vs i =
     let one : int_eq x x ≡ true = grind (arith, ints) in
     omega (arith, count-fewer (λ u. false) (int_eq x) vs x i refl one (λ y j t. absurd (let bad : false ≡ true = t in cc)))
 
-below-fewer : (x : ℤ) (vs : List ℤ) → In x vs → suc (below x vs) ≤ length vs
+below-fewer : (x : ℤ) (vs : List ℤ) → In x vs → suc (count_less x vs) ≤ length vs
 below-fewer x vs i =
     let self : int_lt x x ≡ false = grind (arith, ints) in
     omega (arith, count-fewer (λ u. int_lt u x) (λ u. true) vs x i self refl (λ y j t. refl), count_by-le-length (λ u. true) vs)

@@ -11,13 +11,13 @@ use Rattle.pl_pipeline.specs.declared.RankMethod.{RankMethod}
 use Rattle.pl_pipeline.specs.declared.RankMethod.TheVariants.{Ordinal, Min, Max, Dense, Average}
 use Rattle.pl_pipeline.specs.declared.RankOrder.{RankOrder}
 use Rattle.pl_pipeline.specs.declared.RankOrder.TheVariants.{Ascending, Descending}
-use Rattle.pl_pipeline.specs.Cross.{Entry, values, precedes, preceding, same, earlier_same, distinct_values, rank}
+use Rattle.pl_pipeline.specs.Cross.{Entry, values, precedes, preceding, count_equal, earlier_same, distinct_values, rank}
 use Rattle.pl_pipeline.specs.CrossFacts.{AreRanks, negated}
 use Rattle.pl_spec.proofs.Counts.{count-cons, count-fewer, count-agree, count-map}
 use Rattle.pl_spec.proofs.Members.{contains-in}
 
 -- an entry is no earlier one than itself
-earlier-fewer : (a : ℕ) (x : ℤ) (list : List Entry) → Contains list (a, x) → earlier_same a x list + 1 ≤ same x (values list)
+earlier-fewer : (a : ℕ) (x : ℤ) (list : List Entry) → Contains list (a, x) → earlier_same a x list + 1 ≤ count_equal x (values list)
 earlier-fewer a x list c =
     let self : nat_lt a a ≡ false = grind (arith, nat_tests) in
     let one : int_eq x x ≡ true = grind (arith, ints) in
@@ -82,7 +82,7 @@ preceding-negated x vs =
     count-agree (λ v. precedes Descending v x) (λ v. precedes Ascending (neg_ℤ v) (neg_ℤ x)) vs (λ v i. precedes-negated v x)
     ∙ sym (count-map (λ v. precedes Ascending v (neg_ℤ x)) neg_ℤ vs)
 
-same_values-negated : (x : ℤ) (vs : List ℤ) → same x vs ≡ same (neg_ℤ x) (map neg_ℤ vs)
+same_values-negated : (x : ℤ) (vs : List ℤ) → count_equal x vs ≡ count_equal (neg_ℤ x) (map neg_ℤ vs)
 same_values-negated x vs =
     count-agree (int_eq x) (λ v. int_eq (neg_ℤ x) (neg_ℤ v)) vs (λ v i. same-negated x v) ∙ sym (count-map (int_eq (neg_ℤ x)) neg_ℤ vs)
 

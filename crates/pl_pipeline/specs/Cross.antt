@@ -29,8 +29,8 @@ precedes Descending v x = int_lt x v
 abbrev pub preceding : RankOrder → ℤ → List ℤ → ℕ
 preceding order x vs = count_by (λ v. precedes order v x) vs
 
-abbrev pub same : ℤ → List ℤ → ℕ
-same x vs = count_by (int_eq x) vs
+abbrev pub count_equal : ℤ → List ℤ → ℕ
+count_equal x vs = count_by (int_eq x) vs
 
 -- the equal values of smaller sids
 abbrev pub earlier_same : ℕ → ℤ → List Entry → ℕ
@@ -49,16 +49,16 @@ ordinal order list a x = preceding order x (values list) + earlier_same a x list
 abbrev pub rank : RankMethod → RankOrder → List Entry → ℕ → ℤ → ℕ
 rank Ordinal order list a x = ordinal order list a x * MILLION
 rank Min order list a x = (preceding order x (values list) + 1) * MILLION
-rank Max order list a x = (preceding order x (values list) + same x (values list)) * MILLION
+rank Max order list a x = (preceding order x (values list) + count_equal x (values list)) * MILLION
 rank Dense order list a x = (preceding order x (distinct_values (values list)) + 1) * MILLION
-rank Average order list a x = preceding order x (values list) * MILLION + (same x (values list) + 1) * MILLION / 2
+rank Average order list a x = preceding order x (values list) * MILLION + (count_equal x (values list) + 1) * MILLION / 2
 
-abbrev pub below : ℤ → List ℤ → ℕ
-below x vs = preceding Ascending x vs
+abbrev pub count_less : ℤ → List ℤ → ℕ
+count_less x vs = preceding Ascending x vs
 
 -- the value with at most i values below it and more than i at most it: the place i from 0 in ascending order
 abbrev pub value_at : List ℤ → ℕ → ℤ
-value_at vs i = unwrap_or (find (λ v. nat_le (below v vs) i && nat_lt i (below v vs + same v vs)) vs) (pos 0)
+value_at vs i = unwrap_or (find (λ v. nat_le (count_less v vs) i && nat_lt i (count_less v vs + count_equal v vs)) vs) (pos 0)
 
 -- n times the point that lies p / n places above the least value, on the lines between neighbors
 abbrev pub edge : List ℤ → ℕ → ℕ → ℤ
@@ -93,23 +93,23 @@ cross PeerCount list a x = pos (length list * MILLION)
 
 -- ---- one session's cross-section as arrays have it, asset by asset
 
-abbrev pub at : List ℤ → ℕ → ℤ
-at xs i = get_or xs i MISSING
+abbrev pub array_at : List ℤ → ℕ → ℤ
+array_at xs i = get_or xs i MISSING
 
 abbrev pub same_group : Option (List ℤ) → ℕ → ℕ → Bool
 same_group None i j = true
-same_group (Some labels) i j = is_present (at labels i) && int_eq (at labels i) (at labels j)
+same_group (Some labels) i j = is_present (array_at labels i) && int_eq (array_at labels i) (array_at labels j)
 
 -- place j counts for place i: it passes the mask, its value is present, and it is of i's group
 abbrev pub counts_at : List ℤ → List ℤ → Option (List ℤ) → ℕ → ℕ → Bool
-counts_at vs keep labels i j = is_true (at keep j) && is_present (at vs j) && same_group labels i j
+counts_at vs keep labels i j = is_true (array_at keep j) && is_present (array_at vs j) && same_group labels i j
 
 -- the entries that count for the asset at place i
 abbrev pub entries_for : List ℤ → List ℤ → Option (List ℤ) → ℕ → List Entry
-entries_for vs keep labels i = map (λ j. (j, at vs j)) (filter (counts_at vs keep labels i) (range_with_len 0 (length vs)))
+entries_for vs keep labels i = map (λ j. (j, array_at vs j)) (filter (counts_at vs keep labels i) (range_with_len 0 (length vs)))
 
 -- what a cross-section gives at place i, and the empty value where the asset is not in its own list
 abbrev pub cross_at : CrossKind → ℤ → List ℤ → List ℤ → Option (List ℤ) → ℕ → ℤ
 cross_at k none vs keep labels i =
     let list = entries_for vs keep labels i in
-    if list_any (λ e. e.0 == i) list then cross k list i (at vs i) else none
+    if list_any (λ e. e.0 == i) list then cross k list i (array_at vs i) else none

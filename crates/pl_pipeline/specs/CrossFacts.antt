@@ -2,13 +2,13 @@
 use Rattle.std.specs.Prelude.{◌≡◌, ℕ, ◌+◌, ◌-◌, ◌*◌, ◌<◌, ◌≤◌, ℤ, neg_ℤ, List, length, map, Contains}
 use Rattle.pl_pipeline.specs.declared.RankMethod.TheVariants.{Ordinal, Min, Max, Dense, Average}
 use Rattle.pl_pipeline.specs.declared.RankOrder.{RankOrder}
-use Rattle.pl_pipeline.specs.Cross.{Entry, rank, below, same, edge}
+use Rattle.pl_pipeline.specs.Cross.{Entry, rank, count_less, count_equal, edge}
 
 -- v is a value, with at most i values below it and more than i at most it
 pub record IsValueAt (vs : List ℤ) (i : ℕ) (v : ℤ) : Type 0 where
   pub own : Contains vs v
-  pub few : below v vs ≤ i
-  pub many : i < below v vs + same v vs
+  pub few : count_less v vs ≤ i
+  pub many : i < count_less v vs + count_equal v vs
 
 -- the edge before bin k, times the number of bins
 abbrev pub edge_of : ℕ → List ℤ → ℕ → ℤ

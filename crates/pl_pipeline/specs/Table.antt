@@ -36,11 +36,11 @@ pub record Row : Type 0 where
   pub sid : ℕ
   pub values : List Value
 
-abbrev pub row : World → Pipeline → ℤ → ℕ → Row
-row w p d a = record { session = d; sid = a; values = map (λ c. value_of w p c.term a d) p.columns }
+abbrev pub table_row : World → Pipeline → ℤ → ℕ → Row
+table_row w p d a = record { session = d; sid = a; values = map (λ c. value_of w p c.term a d) p.columns }
 
 abbrev pub session_rows : World → Pipeline → ℤ → List Row
-session_rows w p d = map (row w p d) (kept_sids w p d)
+session_rows w p d = map (table_row w p d) (kept_sids w p d)
 
 -- the rows of the sessions from .. to
 abbrev pub table : World → Pipeline → ℕ → ℕ → List Row
@@ -60,5 +60,5 @@ array_of w p sids low to t =
 abbrev pub summand : List (List ℕ) → Value → ℤ
 summand texts v = let x = in_array texts v in if is_missing x then pos 0 else x
 
-abbrev pub cells : List (List ℕ) → List Row → ℤ
-cells texts rows = int_rem_euclid (fold (λ n r. n +ℤ fold (λ m v. m +ℤ summand texts v) (pos 0) r.values) (pos 0) rows) (pos (2 ^ 64))
+abbrev pub sum_of_cells : List (List ℕ) → List Row → ℤ
+sum_of_cells texts rows = int_rem_euclid (fold (λ n r. n +ℤ fold (λ m v. m +ℤ summand texts v) (pos 0) r.values) (pos 0) rows) (pos (2 ^ 64))

@@ -14,7 +14,7 @@ use Rattle.pl_pipeline.specs.Term.{Graph, term_at}
 use Rattle.pl_pipeline.specs.Value.{Value, is_filter, sort_kind}
 use Rattle.pl_pipeline.specs.Value.Value.{Number, Text}
 use Rattle.pl_pipeline.specs.Table.{NamedColumn, Pipeline, Row}
-use Rattle.pl_spec.specs.Lines.{label_text, line}
+use Rattle.pl_spec.specs.Lines.{label_text, line_text}
 
 abbrev pub is_numbered : Kind → Bool
 is_numbered (Cross (Quantiles bins)) = true
@@ -30,22 +30,22 @@ number_text k x =
     else if is_filter k then truth_text (is_true x)
     else if is_numbered k then decimal (unsigned_abs x) else cell_text x
 
-abbrev pub field : Format → Kind → Value → List ℕ
-field format k (Number x) = number_text k x
-field format k (Text t) = label_text format t
+abbrev pub value_field : Format → Kind → Value → List ℕ
+value_field format k (Number x) = number_text k x
+value_field format k (Text t) = label_text format t
 
 -- the kind as which term number t is written
 abbrev pub kind_at : Graph → ℕ → Kind
 kind_at g t = sort_kind (term_at g t)
 
 abbrev pub header : Pipeline → Format → List ℕ
-header p format = line format (codes "session") (codes "sid") (map (λ c. c.name) p.columns)
+header p format = line_text format (codes "session") (codes "sid") (map (λ c. c.name) p.columns)
 
 abbrev pub row_fields : Pipeline → Format → List NamedColumn → List Value → List (List ℕ)
-row_fields p format cs vs = map (λ x. field format (kind_at p.graph (x.0).term) x.1) (zip cs vs)
+row_fields p format cs vs = map (λ x. value_field format (kind_at p.graph (x.0).term) x.1) (zip cs vs)
 
 abbrev pub row_line : World → Pipeline → Format → Row → List ℕ
-row_line w p format r = line format (date_text (unwrap_or (day_of w r.session) (pos 0))) (decimal r.sid) (row_fields p format p.columns r.values)
+row_line w p format r = line_text format (date_text (unwrap_or (day_of w r.session) (pos 0))) (decimal r.sid) (row_fields p format p.columns r.values)
 
 -- the header, and a line for each row
 unfoldable pub text : World → Pipeline → Format → List Row → List ℕ

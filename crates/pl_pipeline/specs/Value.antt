@@ -56,9 +56,9 @@ part_of (column c) f = Bars c
 part_of (node k size x y z m g) f = Values f
 
 -- the value of a part on the session
-abbrev pub now : Part → Meaning
-now (Values f) a d = f a d
-now p a d = Number MISSING
+abbrev pub value_of_part : Part → Meaning
+value_of_part (Values f) a d = f a d
+value_of_part p a d = Number MISSING
 
 -- the window of a part: of bars the sessions before d, of values those up to d
 abbrev pub window_of : World → ℕ → Part → ℕ → ℤ → List ℤ
@@ -69,19 +69,19 @@ window_of w size (Values f) a d = map (λ n. number_of (f a (before d n))) (down
 -- without a mask every asset passes
 abbrev pub passes : Part → ℕ → ℤ → Bool
 passes Nothing a d = true
-passes p a d = holds (now p a d)
+passes p a d = holds (value_of_part p a d)
 
 -- without a group all are of one
 abbrev pub in_group : Part → ℕ → ℤ → ℕ → Bool
 in_group Nothing a d b = true
-in_group p a d b = is_present (number_of (now p a d)) && is_same (now p a d) (now p b d)
+in_group p a d b = is_present (number_of (value_of_part p a d)) && is_same (value_of_part p a d) (value_of_part p b d)
 
 abbrev pub entry : Part → ℤ → ℕ → Entry
-entry x d b = (b, number_of (now x b d))
+entry x d b = (b, number_of (value_of_part x b d))
 
 -- asset b counts for asset a: it passes the mask, its value is present, and it is of a's group
 abbrev pub counts_for : Part → Part → Part → ℕ → ℤ → ℕ → Bool
-counts_for x mask group a d b = passes mask b d && is_present (number_of (now x b d)) && in_group group a d b
+counts_for x mask group a d b = passes mask b d && is_present (number_of (value_of_part x b d)) && in_group group a d b
 
 -- the entries of session d that count for asset a
 abbrev pub eligible : World → Part → Part → Part → ℕ → ℤ → List Entry
@@ -152,20 +152,20 @@ abbrev pub name_at : List (List ℕ) → ℕ → List ℕ
 name_at names n = unwrap_or (slice_get names n) []
 
 -- what the kind gives, where the asset exists and passes the mask
-unfoldable pub step : World → List (List ℕ) → Kind → ℕ → Part → Part → Part → Part → Part → Meaning
-step w names (Constant cell) size x y z mask group a d = Number cell
-step w names (Label n) size x y z mask group a d = label_value (label_at w (name_at names n) a d)
-step w names (kind.Number n) size x y z mask group a d = Number (known_number w (name_at names n) a d)
-step w names (StaticSids sids) size x y z mask group a d = Number (truth (list_any (λ b. b == a) sids))
-step w names (Window k) size x y z mask group a d =
+unfoldable pub kind_value : World → List (List ℕ) → Kind → ℕ → Part → Part → Part → Part → Part → Meaning
+kind_value w names (Constant cell) size x y z mask group a d = Number cell
+kind_value w names (Label n) size x y z mask group a d = label_value (label_at w (name_at names n) a d)
+kind_value w names (kind.Number n) size x y z mask group a d = Number (known_number w (name_at names n) a d)
+kind_value w names (StaticSids sids) size x y z mask group a d = Number (truth (list_any (λ b. b == a) sids))
+kind_value w names (Window k) size x y z mask group a d =
     Number (formula k (window_of w size x a d) (window_of w size y a d) (window_of w size z a d))
-step w names (Point k) size x y z mask group a d =
-    Number (pointwise k (number_of (now x a d)) (number_of (now y a d)) (number_of (now z a d)))
-step w names (LabelTest k) size x y z mask group a d = test_value k (now x a d)
-step w names (Cross k) size x y z mask group a d =
+kind_value w names (Point k) size x y z mask group a d =
+    Number (pointwise k (number_of (value_of_part x a d)) (number_of (value_of_part y a d)) (number_of (value_of_part z a d)))
+kind_value w names (LabelTest k) size x y z mask group a d = test_value k (value_of_part x a d)
+kind_value w names (Cross k) size x y z mask group a d =
     let list = eligible w x mask (group_of k x group) a d in
-    if list_any (λ e. e.0 == a) list then Number (cross k list a (number_of (now x a d))) else empty (Cross k)
-step w names (Downsample f) size x y z mask group a d = now x a (period_start f w.days d)
+    if list_any (λ e. e.0 == a) list then Number (cross k list a (number_of (value_of_part x a d))) else empty (Cross k)
+kind_value w names (Downsample f) size x y z mask group a d = value_of_part x a (period_start f w.days d)
 
 unfoldable pub value : World → List (List ℕ) → Term → Meaning
 value w names absent a d = Number MISSING
@@ -173,5 +173,5 @@ value w names (column c) a d = Number MISSING
 value w names (node k size x y z m g) a d =
     let mask = part_of m (value w names m) in
     if exists w a d && passes mask a d
-    then step w names k size (part_of x (value w names x)) (part_of y (value w names y)) (part_of z (value w names z)) mask (part_of g (value w names g)) a d
+    then kind_value w names k size (part_of x (value w names x)) (part_of y (value w names y)) (part_of z (value w names z)) mask (part_of g (value w names g)) a d
     else empty (sort_over k (sort_kind x))

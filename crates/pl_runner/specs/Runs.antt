@@ -2,8 +2,8 @@
 use Rattle.std.specs.Prelude.{◌≡◌, ℕ, ◌+◌, ◌-◌, ◌*◌, ◌≤◌, pos, ◌+ℤ◌, length, sum_by}
 use Rattle.pl_spec.specs.World.{World}
 use Rattle.pl_pipeline.specs.Graph.{bound}
-use Rattle.pl_pipeline.specs.Table.{Pipeline, table, cells}
-use Rattle.pl_spec.specs.Limits.{cut}
+use Rattle.pl_pipeline.specs.Table.{Pipeline, table, sum_of_cells}
+use Rattle.pl_spec.specs.Limits.{saturated}
 use Rattle.pl_terms.specs.Uses.{outputs}
 use Rattle.pl_planner.specs.Plans.{Planned}
 use Rattle.pl_table.specs.Outcomes.{rows_of_sessions}
@@ -36,12 +36,12 @@ pub record IsChunkDone (w : World) (p : Pipeline) (plan : Planned) (chunk : Chun
   pub few : new.rows ≤ old.rows + (chunk.to + 1 - chunk.from) * length w.assets
   pub buffers : (other : Chunk) → AreBuffersFor w p plan other before → AreBuffersFor w p plan other after
   pub peak : r.peak ≡ bound p.graph (outputs p)
-  pub applied : r.applied ≡ cut (steps_of_chunk w p plan chunk)
+  pub applied : r.applied ≡ saturated (steps_of_chunk w p plan chunk)
 
 -- how many rows there are, the sum of their cells, the greatest number of arrays that were held at once, and
 -- the steps of the traversals, as far as 64 bits count
 pub record IsReport (w : World) (p : Pipeline) (plan : Planned) (size : ℕ) (report : RunReport) : Type 0 where
   pub rows : report.rows ≡ length (table w p plan.from plan.to)
-  pub cells : pos report.cells ≡ cells w.texts (table w p plan.from plan.to)
+  pub cells : pos report.cells ≡ sum_of_cells w.texts (table w p plan.from plan.to)
   pub peak : report.peak ≡ bound p.graph (outputs p)
-  pub applied : report.applied ≡ cut (run_steps w p plan size)
+  pub applied : report.applied ≡ saturated (run_steps w p plan size)

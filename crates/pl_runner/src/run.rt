@@ -1,6 +1,6 @@
 //! The table of a plan's range, chunk by chunk.
 ghost use Rattle.std.specs.Prelude.{◌≡◌, ◌≤◌, ◌<◌, ◌+◌, ◌-◌, ◌*◌, ◌^◌, ◌++◌, ◌⊎◌, length, IfOk, OnOk, IsErrOf};
-ghost use Rattle.pl_spec.specs.Limits.{cut, most_chunk};
+ghost use Rattle.pl_spec.specs.Limits.{saturated, most_chunk};
 ghost use Rattle.pl_outside.specs.Taken.{IsWrittenIn, Writes};
 ghost use Rattle.pl_pipeline.specs.Table.{table};
 ghost use Rattle.pl_pipeline.specs.Text.{text};

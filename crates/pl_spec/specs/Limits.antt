@@ -68,5 +68,5 @@ most_chunk = 4096
 -- ---- steps
 
 -- the number, or the greatest that 64 bits hold
-abbrev pub cut : ℕ → ℕ
-cut n = min n (2 ^ 64 - 1)
+abbrev pub saturated : ℕ → ℕ
+saturated n = min n (2 ^ 64 - 1)

@@ -28,6 +28,6 @@ abbrev pub left_in : ℕ → List ℕ → List ℕ
 left_in width t = t ++ replicate (width - length t) 32
 
 -- a line of the date's field, the sid's field and the others
-abbrev pub line : Format → List ℕ → List ℕ → List (List ℕ) → List ℕ
-line Csv date sid fields = join_by (λ f. f) (44 ∷ []) (date ∷ sid ∷ fields) ++ 10 ∷ []
-line Fixed date sid fields = join_by (λ f. f) (32 ∷ []) (left_in 10 date ∷ right_in 10 sid ∷ map (right_in 20) fields) ++ 10 ∷ []
+abbrev pub line_text : Format → List ℕ → List ℕ → List (List ℕ) → List ℕ
+line_text Csv date sid fields = join_by (λ f. f) (44 ∷ []) (date ∷ sid ∷ fields) ++ 10 ∷ []
+line_text Fixed date sid fields = join_by (λ f. f) (32 ∷ []) (left_in 10 date ∷ right_in 10 sid ∷ map (right_in 20) fields) ++ 10 ∷ []

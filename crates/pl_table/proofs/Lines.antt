@@ -5,7 +5,7 @@ use Rattle.std.proofs.lemmas.List.Folds.{flat_map-map}
 use Rattle.pl_spec.specs.declared.Format.{Format}
 use Rattle.pl_spec.specs.declared.Format.TheVariants.{Csv, Fixed}
 use Rattle.pl_pipeline.specs.Table.{Pipeline, NamedColumn}
-use Rattle.pl_spec.specs.Lines.{line, left_in, right_in}
+use Rattle.pl_spec.specs.Lines.{line_text, left_in, right_in}
 use Rattle.pl_pipeline.specs.Text.{header}
 use Rattle.pl_table.specs.Fields.{date_part, sid_part, field_part}
 
@@ -14,7 +14,7 @@ behind : (a b c e : List ℕ) → (a ++ (b ++ c)) ++ e ≡ (a ++ b) ++ c ++ e
 behind a b c e = ap (λ (t : List ℕ). t ++ e) (sym (append_assoc a b c))
 
 pub line-is : (format : Format) (date sid : List ℕ) (fields : List (List ℕ))
-    → line format date sid fields ≡ (date_part format date ++ sid_part format sid) ++ flat_map (field_part format) fields ++ 10 ∷ []
+    → line_text format date sid fields ≡ (date_part format date ++ sid_part format sid) ++ flat_map (field_part format) fields ++ 10 ∷ []
 line-is Csv date sid fields = behind date (44 ∷ sid) (flat_map (λ f. 44 ∷ f) fields) (10 ∷ [])
 line-is Fixed date sid fields =
     behind (left_in 10 date) (32 ∷ right_in 10 sid) (flat_map (λ f. 32 ∷ f) (map (right_in 20) fields)) (10 ∷ [])

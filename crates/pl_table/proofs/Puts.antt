@@ -4,7 +4,7 @@ use Rattle.pl_spec.specs.declared.Format.{Format}
 use Rattle.pl_spec.specs.Rounding.{is_missing}
 use Rattle.pl_spec.specs.World.{World}
 use Rattle.pl_pipeline.specs.Table.{Pipeline, NamedColumn, value_of, summand}
-use Rattle.pl_pipeline.specs.Text.{field, kind_at}
+use Rattle.pl_pipeline.specs.Text.{value_field, kind_at}
 use Rattle.pl_terms.specs.Checked.{IsChecked}
 use Rattle.pl_terms.specs.Sorts.{sort_at}
 use Rattle.pl_cross.specs.Arrays.{HasTexts, sid_in}
@@ -25,7 +25,7 @@ put-is w p ok texts format sids t i s r cell x old new sort is text sum c own =
     record {
       text = text ∙ ap (λ (y : ℤ). old ++ field_part format (cell_field format w.texts r y)) value
           ∙ ap (λ (f : List ℕ). old ++ field_part format f) (sym (field-is w p ok texts t (sid_in sids i) (pos s) format r sort))
-          ∙ ap (λ (u : ℕ). old ++ field_part format (field format (kind_at p.graph u) (value_of w p u (sid_in sids i) (pos s)))) (sym own);
+          ∙ ap (λ (u : ℕ). old ++ field_part format (value_field format (kind_at p.graph u) (value_of w p u (sid_in sids i) (pos s)))) (sym own);
       sum = sum ∙ ap (λ (y : ℤ). if is_missing y then pos 0 else y) value
           ∙ ap (λ (u : ℕ). summand w.texts (value_of w p u (sid_in sids i) (pos s))) (sym own);
     }

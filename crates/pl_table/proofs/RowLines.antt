@@ -8,8 +8,8 @@ use Rattle.std.proofs.lemmas.Option.{get_or_from_slice_get}
 use Rattle.pl_spec.specs.declared.Format.{Format}
 use Rattle.pl_spec.specs.Dates.{date_text}
 use Rattle.pl_spec.specs.World.{World, day_of}
-use Rattle.pl_pipeline.specs.Table.{Pipeline, NamedColumn, row}
-use Rattle.pl_spec.specs.Lines.{line}
+use Rattle.pl_pipeline.specs.Table.{Pipeline, NamedColumn, table_row}
+use Rattle.pl_spec.specs.Lines.{line_text}
 use Rattle.pl_pipeline.specs.Text.{row_fields, row_line}
 use Rattle.pl_table.specs.Fields.{date_part, sid_part, field_part}
 use Rattle.pl_table.specs.Rows.{row_values, value_part, value_fields}
@@ -22,16 +22,16 @@ fields-are w p format a d [] = refl
 fields-are w p format a d (c ∷ cs) = ap (λ (t : List ℕ). value_part w p format a d c ++ t) (fields-are w p format a d cs)
 
 pub row_line-is : (w : World) (p : Pipeline) (format : Format) (a s : ℕ) (day : ℤ) → day_of w (pos s) ≡ Some day
-    → row_line w p format (row w p (pos s) a) ≡ (date_part format (date_text day) ++ sid_part format (decimal a)) ++ value_fields w p format a (pos s) p.columns ++ 10 ∷ []
+    → row_line w p format (table_row w p (pos s) a) ≡ (date_part format (date_text day) ++ sid_part format (decimal a)) ++ value_fields w p format a (pos s) p.columns ++ 10 ∷ []
 row_line-is w p format a s day is =
-    ap (λ (o : Option ℤ). line format (date_text (unwrap_or o (pos 0))) (decimal a) (row_fields p format p.columns (row_values w p a (pos s) p.columns))) is
+    ap (λ (o : Option ℤ). line_text format (date_text (unwrap_or o (pos 0))) (decimal a) (row_fields p format p.columns (row_values w p a (pos s) p.columns))) is
     ∙ line-is format (date_text day) (decimal a) (row_fields p format p.columns (row_values w p a (pos s) p.columns))
     ∙ ap (λ (t : List ℕ). (date_part format (date_text day) ++ sid_part format (decimal a)) ++ t ++ 10 ∷ []) (fields-are w p format a (pos s) p.columns)
 
 -- a line that is put together from its parts
 pub put-together : (w : World) (p : Pipeline) (format : Format) (a s : ℕ) (day : ℤ) (l0 l1 l2 l3 l4 : List ℕ) → day_of w (pos s) ≡ Some day → l0 ≡ []
     → l1 ≡ l0 ++ date_part format (date_text day) → l2 ≡ l1 ++ sid_part format (decimal a) → l3 ≡ l2 ++ value_fields w p format a (pos s) p.columns → l4 ≡ l3 ++ 10 ∷ []
-    → l4 ≡ row_line w p format (row w p (pos s) a)
+    → l4 ≡ row_line w p format (table_row w p (pos s) a)
 put-together w p format a s day l0 l1 l2 l3 l4 is none date sid values end =
     let front : l2 ≡ date_part format (date_text day) ++ sid_part format (decimal a) =
     sid ∙ ap (λ (t : List ℕ). t ++ sid_part format (decimal a)) (date ∙ ap (λ (t : List ℕ). t ++ date_part format (date_text day)) none) in

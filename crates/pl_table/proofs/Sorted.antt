@@ -14,7 +14,7 @@ use Rattle.pl_spec.specs.declared.Format.TheVariants.{Csv}
 use Rattle.pl_cross.specs.Arrays.{sid_in}
 use Rattle.pl_values.specs.Arrays.{cell_of}
 use Rattle.pl_table.proofs.Outputs.{cell-is}
-use Rattle.pl_pipeline.specs.Text.{field, kind_at, number_text, is_numbered}
+use Rattle.pl_pipeline.specs.Text.{value_field, kind_at, number_text, is_numbered}
 use Rattle.pl_spec.specs.Lines.{label_text}
 use Rattle.pl_terms.specs.declared.node.Node.{Node}
 use Rattle.pl_terms.specs.Nodes.{graph_of}
@@ -146,21 +146,21 @@ number-field format texts k Whole x s other =
     let f = filters-are k ∙ ap is_filters s in let n = numbers-are k ∙ ap is_numbers s in rw (f, n) refl
 number-field format texts k Label x s other = absurd (other refl)
 
-coded-field : (format : Format) (texts : List (List ℕ)) (k : Kind) (v : Value) → IsCoded texts v → field format k v ≡ cell_field format texts Label (in_array texts v)
+coded-field : (format : Format) (texts : List (List ℕ)) (k : Kind) (v : Value) → IsCoded texts v → value_field format k v ≡ cell_field format texts Label (in_array texts v)
 coded-field format texts k v (inl e) = rw e refl
 coded-field format texts k v (inr t) = rw t.1 (ap (label_text format) (sym (placed texts t.0 t.2 (position (bytes_eq t.0) texts) refl).1))
 
 module _ (w : World) (p : Pipeline) (ok : IsChecked p) (texts : HasTexts w) (t a : ℕ) (d : ℤ) (format : Format) where
   numbered-field : (r : Writing) → sort_at p.graph t ≡ Some (sort_written r) → (sort_written r ≡ Labels → ⊥)
-      → field format (kind_at p.graph t) (value_of w p t a d) ≡ cell_field format w.texts r (in_array w.texts (value_of w p t a d))
+      → value_field format (kind_at p.graph t) (value_of w p t a d) ≡ cell_field format w.texts r (in_array w.texts (value_of w p t a d))
   numbered-field r s other =
       let v = numbered-sort w p ok t (sort_written r) s other a d in
       let m = sorted-there p.graph t (sort_written r) s in
-      ap (field format (kind_at p.graph t)) v.1 ∙ number-field format w.texts (kind_at p.graph t) r v.0 m.2 other
+      ap (value_field format (kind_at p.graph t)) v.1 ∙ number-field format w.texts (kind_at p.graph t) r v.0 m.2 other
       ∙ ap (λ (u : Value). cell_field format w.texts r (in_array w.texts u)) (sym v.1)
 
   -- the field of a value is that of its cell
-  pub field-is : (r : Writing) → sort_at p.graph t ≡ Some (sort_written r) → field format (kind_at p.graph t) (value_of w p t a d) ≡ cell_field format w.texts r (in_array w.texts (value_of w p t a d))
+  pub field-is : (r : Writing) → sort_at p.graph t ≡ Some (sort_written r) → value_field format (kind_at p.graph t) (value_of w p t a d) ≡ cell_field format w.texts r (in_array w.texts (value_of w p t a d))
   field-is Label s = coded-field format w.texts (kind_at p.graph t) (value_of w p t a d) (coded-sort w p ok t texts s a d)
   field-is Cell s = numbered-field Cell s (λ e. let bad : Factors ≡ Labels = e in cc)
   field-is Truth s = numbered-field Truth s (λ e. let bad : Filters ≡ Labels = e in cc)

@@ -4,7 +4,7 @@ use Rattle.pl_spec.specs.declared.Format.{Format}
 use Rattle.pl_spec.specs.World.{World, exists}
 use Rattle.pl_pipeline.specs.Value.{Value}
 use Rattle.pl_pipeline.specs.Table.{Pipeline, NamedColumn, value_of, is_kept, summand}
-use Rattle.pl_pipeline.specs.Text.{field, kind_at}
+use Rattle.pl_pipeline.specs.Text.{value_field, kind_at}
 use Rattle.pl_table.specs.Fields.{field_part}
 
 -- the asset exists on the session, and the screen keeps it
@@ -17,7 +17,7 @@ row_values w p a d cs = map (λ c. value_of w p c.term a d) cs
 
 -- the field of one column, with what stands before it
 abbrev pub value_part : World → Pipeline → Format → ℕ → ℤ → NamedColumn → List ℕ
-value_part w p format a d c = field_part format (field format (kind_at p.graph c.term) (value_of w p c.term a d))
+value_part w p format a d c = field_part format (value_field format (kind_at p.graph c.term) (value_of w p c.term a d))
 
 abbrev pub value_fields : World → Pipeline → Format → ℕ → ℤ → List NamedColumn → List ℕ
 value_fields w p format a d cs = flat_map (value_part w p format a d) cs

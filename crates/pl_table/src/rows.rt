@@ -3,7 +3,7 @@ ghost use Rattle.std.specs.Prelude.{◌≡◌, ◌≤◌, ◌<◌, ◌+◌, ◌-
 ghost use Rattle.pl_spec.specs.Limits.{most_columns};
 ghost use Rattle.pl_spec.specs.Rounding.{LIMIT};
 ghost use Rattle.pl_spec.specs.World.{exists};
-ghost use Rattle.pl_pipeline.specs.Table.{NamedColumn, is_kept, row, session_rows};
+ghost use Rattle.pl_pipeline.specs.Table.{NamedColumn, is_kept, table_row, session_rows};
 ghost use Rattle.pl_pipeline.specs.Text.{row_line};
 ghost use Rattle.pl_outside.specs.Taken.{IsWrittenIn, Writes};
 ghost use Rattle.pl_cross.specs.Arrays.{sid_in};
@@ -138,12 +138,12 @@ fn write_row<O: Sink>(
     requires few { totals.old.rows < 2 ^ 63 }
     ensures writes { let o = table.now.outcome.now in Writes O.taken O.faults O.sound O.room out.old out.new
         (row_line (world_in o) (pipeline_in o) o.asked.format
-        (row (world_in o) (pipeline_in o) (pos session) (sid_in (sids_in o) place))) result }
+        (table_row (world_in o) (pipeline_in o) (pos session) (sid_in (sids_in o) place))) result }
     ensures pieces { IsWrittenIn O.whole O.calls out.old out.new 1 }
     ensures rows { totals.new.rows ≡ totals.old.rows + 1 }
     ensures sum { let o = table.now.outcome.now in totals.new.sum ≡ totals.old.sum
         +ℤ values_sum (world_in o).texts
-        (row (world_in o) (pipeline_in o) (pos session) (sid_in (sids_in o) place)).values }
+        (table_row (world_in o) (pipeline_in o) (pos session) (sid_in (sids_in o) place)).values }
 {
     let outcome = table.outcome;
     let format = outcome.asked.format;

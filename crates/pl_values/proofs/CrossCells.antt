@@ -11,7 +11,7 @@ use Rattle.pl_pipeline.specs.Kind.CrossKind.{Rank, Demean, ZScore, Quantiles, Pe
 use Rattle.pl_pipeline.specs.declared.RankMethod.{RankMethod}
 use Rattle.pl_pipeline.specs.declared.RankMethod.TheVariants.{Ordinal, Min, Max, Dense, Average}
 use Rattle.pl_pipeline.specs.declared.RankOrder.{RankOrder}
-use Rattle.pl_pipeline.specs.Cross.{Entry, values, precedes, preceding, same, earlier_same, distinct_values, rank, bin_of, cross, counts_at, entries_for, at}
+use Rattle.pl_pipeline.specs.Cross.{Entry, values, precedes, preceding, count_equal, earlier_same, distinct_values, rank, bin_of, cross, counts_at, entries_for, array_at}
 use Rattle.pl_pipeline.specs.Value.{is_cross_filter}
 use Rattle.pl_pipeline.proofs.Cells.{truth-cell, chosen-has, quot-cell, sub-cell}
 use Rattle.pl_cross.specs.Section.{IsRight}
@@ -36,7 +36,7 @@ module _ (list : List Entry) (a : ℕ) (x : ℤ) (few : length list ≤ 8000) wh
   before-few : (order : RankOrder) → preceding order x (values list) ≤ 8000
   before-few order = let c = count_by-le-length (λ v. precedes order v x) (values list) in let l = long in omega arith
 
-  same-few : same x (values list) ≤ 8000
+  same-few : count_equal x (values list) ≤ 8000
   same-few = let c = count_by-le-length (int_eq x) (values list) in let l = long in omega arith
 
   rank-cell : (m : RankMethod) (order : RankOrder) → IsCell (pos (rank m order list a x))
@@ -46,7 +46,7 @@ module _ (list : List Entry) (a : ℕ) (x : ℤ) (few : length list ≤ 8000) wh
       let l : (preceding order x (values list) + earlier_same a x list + 1) * MILLION ≤ LIMIT = omega arith in
       small-cell _ l
   rank-cell Min order = let b = before-few order in let l : (preceding order x (values list) + 1) * MILLION ≤ LIMIT = omega arith in small-cell _ l
-  rank-cell Max order = let b = before-few order in let c = same-few in let l : (preceding order x (values list) + same x (values list)) * MILLION ≤ LIMIT = omega arith in small-cell _ l
+  rank-cell Max order = let b = before-few order in let c = same-few in let l : (preceding order x (values list) + count_equal x (values list)) * MILLION ≤ LIMIT = omega arith in small-cell _ l
   rank-cell Dense order =
       let b = count_by-le-length (λ v. precedes order v x) (distinct_values (values list)) in
       let c = distinct-few (values list) in
@@ -56,7 +56,7 @@ module _ (list : List Entry) (a : ℕ) (x : ℤ) (few : length list ≤ 8000) wh
   rank-cell Average order =
       let b = before-few order in
       let c = same-few in
-      let l : preceding order x (values list) * MILLION + (same x (values list) + 1) * MILLION / 2 ≤ LIMIT = omega arith in
+      let l : preceding order x (values list) * MILLION + (count_equal x (values list) + 1) * MILLION / 2 ≤ LIMIT = omega arith in
       small-cell _ l
 
   bin-cell : (bins : ℕ) → bins ≤ 100 → IsCell (pos (bin_of bins (values list) x))
@@ -80,7 +80,7 @@ empty-cell k = let l : 0 ≤ LIMIT = omega arith in chosen-has IsCell (is_cross_
 
 entries-few : (vs keep : List ℤ) (labels : _) (i : ℕ) → length (entries_for vs keep labels i) ≤ length vs
 entries-few vs keep labels i =
-    let m = length-map (filter (counts_at vs keep labels i) (range_with_len 0 (length vs))) (λ j. (let e : Entry = (j, at vs j) in e)) in
+    let m = length-map (filter (counts_at vs keep labels i) (range_with_len 0 (length vs))) (λ j. (let e : Entry = (j, array_at vs j) in e)) in
     let f = length-filter (counts_at vs keep labels i) (range_with_len 0 (length vs)) in
     let c = count_by-le-length (counts_at vs keep labels i) (range_with_len 0 (length vs)) in
     let r = length-range_with_len 0 (length vs) in
@@ -91,4 +91,4 @@ section-is-cell k vs keep labels i r few =
     let l = entries-few vs keep (labels_for k vs labels) i in
     let m : length (entries_for vs keep (labels_for k vs labels) i) ≤ 8000 = omega arith in
     chosen-has IsCell (list_any (λ (e : Entry). e.0 == i) (entries_for vs keep (labels_for k vs labels) i)) _ (empty_number k)
-    (cross-cell k (entries_for vs keep (labels_for k vs labels) i) i (at vs i) r m) (empty-cell k)
+    (cross-cell k (entries_for vs keep (labels_for k vs labels) i) i (array_at vs i) r m) (empty-cell k)

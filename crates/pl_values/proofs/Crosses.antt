@@ -7,7 +7,7 @@ use Rattle.pl_pipeline.specs.Kind.{Kind, CrossKind}
 use Rattle.pl_pipeline.specs.Kind.Kind.{Cross}
 use Rattle.pl_pipeline.specs.Kind.CrossKind.{PeerCount}
 use Rattle.pl_spec.specs.Cells.{is_true}
-use Rattle.pl_pipeline.specs.Cross.{at}
+use Rattle.pl_pipeline.specs.Cross.{array_at}
 use Rattle.pl_pipeline.specs.Term.{Node, Input}
 use Rattle.pl_pipeline.specs.Term.Input.{BarColumn, TermInput}
 use Rattle.pl_pipeline.specs.Value.{Part, passes, group_of}
@@ -94,7 +94,7 @@ module _ (w : World) (p : Pipeline) (sids : List ℕ) (ok : IsChecked p) where
     group-sort t h = optional-sort p.graph (has_group n.kind) Classifier n.group t (ok.nodes k n is).group h
 
     kept : (s : ℕ) (keep : List ℤ) → IsKeep (λ i. is_kept w p sids n.mask i s) (length sids) keep → (i : ℕ) → i < length sids
-        → is_true (at keep i) ≡ (exists w (sid_in sids i) (pos s) && passes (number_part w p.names p.graph n.mask) (sid_in sids i) (pos s))
+        → is_true (array_at keep i) ≡ (exists w (sid_in sids i) (pos s) && passes (number_part w p.names p.graph n.mask) (sid_in sids i) (pos s))
     kept s keep b i h =
         let l : i < length keep = omega (arith, h, b.long) in
         ap is_true (get_or_default keep i MISSING (pos 0) l) ∙ b.each i h ∙ sym (keeps-is w p sids ok k n is i s)

@@ -12,7 +12,7 @@ use Rattle.pl_pipeline.specs.Formula.{formula}
 use Rattle.pl_pipeline.specs.Pointwise.{pointwise, label_test}
 use Rattle.pl_pipeline.specs.Cross.{cross}
 use Rattle.pl_pipeline.specs.Term.{Node, input_tree, trees}
-use Rattle.pl_pipeline.specs.Value.{Value, Part, now, passes, eligible, group_of, test_value, empty, number_of, sort_over, sort_kind, step}
+use Rattle.pl_pipeline.specs.Value.{Value, Part, value_of_part, passes, eligible, group_of, test_value, empty, number_of, sort_over, sort_kind, kind_value}
 use Rattle.pl_pipeline.specs.Value.Value.{Number, Text}
 use Rattle.pl_pipeline.specs.NodeValue.{node_value, input_part, number_part}
 use Rattle.pl_pipeline.specs.Table.{Pipeline, value_of, in_array}
@@ -67,14 +67,14 @@ test_truth : (k : LabelKind) (v : Value) → IsTruth (test_value k v)
 test_truth k (Number x) = (false, refl)
 test_truth k (Text t) = (label_test k t, refl)
 
-step_truth : (w : World) (names : List (List ℕ)) (k : Kind) (size : ℕ) (x y z m g : Part) (a : ℕ) (d : ℤ) → sort_of k ≡ Filters → IsTruth (step w names k size x y z m g a d)
-unfolding step sort_of
+step_truth : (w : World) (names : List (List ℕ)) (k : Kind) (size : ℕ) (x y z m g : Part) (a : ℕ) (d : ℤ) → sort_of k ≡ Filters → IsTruth (kind_value w names k size x y z m g a d)
+unfolding kind_value sort_of
 step_truth w names (StaticSids sids) size x y z m g a d h = (_, refl)
 step_truth w names (Window k) size x y z m g a d h = window_truth k _ _ _ h
 step_truth w names (Point k) size x y z m g a d h = point_truth k _ _ _ h
-step_truth w names (LabelTest k) size x y z m g a d h = test_truth k (now x a d)
+step_truth w names (LabelTest k) size x y z m g a d h = test_truth k (value_of_part x a d)
 step_truth w names (Cross k) size x y z m g a d h =
-    let t = cross_truth k (eligible w x m (group_of k x g) a d) a (number_of (now x a d)) h in
+    let t = cross_truth k (eligible w x m (group_of k x g) a d) a (number_of (value_of_part x a d)) h in
     either_truth (list_any (λ e. e.0 == a) (eligible w x m (group_of k x g) a d)) _ (empty (Cross k)) t.0 t.1
 step_truth w names k size x y z m g a d h = absurd (true≢false (sym (ap is_filters h)))
 

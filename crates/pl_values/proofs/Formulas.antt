@@ -14,7 +14,7 @@ use Rattle.pl_pipeline.specs.Kind.WindowKind.{Latest, BollingerLower, BollingerU
 use Rattle.pl_pipeline.specs.Formula.{formula}
 use Rattle.pl_pipeline.specs.Term.{Node, Input}
 use Rattle.pl_pipeline.specs.Term.Input.{BarColumn, TermInput}
-use Rattle.pl_pipeline.specs.Value.{number_of, window_of, step}
+use Rattle.pl_pipeline.specs.Value.{number_of, window_of, kind_value}
 use Rattle.pl_pipeline.specs.NodeValue.{input_part}
 use Rattle.pl_pipeline.specs.Table.{Pipeline, value_of}
 use Rattle.pl_spec.proofs.Windows.{before-pos, map-downward}
@@ -189,7 +189,7 @@ module _ (w : World) (p : Pipeline) (sids : List ℕ) (k : ℕ) (n : Node) (own 
       })
 
   pub seen-given : IsGiven w p sids k n i s (windowed n.kind a b c)
-  unfolding step
+  unfolding kind_value
   seen-given =
       gated w p sids own.checked k n own.node i s (windowed n.kind a b c)
       (rw e

@@ -10,7 +10,7 @@ use Rattle.pl_pipeline.specs.Kind.Kind.{Label, Window, Point, LabelTest, Cross, 
 use Rattle.pl_spec.specs.Cells.{truth}
 use Rattle.pl_pipeline.specs.Pointwise.{label_test}
 use Rattle.pl_pipeline.specs.Term.{Node, input_tree, trees}
-use Rattle.pl_pipeline.specs.Value.{Value, Part, now, passes, eligible, group_of, test_value, empty, is_filter, number_of, sort_over, sort_kind, step}
+use Rattle.pl_pipeline.specs.Value.{Value, Part, value_of_part, passes, eligible, group_of, test_value, empty, is_filter, number_of, sort_over, sort_kind, kind_value}
 use Rattle.pl_pipeline.specs.Value.Value.{Number, Text}
 use Rattle.pl_pipeline.specs.NodeValue.{node_value, input_part, number_part}
 use Rattle.pl_pipeline.specs.Table.{Pipeline, value_of, in_array}
@@ -44,11 +44,11 @@ gives_numbers (Label n) = false
 gives_numbers (Downsample f) = false
 gives_numbers k = true
 
-step_number : (w : World) (names : List (List ℕ)) (k : Kind) (size : ℕ) (x y z m g : Part) (a : ℕ) (d : ℤ) → gives_numbers k ≡ true → IsNumber (step w names k size x y z m g a d)
-unfolding step
+step_number : (w : World) (names : List (List ℕ)) (k : Kind) (size : ℕ) (x y z m g : Part) (a : ℕ) (d : ℤ) → gives_numbers k ≡ true → IsNumber (kind_value w names k size x y z m g a d)
+unfolding kind_value
 step_number w names (Label n) size x y z m g a d h = absurd (true≢false (sym h))
 step_number w names (Downsample f) size x y z m g a d h = absurd (true≢false (sym h))
-step_number w names (LabelTest k) size x y z m g a d h = test_number k (now x a d)
+step_number w names (LabelTest k) size x y z m g a d h = test_number k (value_of_part x a d)
 step_number w names (Cross k) size x y z m g a d h =
     either_number (list_any (λ e. e.0 == a) (eligible w x m (group_of k x g) a d)) _ (empty (Cross k)) (_, refl) (number_of (empty (Cross k)), empty_is (Cross k))
 step_number w names k size x y z m g a d h = (_, refl)

@@ -13,7 +13,7 @@ use Rattle.pl_pipeline.specs.Kind.PointKind.{Add, Sub, Mul, Div, Comparison, And
 use Rattle.pl_pipeline.specs.Pointwise.{pointwise}
 use Rattle.pl_pipeline.specs.Term.{Node, Input}
 use Rattle.pl_pipeline.specs.Term.Input.{BarColumn, TermInput}
-use Rattle.pl_pipeline.specs.Value.{Value, now, number_of, step}
+use Rattle.pl_pipeline.specs.Value.{Value, value_of_part, number_of, kind_value}
 use Rattle.pl_pipeline.specs.Value.Value.{Number, Text}
 use Rattle.pl_pipeline.specs.NodeValue.{input_part}
 use Rattle.pl_pipeline.specs.Table.{Pipeline, value_of, in_array}
@@ -120,11 +120,11 @@ module _ (w : World) (p : Pipeline) (sids : List ℕ) (ok : IsChecked p) (k : �
 
     module _ (i : ℕ) (inside : i < size) where
       operand-same : (j : ℕ) (row : List ℤ) → is_asked f ≡ false → IsEntryRow w p sids place on size (slice_get n.inputs j) row
-          → used f j (number_of (now (input_part w p.names p.graph (slice_get n.inputs j)) (sid_in sids (place i)) (pos (on i)))) ≡ used f j (get_or row i (pos 0))
+          → used f j (number_of (value_of_part (input_part w p.names p.graph (slice_get n.inputs j)) (sid_in sids (place i)) (pos (on i)))) ≡ used f j (get_or row i (pos 0))
       operand-same j row h r = here (nat_lt j (length (point_places f))) refl
         where
           here : (b : Bool) → nat_lt j (length (point_places f)) ≡ b
-              → used f j (number_of (now (input_part w p.names p.graph (slice_get n.inputs j)) (sid_in sids (place i)) (pos (on i)))) ≡ used f j (get_or row i (pos 0))
+              → used f j (number_of (value_of_part (input_part w p.names p.graph (slice_get n.inputs j)) (sid_in sids (place i)) (pos (on i)))) ≡ used f j (get_or row i (pos 0))
           here false g = rw g refl
           here true g =
               let q = place-at (point_places f) j g in
@@ -132,14 +132,14 @@ module _ (w : World) (p : Pipeline) (sids : List ℕ) (ok : IsChecked p) (k : �
               let plain = all-at plain_place (point_places f) j q.0 (points-plain f h) q.1 in
               let numbered = plain-number w p ok x.0 (sort_at p.graph x.0) refl (takes-plain q.0 (sort_at p.graph x.0) (and_from _ _ plain x.2)) in
               let row_cell : get_or row i (pos 0) ≡ cell_of w p sids x.0 (place i) (on i) = (row-is j x.0 row x.1 r).each i inside in
-              let value_cell : number_of (now (input_part w p.names p.graph (slice_get n.inputs j)) (sid_in sids (place i)) (pos (on i))) ≡ cell_of w p sids x.0 (place i) (on i) =
-              ap (λ (o : Option Input). number_of (now (input_part w p.names p.graph o) (sid_in sids (place i)) (pos (on i)))) x.1 ∙ cell-number w p sids ok x.0 numbered (place i) (on i) in
+              let value_cell : number_of (value_of_part (input_part w p.names p.graph (slice_get n.inputs j)) (sid_in sids (place i)) (pos (on i))) ≡ cell_of w p sids x.0 (place i) (on i) =
+              ap (λ (o : Option Input). number_of (value_of_part (input_part w p.names p.graph o) (sid_in sids (place i)) (pos (on i)))) x.1 ∙ cell-number w p sids ok x.0 numbered (place i) (on i) in
               ap (used f j) (value_cell ∙ sym row_cell)
 
     -- ---- the cell
 
     abbrev value-at : ℕ → ℕ → Value
-    value-at j i = now (input_part w p.names p.graph (slice_get n.inputs j)) (sid_in sids (place i)) (pos (on i))
+    value-at j i = value_of_part (input_part w p.names p.graph (slice_get n.inputs j)) (sid_in sids (place i)) (pos (on i))
 
     plainly : (i : ℕ) (a b c : List ℤ) → i < size → AreEntries w p sids n place on size a b c → is_asked f ≡ false
         → pointwise f (number_of (value-at 0 i)) (number_of (value-at 1 i)) (number_of (value-at 2 i)) ≡ pointwise f (get_or a i (pos 0)) (get_or b i (pos 0)) (get_or c i (pos 0))
@@ -165,7 +165,7 @@ module _ (w : World) (p : Pipeline) (sids : List ℕ) (ok : IsChecked p) (k : �
         let x = term-at 0 FactorOrClassifier (asked-place h) in
         let row_cell : get_or a i (pos 0) ≡ in_array w.texts (value_of w p x.0 (sid_in sids (place i)) (pos (on i))) = (row-is 0 x.0 a x.1 rows.first).each i inside in
         first-alone f h _ _ _ (get_or b i (pos 0)) (get_or c i (pos 0))
-        ∙ ap (λ (o : Option Input). pointwise f (number_of (now (input_part w p.names p.graph o) (sid_in sids (place i)) (pos (on i)))) (get_or b i (pos 0)) (get_or c i (pos 0))) x.1
+        ∙ ap (λ (o : Option Input). pointwise f (number_of (value_of_part (input_part w p.names p.graph o) (sid_in sids (place i)) (pos (on i)))) (get_or b i (pos 0)) (get_or c i (pos 0))) x.1
         ∙ asked-same f w.texts (value_of w p x.0 (sid_in sids (place i)) (pos (on i))) (get_or b i (pos 0)) (get_or c i (pos 0)) h
         ∙ ap (λ y. pointwise f y (get_or b i (pos 0)) (get_or c i (pos 0))) (sym row_cell)
 
@@ -257,7 +257,7 @@ module _ (w : World) (p : Pipeline) (sids : List ℕ) (k : ℕ) (n : Node) (own 
       )
 
   pub entry-given : (i : ℕ) → i < size → IsGiven w p sids k n (place i) (on i) (operation n.kind (get_or a i (pos 0)) (get_or b i (pos 0)) (get_or c i (pos 0)))
-  unfolding step
+  unfolding kind_value
   entry-given i inside =
       gated w p sids own.checked k n own.node (place i) (on i) (operation n.kind (get_or a i (pos 0)) (get_or b i (pos 0)) (get_or c i (pos 0)))
       (rw e (same-point w p sids own.checked k n own.node f e place on size i a b c inside rows (is_asked f) refl))

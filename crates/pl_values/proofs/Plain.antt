@@ -15,7 +15,7 @@ use Rattle.pl_spec.specs.Cells.{truth}
 use Rattle.pl_pipeline.specs.Pointwise.{label_test}
 use Rattle.pl_pipeline.specs.Term.{Node, Input}
 use Rattle.pl_pipeline.specs.Term.Input.{BarColumn, TermInput}
-use Rattle.pl_pipeline.specs.Value.{Value, name_at, test_value, step}
+use Rattle.pl_pipeline.specs.Value.{Value, name_at, test_value, kind_value}
 use Rattle.pl_pipeline.specs.Table.{Pipeline, value_of, in_array}
 use Rattle.pl_terms.specs.Checked.{IsChecked}
 use Rattle.pl_terms.specs.Sorts.{LabelClassifier, Labels, sort_at, places, fits, has_parameters, is_limited, is_downsampled}
@@ -38,12 +38,12 @@ unfolding has_parameters
 constant-limited k w names value e h = rw e at h
 
 pub constant-cell : ConstantCells
-unfolding step
+unfolding kind_value
 constant-cell w p sids k n i s own value e =
     (limited-cell value (constant-limited n.kind n.window _ value e (own.checked.nodes k n own.node).parameters), gated w p sids own.checked k n own.node i s value (rw e refl))
 
 pub sid-cell : SidCells
-unfolding step
+unfolding kind_value
 sid-cell w p sids k n i s own list e = gated w p sids own.checked k n own.node i s (sid_flag n.kind (sid_in sids i)) (rw e refl)
 
 pub label-below : (k : Kind) (w names name : ℕ) → k ≡ Label name → has_parameters k w names ≡ true → name < names
@@ -51,7 +51,7 @@ unfolding has_parameters
 label-below k w names name e h = let l : nat_lt name names ≡ true = rw e at h in grind (arith, nat_tests)
 
 pub label-cell : LabelCells
-unfolding step
+unfolding kind_value
 label-cell w p sids k n i s own name e = (
   label-below n.kind n.window _ name e (own.checked.nodes k n own.node).parameters,
   gated w p sids own.checked k n own.node i s (label_code w.texts (label_at w (name_at p.names name) (sid_in sids i) (pos s))) (rw e refl),
@@ -62,7 +62,7 @@ unfolding has_parameters
 number-below k w names name e h = let l : nat_lt name names ≡ true = rw e at h in grind (arith, nat_tests)
 
 pub number-cell : NumberCells
-unfolding step
+unfolding kind_value
 number-cell w p sids k n i s own name e = (
   number-below n.kind n.window _ name e (own.checked.nodes k n own.node).parameters,
   gated w p sids own.checked k n own.node i s (known_number w (name_at p.names name) (sid_in sids i) (pos s)) (rw e refl),
@@ -112,7 +112,7 @@ label-input p ok k n is f e =
     here (BarColumn c) h g = absurd (let bad : false ≡ true = g in cc)
 
 pub label-test-cell : LabelTestCells
-unfolding cell_of step
+unfolding cell_of kind_value
 label-test-cell w p sids k n i s own f t texts e x =
     let input = label-input p own.checked k n own.node f e in
     let same : input.0 ≡ t = cc in
@@ -129,6 +129,6 @@ pub downsampled-input : (p : Pipeline) (ok : IsChecked p) (k : ℕ) (n : Node) �
 downsampled-input p ok k n is f e = let x = over p ok k n is (ap is_downsampled e) in (x.input, x.first)
 
 pub downsampled-cell : DownsampledCells
-unfolding cell_of step
+unfolding cell_of kind_value
 downsampled-cell w p sids k n i s own f t r e x h =
     gated w p sids own.checked k n own.node i s (in_array w.texts (value_of w p t (sid_in sids i) (pos r))) (rw (e, x, sym h) refl)

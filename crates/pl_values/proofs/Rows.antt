@@ -6,7 +6,7 @@ use Rattle.pl_spec.specs.Rounding.{MISSING, IsCell}
 use Rattle.pl_spec.specs.World.{World, label_at, known_number}
 use Rattle.pl_pipeline.specs.Kind.{CrossKind}
 use Rattle.pl_pipeline.specs.Kind.Kind.{Constant, Label, Number, Cross}
-use Rattle.pl_pipeline.specs.Cross.{at}
+use Rattle.pl_pipeline.specs.Cross.{array_at}
 use Rattle.pl_pipeline.specs.Term.{Node, term_at}
 use Rattle.pl_pipeline.specs.Term.Input.{TermInput}
 use Rattle.pl_pipeline.specs.Value.{sort_kind}
@@ -160,7 +160,7 @@ module _ (w : World) (p : Pipeline) (sids : List ℕ) (k : ℕ) (n : Node) (s si
   pub section-cells : All IsCell values
   section-cells = fills-all IsCell (λ i. cell_of w p sids section-row.0 i s) size values section-row.1 section-row.1.cell
 
-  pub section-out : (out : List ℤ) → length out ≡ size → ((g : CrossKind) → n.kind ≡ Cross g → (i : ℕ) → i < size → at out i ≡ section_at g values keep labels i) → All IsCell out
+  pub section-out : (out : List ℤ) → length out ≡ size → ((g : CrossKind) → n.kind ≡ Cross g → (i : ℕ) → i < size → array_at out i ≡ section_at g values keep labels i) → All IsCell out
       → Fills (λ i. cell_of w p sids k i s) size out
   section-out out long each cells = record {
     long = long;

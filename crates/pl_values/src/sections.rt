@@ -2,7 +2,7 @@
 ghost use Rattle.std.specs.Prelude.{◌≡◌, ◌≤◌, ◌<◌, ℕ, All, length, not, true};
 ghost use Rattle.pl_spec.specs.Limits.{most_assets};
 ghost use Rattle.pl_spec.specs.Rounding.{IsCell};
-ghost use Rattle.pl_pipeline.specs.Cross.{at};
+ghost use Rattle.pl_pipeline.specs.Cross.{array_at};
 ghost use Rattle.pl_pipeline.specs.Kind.{Kind, CrossKind};
 ghost use Rattle.pl_terms.specs.Kinds.{kind_of};
 ghost use Rattle.pl_cross.specs.Section.{HasParameters, is_choice, is_measure, is_section};
@@ -33,7 +33,7 @@ pub fn section_values(
     ensures room { cross.new ≡ cross.old }
     ensures length { length out.new ≡ length out.old }
     ensures each { (k : CrossKind) → kind_of kind.now ≡ Kind.Cross k → (i : ℕ)
-        → i < length values.now → at out.new i
+        → i < length values.now → array_at out.new i
         ≡ section_at k values.now keep.now (labels_in groups.entry) i }
     ensures cells { All IsCell out.new }
 {

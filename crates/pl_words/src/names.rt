@@ -5,8 +5,10 @@ ghost use Rattle.pl_words.specs.Request.{adjustments_of, column_asked, date_aske
 ghost use Rattle.pl_words.specs.Request.Request.{Plan, Payouts, Explain, Verify};
 ghost use Rattle.pl_words.specs.Views.{dated_of, explain_of, names_view, payouts_of, plan_of, request_of, run_of, text_of, verify_of, world_names_of};
 
-use crate::request::{DateWord, ExplainRequest, InputFile, PayoutsRequest, PlanRequest};
-use crate::request::{RangeDate, Request, RunRequest, VerifyRequest, WorldNames};
+use crate::request::{
+    DateWord, ExplainRequest, InputFile, PayoutsRequest, PlanRequest, RangeDate, Request,
+    RunRequest, VerifyRequest, WorldNames,
+};
 
 /// The names of files, of adjustments and of a column, and the dates as they are written; each where the
 /// words have it.

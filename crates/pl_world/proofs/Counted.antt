@@ -11,7 +11,7 @@ use Rattle.pl_pipeline.specs.Kind.Kind.{Number}
 use Rattle.pl_spec.specs.Rounding.{MISSING, is_present}
 use Rattle.pl_pipeline.specs.Term.{Graph, Node}
 use Rattle.pl_pipeline.specs.Value as values
-use Rattle.pl_pipeline.specs.Value.{name_at, number_of, step}
+use Rattle.pl_pipeline.specs.Value.{name_at, number_of, kind_value}
 use Rattle.pl_spec.specs.World.{World, exists, known_number}
 use Rattle.pl_pipeline.specs.Table.{Pipeline, value_of}
 use Rattle.pl_spec.proofs.Ranges.{range-more, range-next}
@@ -63,7 +63,7 @@ module _ (w : World) (p : Pipeline) (ok : IsChecked p) (t name : ℕ) (is : IsNu
 
   -- it is present where the asset exists and its number is
   present-is : (a s : ℕ) → is_present (number_of (value_of w p t a (pos s))) ≡ (exists w a (pos s) && is_present (known_number w (name_at p.names name) a (pos s)))
-  unfolding step
+  unfolding kind_value
   present-is a s =
       ap (λ v. is_present (number_of v)) (value_at-node w p.names p.graph ok.graph t is.node is.at a (pos s))
       ∙ rw (unmasked, is.kind) (here (exists w a (pos s)) (known_number w (name_at p.names name) a (pos s)))

@@ -10,7 +10,7 @@ use Rattle.pl_pipeline.specs.Text.{text}
 use Rattle.pl_world.specs.declared.owned.OwnedWorld.{OwnedWorld}
 use Rattle.pl_world.specs.declared.world.World.{World}
 use Rattle.pl_world.specs.Known.{IsKnown, ShowsSameUpTo}
-use Rattle.pl_world.specs.Worlds.{IsOwned, PartsMakeAWorld, owned_world, world_of}
+use Rattle.pl_world.specs.Worlds.{IsOwnedMade, PartsMakeAWorld, owned_world, world_of}
 
 -- what each cut gives
 pub record AreCut (w : World) (d : ℕ) (day : ℤ) (v : OwnedWorld) : Type 0 where
@@ -48,7 +48,7 @@ module _ (w : World) (d : ℕ) (day : ℤ) (v : OwnedWorld) (are : AreCut w d da
         agrees = rw world_is (agrees (world_of w) d day made.world are.is_day);
       }
 
-  pub is_owned : IsOwned v
+  pub is_owned : IsOwnedMade v
   is_owned =
       let parts = (parts-of w.sessions.now w.assets.now w.labels.now.rows w.labels.now.texts w.bars.now w.adjustments.now w.numbers.now.rows d day).parts made.parts are.is_day in
       rw (sessions_are, are.assets, are.labels, are.bars, are.adjustments, are.numbers)

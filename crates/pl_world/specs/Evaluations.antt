@@ -5,7 +5,7 @@ use Rattle.pl_spec.specs.declared.AssetRow.{AssetRow}
 use Rattle.pl_spec.specs.Parts.{sid_at}
 use Rattle.pl_spec.specs.World as spec
 use Rattle.pl_spec.specs.World.{exists}
-use Rattle.pl_pipeline.specs.Cross.{at}
+use Rattle.pl_pipeline.specs.Cross.{array_at}
 use Rattle.pl_pipeline.specs.Kind.{Kind, CrossKind}
 use Rattle.pl_pipeline.specs.Kind.Kind.{Cross}
 use Rattle.pl_pipeline.specs.Term.{term_at}
@@ -120,5 +120,5 @@ pub record AreRowsOf (w : World) (c : Parts) (t session : ℕ) (xs : List ℤ) (
 -- the cells of a cross-section over the rows of its input, of who is kept, and of its group
 pub record AreSectionCells (f : Kind) (xs ks : List ℤ) (ls : Option (List ℤ)) (row : List ℤ) : Type 0 where
   pub long : length row ≡ length xs
-  pub each : (k : CrossKind) → f ≡ Cross k → (i : ℕ) → i < length xs → at row i ≡ section_at k xs ks ls i
+  pub each : (k : CrossKind) → f ≡ Cross k → (i : ℕ) → i < length xs → array_at row i ≡ section_at k xs ks ls i
   pub cells : All IsCell row

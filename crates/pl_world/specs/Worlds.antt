@@ -44,8 +44,8 @@ IsMade w =
     AreMadeFor w.sessions.now w.assets.now w.labels.now.rows w.bars.now w.adjustments.now w.numbers.now.rows
 
 -- the same of parts that are owned
-abbrev pub IsOwned : OwnedWorld → Type 0
-IsOwned w = AreMadeFor w.sessions w.assets w.labels.rows w.bars w.adjustments w.numbers.rows
+abbrev pub IsOwnedMade : OwnedWorld → Type 0
+IsOwnedMade w = AreMadeFor w.sessions w.assets w.labels.rows w.bars w.adjustments w.numbers.rows
 
 -- the parts were made for one another, and each is as its type keeps it
 pub record AreSound (w : World) : Type 0 where

@@ -1,7 +1,7 @@
 //! What of a world is known by a session.
 
 ghost use Rattle.std.specs.Prelude.{◌<◌, length, IfOk};
-ghost use Rattle.pl_world.specs.Worlds.{IsMade, IsOwned};
+ghost use Rattle.pl_world.specs.Worlds.{IsMade, IsOwnedMade};
 ghost use Rattle.pl_world.specs.Known.{IsKnown, ShowsSameUpTo};
 
 use crate::laws::parts_make_a_world;
@@ -18,7 +18,7 @@ pub fn asof_world(alloc: Global, world: &World, session: usize) -> Result<OwnedW
     requires within { session < length world.now.sessions.now }
     ensures known { IfOk result (IsKnown world.now session) }
     // Its parts were made for its own sessions and assets.
-    ensures made { IfOk result IsOwned }
+    ensures made { IfOk result IsOwnedMade }
     // Its rows up to the session are those of the whole world, and are written alike.
     ensures same { IfOk result (ShowsSameUpTo world.now session) }
 {

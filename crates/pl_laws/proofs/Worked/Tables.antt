@@ -8,7 +8,7 @@ use Rattle.pl_pipeline.specs.declared.RankMethod.TheVariants as method
 use Rattle.pl_pipeline.specs.declared.RankOrder.TheVariants.{Ascending}
 use Rattle.pl_pipeline.specs.Kind.{Kind, WindowKind, PointKind, CrossKind}
 use Rattle.pl_pipeline.specs.Term.{Node}
-use Rattle.pl_pipeline.specs.Table.{Pipeline, table, cells}
+use Rattle.pl_pipeline.specs.Table.{Pipeline, table, sum_of_cells}
 use Rattle.pl_pipeline.specs.Text.{text}
 use Rattle.pl_laws.proofs.Worked.Worlds.{opened, units, closed, row_on, splits_of, no_tables, world, alone, plain, split, gap, outgrown, leaving, three_bars, grouped, sector, sectors, of_bars, of_terms, named, pipeline, latest_close, csv, lines}
 
@@ -23,7 +23,7 @@ closes_around_a_split : csv split latest_close 1 2 ≡ lines (codes "session,sid
 unfolding opened
 closes_around_a_split = refl
 
-sum_of_two_cells : cells [] (table split latest_close 1 2) ≡ pos 151000000
+sum_of_two_cells : sum_of_cells [] (table split latest_close 1 2) ≡ pos 151000000
 unfolding opened
 sum_of_two_cells = refl
 
@@ -153,12 +153,12 @@ without_labels_all_fields_are_empty = refl
 
 -- a label counts by its place among the texts, 0 or 1, and what is missing counts 0: -1500000, 0, 1500000, 0,
 -- 0 and 1
-labels_count_by_their_place : cells (codes "tech" ∷ codes "Oil, Gas" ∷ []) (table (grouped sectors) by_sector 1 1) ≡ pos 1
+labels_count_by_their_place : sum_of_cells (codes "tech" ∷ codes "Oil, Gas" ∷ []) (table (grouped sectors) by_sector 1 1) ≡ pos 1
 unfolding by_sector opened
 labels_count_by_their_place = refl
 
 -- the sum is taken modulo 2 ^ 64
-sums_wrap : cells [] (table (alone (closed 1 0 (units 1) ∷ []) no_tables) (pipeline (of_terms (Kind.Constant (negsuc 0)) [] ∷ []) (named (codes "c") 0 ∷ [])) 1 1) ≡ pos 18446744073709551615
+sums_wrap : sum_of_cells [] (table (alone (closed 1 0 (units 1) ∷ []) no_tables) (pipeline (of_terms (Kind.Constant (negsuc 0)) [] ∷ []) (named (codes "c") 0 ∷ [])) 1 1) ≡ pos 18446744073709551615
 unfolding opened
 sums_wrap = refl
 

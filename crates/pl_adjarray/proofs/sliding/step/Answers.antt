@@ -1,7 +1,7 @@
 use Rattle.std.proofs.Common.{◌≡◌, ◌+◌, ◌-◌, length, pos, subst, ap, ◌∙◌, arith, rules, FitsSigned, w32, Some, slice_get}
 use Rattle.std.proofs.lemmas.Int.{to_z-of_z}
 use Rattle.pl_adjarray.specs.Buffered.{Buffered}
-use Rattle.pl_adjarray.specs.Inside.{IsReady}
+use Rattle.pl_adjarray.specs.Inside.{IsReadyBuffer}
 use Rattle.pl_adjarray.proofs.Slides.{next_seen, next_applied, next_cut, next_cost}
 use Rattle.pl_adjarray.proofs.sliding.step.Goals as goal
 
@@ -10,7 +10,7 @@ returns-clause-seen g c =
     let b = c.args.array.now in
     let d = c.args.session in
     let held = c.requires.seen in
-    let ready : IsReady b = subst IsReady c.array.view_is c.array.invariant in
+    let ready : IsReadyBuffer b = subst IsReadyBuffer c.array.view_is c.array.invariant in
     let today : FitsSigned w32 c.day-today.result = search rules in
     let next_day : FitsSigned w32 c.day-next_day.result = search rules in
     let first : c.array.inside.first ≡ b.first = ap (λ (b : Buffered). b.first) c.array.view_is in
@@ -41,7 +41,7 @@ returns-clause-cost g c =
     let b = c.args.array.now in
     let d = c.args.session in
     let held = c.requires.seen in
-    let ready : IsReady b = subst IsReady c.array.view_is c.array.invariant in
+    let ready : IsReadyBuffer b = subst IsReadyBuffer c.array.view_is c.array.invariant in
     let today : FitsSigned w32 c.day-today.result = search rules in
     let next_day : FitsSigned w32 c.day-next_day.result = search rules in
     let first : c.array.inside.first ≡ b.first = ap (λ (b : Buffered). b.first) c.array.view_is in

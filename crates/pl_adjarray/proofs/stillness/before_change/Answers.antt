@@ -3,7 +3,7 @@ use Rattle.std.specs.List.{position}
 use Rattle.std.specs.Int.RustNames.{int_le}
 use Rattle.std.proofs.lemmas.Int.{to_z-of_z}
 use Rattle.pl_adjarray.specs.Buffered.{Buffered}
-use Rattle.pl_adjarray.specs.Inside.{IsReady}
+use Rattle.pl_adjarray.specs.Inside.{IsReadyBuffer}
 use Rattle.pl_adjarray.specs.Stillness.{effective_within}
 use Rattle.pl_adjarray.proofs.Stretches.{all_quiet, by_days, has_next, next_later, up_to_next}
 use Rattle.pl_adjarray.proofs.stillness.before_change.Goals as goal
@@ -13,7 +13,7 @@ returns-in_default-clause-greatest c =
     let b = c.args.array.now in
     let today : FitsSigned w32 c.day-today.result = search rules in
     let last : FitsSigned w32 c.day-last.result = search rules in
-    let ready : IsReady b = subst IsReady c.array.view_is c.array.invariant in
+    let ready : IsReadyBuffer b = subst IsReadyBuffer c.array.view_is c.array.invariant in
     let at_d = subst (λ (x : Buffered). slice_get x.days c.args.session ≡ Some c.day-today.result) c.array.view_is c.day-today.ensures.exact in
     let at_last = subst (λ (x : Buffered). slice_get x.days (c.args.session + c.args.most) ≡ Some c.day-last.result) c.array.view_is c.day-last.ensures.exact in
     let first = simp to_z-of_z at c.first_change.ensures in
@@ -24,8 +24,8 @@ module _ (c : goal.In-Some-first_at_or_after) where
   abbrev b : Buffered
   b = c.args.array.now
 
-  ready : IsReady b
-  ready = subst IsReady c.array.view_is c.array.invariant
+  ready : IsReadyBuffer b
+  ready = subst IsReadyBuffer c.array.view_is c.array.invariant
 
   first : Some c.in-Some.day ≡ option_map (λ e. e.day) (slice_get (effective_within b c.args.session c.args.most c.args.col) 0)
   first =
@@ -61,7 +61,7 @@ returns-in-None-clause-greatest c =
     let today : FitsSigned w32 c.day-today.result = search rules in
     let last : FitsSigned w32 c.day-last.result = search rules in
     let day : FitsSigned w32 c.in-Some.day = search rules in
-    let ready : IsReady b = subst IsReady c.array.view_is c.array.invariant in
+    let ready : IsReadyBuffer b = subst IsReadyBuffer c.array.view_is c.array.invariant in
     let at_d = subst (λ (x : Buffered). slice_get x.days c.args.session ≡ Some c.day-today.result) c.array.view_is c.day-today.ensures.exact in
     let at_last = subst (λ (x : Buffered). slice_get x.days (c.args.session + c.args.most) ≡ Some c.day-last.result) c.array.view_is c.day-last.ensures.exact in
     let change = simp to_z-of_z at c.first_change.ensures in

@@ -1,5 +1,5 @@
 use Rattle.std.proofs.Common.{◌≡◌, ◌+◌, ap, ◌∙◌, sym, arith, length, max}
-use Rattle.pl_spec.specs.Limits.{cut}
+use Rattle.pl_spec.specs.Limits.{saturated}
 use Rattle.pl_exec.specs.Tasks.{graph_in, held_in, steps_in}
 use Rattle.pl_exec.specs.ChunkInputs.{task_of}
 use Rattle.pl_exec.proofs.Listed.{sum_more}
@@ -45,7 +45,7 @@ returns-clause-peak g c =
 pub returns-clause-applied : goal.returns-clause-applied
 returns-clause-applied g c =
     let all : c.loop-k.k ≡ length (graph_in (task_of c.args.chunk.now)) = omega (arith, c.loop-k-test.false, c.loop-k.auto.k-end, c.term_count-k-end.ensures) in
-    c.loop-k.invariant.applied ∙ ap cut (steps_sum (task_of c.args.chunk.now) c.requires.chunk.task c.loop-k.k all)
+    c.loop-k.invariant.applied ∙ ap saturated (steps_sum (task_of c.args.chunk.now) c.requires.chunk.task c.loop-k.k all)
 
 pub returns-clause-cost : goal.returns-clause-cost
 returns-clause-cost g c =

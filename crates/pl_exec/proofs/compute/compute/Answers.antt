@@ -1,6 +1,6 @@
 use Rattle.std.proofs.Common.{◌≡◌, ◌∙◌, refl, ap, sym, subst, arith, length}
 use Rattle.pl_pipeline.specs.Graph.{columns_at}
-use Rattle.pl_spec.specs.Limits.{cut}
+use Rattle.pl_spec.specs.Limits.{saturated}
 use Rattle.pl_terms.specs.Nodes.{node_of}
 use Rattle.pl_exec.specs.declared.course.Course.{Course}
 use Rattle.pl_exec.specs.Tasks.{IsArray, graph_in}
@@ -42,5 +42,5 @@ returns-clause-filled g c =
       peak = omega (arith, none, c.requires.counted);
       held = omega (arith, none, c.live-held.ensures);
       cost = omega (arith, z);
-      applied = ap cut (sym z);
+      applied = ap saturated (sym z);
     })

@@ -1,5 +1,5 @@
 use Rattle.std.proofs.Common.{◌≡◌, ◌≤◌, ◌+◌, ◌*◌, sym, subst, refl, length, arith}
-use Rattle.pl_spec.specs.Limits.{cut}
+use Rattle.pl_spec.specs.Limits.{saturated}
 use Rattle.pl_exec.specs.declared.course.Course.{Course}
 use Rattle.pl_exec.specs.Tasks.{IsArray, assets_in, term_steps}
 use Rattle.pl_exec.specs.ChunkInputs.{HasRows, IsColumnRun, node_in, task_in}
@@ -28,5 +28,5 @@ returns g c = record {
   peak = omega (arith, c.requires.counted);
   held = omega (arith, c.live-held.ensures);
   cost = subst (λ (x : Course). c.fill_bars-applied.new.steps ≡ c.args.steps.now + term_steps (task_in x) x.term.0) c.course_of-course.ensures.is c.fill_bars-applied.ensures.cost;
-  applied = subst (λ (x : Course). c.fill_bars-applied.result ≡ cut (term_steps (task_in x) x.term.0)) c.course_of-course.ensures.is c.fill_bars-applied.ensures.applied;
+  applied = subst (λ (x : Course). c.fill_bars-applied.result ≡ saturated (term_steps (task_in x) x.term.0)) c.course_of-course.ensures.is c.fill_bars-applied.ensures.applied;
 }

@@ -1,6 +1,6 @@
 use Rattle.std.proofs.Common.{◌≤◌, ◌*◌, ◌+◌, ◌∙◌, ap, sym, length, arith}
 use Rattle.std.proofs.lemmas.List.{take_all}
-use Rattle.pl_spec.specs.Limits.{cut}
+use Rattle.pl_spec.specs.Limits.{saturated}
 use Rattle.pl_exec.specs.Tasks.{assets_in, cell_in}
 use Rattle.pl_exec.specs.ChunkInputs.{node_in, steps_of, task_in}
 use Rattle.pl_exec.proofs.Courses.{course_array, lane_room, none_laned, one_laned}
@@ -25,7 +25,7 @@ loop-i-preserved g c =
     record {
       lanes = rw c.start_in-start.ensures.value (one_laned (cell_in (task_in c.args.course.now) c.args.course.now.term.0) c.args.course.now.low c.args.course.now.count c.loop-i.i _ c.loop-i.own c.fill_asset-more.new.out within c.loop-i.invariant.lanes c.fill_asset-more.ensures.out);
       cost = omega (arith, more, c.loop-i.invariant.cost, c.fill_asset-more.ensures.cost);
-      applied = cut_two _ _ _ _ _ c.loop-i.invariant.applied c.fill_asset-more.ensures.applied c.saturating_add-applied.ensures ∙ ap cut (sym more);
+      applied = cut_two _ _ _ _ _ c.loop-i.invariant.applied c.fill_asset-more.ensures.applied c.saturating_add-applied.ensures ∙ ap saturated (sym more);
     }
 
 pub returns-clause-array : goal.returns-clause-array
@@ -43,4 +43,4 @@ pub returns-clause-applied : goal.returns-clause-applied
 returns-clause-applied g c =
     let all = steps_all c.args.course.now.chunk.now c.args.course.now.workspace.now c.args.course.now.term.0 (node_in c.args.course.now) c.requires.run in
     let whole = ap (steps_of c.args.course.now.chunk.now c.args.course.now.term.0 (node_in c.args.course.now)) (take_all c.loop-i.i c.args.course.now.chunk.now.cols.now (omega (arith, c.loop-i-test.false))) in
-    c.loop-i.invariant.applied ∙ ap cut (whole ∙ all)
+    c.loop-i.invariant.applied ∙ ap saturated (whole ∙ all)

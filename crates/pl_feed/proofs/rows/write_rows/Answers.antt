@@ -3,7 +3,7 @@ use Rattle.std.proofs.lemmas.List.{length-map}
 use Rattle.std.proofs.lemmas.Result.{err_from_is_err_and}
 use Rattle.pl_outside.proofs.Pieces.{writing-start, writing-more, writing-end, writing-stop, writing-over, writes-over, written-none, written-more}
 use Rattle.pl_spec.specs.Parts.{sid_at}
-use Rattle.pl_pipeline.specs.Table.{row}
+use Rattle.pl_pipeline.specs.Table.{table_row}
 use Rattle.pl_table.specs.Outcomes.{lines}
 use Rattle.pl_feed.specs.Sessions.{pipeline_in, sids_in, world_in}
 use Rattle.pl_feed.proofs.Values.{left_at, lines_of, lines-end, lines-next, piece_at}
@@ -45,6 +45,6 @@ returns-clause-writes g c =
 pub returns-clause-pieces : goal.returns-clause-pieces
 returns-clause-pieces g c =
     let f = c.args.fed.now in
-    let many = length-map (sids_in f) (row (world_in f) (pipeline_in f) (pos f.session)) in
+    let many = length-map (sids_in f) (table_row (world_in f) (pipeline_in f) (pos f.session)) in
     written-more (written-none refl) c.loop-i.invariant.pieces
     (omega (arith, c.loop-i-test.false, c.loop-i.auto.i-end, ap length c.kept-i-end.ensures.is, length-map f.daily.now.kept (sid_at f.asked.world.assets.now), ap length (rows-are f c.requires), many))

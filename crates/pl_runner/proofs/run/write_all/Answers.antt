@@ -5,7 +5,7 @@ use Rattle.std.proofs.lemmas.Nat.{mul-le}
 use Rattle.std.proofs.lemmas.Result.{err_from_is_err_and}
 use Rattle.pl_outside.proofs.Pieces.{writing-start, writing-more, writing-end, writing-stop, writing-over, written-none, written-more}
 use Rattle.pl_pipeline.specs.Table.{table}
-use Rattle.pl_spec.specs.Limits.{cut}
+use Rattle.pl_spec.specs.Limits.{saturated}
 use Rattle.pl_world.specs.Worlds.{world_of}
 use Rattle.pl_terms.specs.Checked.{pipeline_of}
 use Rattle.pl_table.specs.Outcomes.{lines, rows_of_sessions}
@@ -133,7 +133,7 @@ returns-clause-done g c =
         rows = omega (arith, c.rows.ensures, ap length none, c.loop-i.invariant.rows);
         cells = c.cells.ensures ∙ ap (λ (x : ℤ). int_rem_euclid x (pos 18446744073709551616)) sum;
         peak = c.loop-i.invariant.peak (omega (arith, after));
-        applied = done.2 ∙ ap cut n;
+        applied = done.2 ∙ ap saturated n;
       },
       omega (arith, done.1, n),
     )

@@ -1,7 +1,7 @@
 use Rattle.std.proofs.Common.{◌≡◌, ℕ, ◌≤◌, ◌<◌, ◌+◌, ◌-◌, ◌*◌, ◌++◌, ◌+ℤ◌, length}
 use Rattle.pl_pipeline.specs.Graph.{bound}
 use Rattle.pl_pipeline.specs.Table.{table}
-use Rattle.pl_spec.specs.Limits.{cut}
+use Rattle.pl_spec.specs.Limits.{saturated}
 use Rattle.pl_outside.specs.Taken.{IsWrittenIn}
 use Rattle.pl_outside.proofs.Pieces.{Writing}
 use Rattle.pl_world.specs.Worlds.{world_of}
@@ -30,7 +30,7 @@ invariant-loop-i g l =
       rows : l.totals.rows + length rest ≡ length whole;
       sum : l.totals.sum +ℤ rows_sum w.texts rest ≡ rows_sum w.texts whole;
       few : l.totals.rows ≤ l.i * (l.size * length w.assets);
-      done : (n : ℕ) × (l.steps ≡ l.fn.steps + n) × (l.applied ≡ cut n) × (n + steps_from w p l.asked.plan.now l.size l.i ≡ run_steps w p l.asked.plan.now l.size);
+      done : (n : ℕ) × (l.steps ≡ l.fn.steps + n) × (l.applied ≡ saturated n) × (n + steps_from w p l.asked.plan.now l.size l.i ≡ run_steps w p l.asked.plan.now l.size);
       peak : 0 < l.i → l.peak ≡ bound p.graph (outputs p);
       buffers : AreBuffers w p l.asked.plan.now l.size l.buffers;
     }

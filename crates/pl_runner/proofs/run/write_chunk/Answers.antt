@@ -1,7 +1,7 @@
 use Rattle.std.proofs.Common.{◌≡◌, ◌≤◌, ◌*◌, ℕ, ℤ, List, ap, ◌+◌, ◌-◌, length, sym, ◌∙◌, subst, arith}
 use Rattle.std.proofs.lemmas.List.{take_at}
 use Rattle.std.proofs.lemmas.Nat.{mul-le}
-use Rattle.pl_spec.specs.Limits.{cut}
+use Rattle.pl_spec.specs.Limits.{saturated}
 use Rattle.pl_table.specs.Tiles.{height, tile_len}
 use Rattle.pl_runner.specs.Chunks.{columns_of}
 use Rattle.pl_runner.specs.Room.{HasRoom}
@@ -101,6 +101,6 @@ returns-clause-done g c =
           tile = subst (λ (l : List ℤ). tile_len (length w.assets) (length p.columns) ≤ length l) (sym (take_at c.write_rows.new.tile _ c.args.buffers.now.tile.len long)) (omega (arith, own, kept, h.tile));
         };
         peak = c.execute_chunk-report.ensures.peak;
-        applied = c.execute_chunk-report.ensures.applied ∙ ap (λ (cs : List ℕ). cut (chunk_steps (work.work w p c.args.asked.now.plan.now cs c.args.chunk))) (c.deref.ensures.value ∙ c.put_columns.ensures.cols);
+        applied = c.execute_chunk-report.ensures.applied ∙ ap (λ (cs : List ℕ). saturated (chunk_steps (work.work w p c.args.asked.now.plan.now cs c.args.chunk))) (c.deref.ensures.value ∙ c.put_columns.ensures.cols);
       },
     )

@@ -4,7 +4,7 @@ use Rattle.std.proofs.lemmas.List.{length-map}
 use Rattle.std.proofs.lemmas.Result.{err_from_is_err_and}
 use Rattle.pl_outside.proofs.Pieces.{writing-start, writing-more, writing-end, writing-stop, writing-over, writes-over, written-none, written-more}
 use Rattle.pl_spec.specs.Parts.{sid_at}
-use Rattle.pl_pipeline.specs.Table.{row}
+use Rattle.pl_pipeline.specs.Table.{table_row}
 use Rattle.pl_table.specs.declared.totals.Totals.{Totals}
 use Rattle.pl_table.specs.Outcomes.{lines, pipeline_in, sids_in, world_in}
 use Rattle.pl_table.specs.Sums.{rows_sum}
@@ -49,7 +49,7 @@ loop-place-preserved g c =
             pieces = rw b.out-is (written-more c.loop-place.invariant.pieces b.in_ok-write_row.ensures.pieces (omega (arith, count, c.loop-place.invariant.more, b.in_ok-write_row.ensures.rows)));
             more = omega (arith, count, c.loop-place.invariant.more, b.in_ok-write_row.ensures.rows);
             rows = omega (arith, count, ap length next, c.loop-place.invariant.rows, b.in_ok-write_row.ensures.rows);
-            sum = omega (arith, ints, total, ap (rows_sum w.texts) next, rows_sum-cons w.texts (row w pl (pos c.args.session) (get_or (sids_in o) i 0)) rest, c.loop-place.invariant.sum, b.in_ok-write_row.ensures.sum);
+            sum = omega (arith, ints, total, ap (rows_sum w.texts) next, rows_sum-cons w.texts (table_row w pl (pos c.args.session) (get_or (sids_in o) i 0)) rest, c.loop-place.invariant.sum, b.in_ok-write_row.ensures.sum);
             few = omega (arith, count, c.loop-place.invariant.few, b.in_ok-write_row.ensures.rows);
           }
       | in_default b ↦

@@ -1,7 +1,7 @@
 use Rattle.std.proofs.Common.{◌≡◌, ℤ, List, Some, slice_get, ◌∙◌, sym, ap, length, option_map, subst, arith}
 use Rattle.std.proofs.lemmas.Result.{IfOk-weaker}
 use Rattle.pl_spec.specs.Rounding.{MISSING}
-use Rattle.pl_pipeline.specs.Cross.{at}
+use Rattle.pl_pipeline.specs.Cross.{array_at}
 use Rattle.pl_cross.specs.Listing.{labels_in, Fits}
 use Rattle.pl_cross.specs.Arrays.{HasTexts}
 use Rattle.pl_values.proofs.Texts.{texts-coded}
@@ -51,7 +51,7 @@ returns-clause-row c =
     let wide = values-long w p ok assets c.args.session c.args.t.0 n is (c.requires.kind n is) texts c.args.rows.now.values.now _ _ c.requires.rows in
     IfOk-weaker c.section_cells.result _ _ (λ v h. row-whole w p c.args.t.0 c.args.session v.items MISSING (h.long ∙ wide)
     (λ i l. section-end f.0 c.args.rows.now.values.now c.in_ok-keep.keep.items c.deref.result.now (option_map (λ v. v.items) c.args.rows.now.groups.now) (labels_in c.lent.result)
-    i (at v.items i) _ (h.each f.0 f.1 i (omega (arith, l, wide))) c.deref.ensures.value c.lent.ensures (given i l))) c.section_cells.ensures
+    i (array_at v.items i) _ (h.each f.0 f.1 i (omega (arith, l, wide))) c.deref.ensures.value c.lent.ensures (given i l))) c.section_cells.ensures
 
 pub returns-clause-cells : goal.returns-clause-cells
 returns-clause-cells c = IfOk-weaker c.section_cells.result _ _ (λ v h. h.cells) c.section_cells.ensures

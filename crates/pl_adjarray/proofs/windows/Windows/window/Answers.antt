@@ -2,7 +2,7 @@ use Rattle.std.proofs.Common.{◌+◌, ◌-◌, ◌*◌, ◌<◌, ◌≤◌, All
 use Rattle.pl_spec.specs.Rounding.{IsCell}
 use Rattle.pl_spec.specs.Window.{bar_window}
 use Rattle.pl_adjarray.specs.Buffered.{Buffered, col_at, world_of}
-use Rattle.pl_adjarray.specs.Inside.{IsReady}
+use Rattle.pl_adjarray.specs.Inside.{IsReadyBuffer}
 use Rattle.pl_adjarray.specs.Traversals.{Traversal}
 use Rattle.pl_adjarray.proofs.Slides.{window_has_cells, window_is}
 use Rattle.pl_adjarray.proofs.Worlds.{window-same}
@@ -13,7 +13,7 @@ returns-clause-columns c =
     let w = c.self.inside in
     let b = c.self.inside.array.now in
     let held = c.self.invariant.buffer in
-    let ready : IsReady b = subst IsReady c.array.view_is c.array.invariant in
+    let ready : IsReadyBuffer b = subst IsReadyBuffer c.array.view_is c.array.invariant in
     let begun : b.first + w.window ≤ w.session = subst (λ (t : Traversal). t.array.first + t.window ≤ t.session) (sym c.self.view_is) c.requires.begun in
     let asset : c.args.i < length b.cols = subst (λ (t : Traversal). c.args.i < length t.array.cols) (sym c.self.view_is) c.requires.asset in
     ap (λ (b : Buffered). take (c.args.i * b.rows + (w.session - b.first) - (c.args.i * b.rows + (w.session - b.first) - w.window))

@@ -2,14 +2,14 @@ use Rattle.std.proofs.Common.{rules, ◌≡◌, ◌<◌, ◌≤◌, ◌∙◌, a
 use Rattle.std.proofs.lemmas.Int.{to_z-of_z}
 use Rattle.std.proofs.lemmas.Nat.{mul-le}
 use Rattle.pl_spec.specs.Rounding.{LIMIT, scaled}
-use Rattle.pl_fixed.specs.Ready.{IsReady}
+use Rattle.pl_fixed.specs.Ready.{IsReadyRatio}
 use Rattle.pl_fixed.proofs.ScaledCells.{rounded_size, scaled_by_size}
 use Rattle.pl_fixed.proofs.ready.ReadyRatio.apply.Goals as goal
 
 pub returns-then-rounded-clause-value : goal.returns-then-rounded-clause-value
 returns-then-rounded-clause-value g c =
     let f = c.self.inside in
-    let ready : IsReady f = c.self.invariant in
+    let ready : IsReadyRatio f = c.self.invariant in
     let fits : FitsSigned w64 c.with_sign.result = search rules in
     let cell : FitsSigned w64 c.args.cell = c.ranges.cell in
     let size = simp to_z-of_z at c.unsigned_abs-size.ensures.value in
