@@ -1,5 +1,5 @@
 -- The pipeline file, the script that it spells, and the pipeline that it means.
-use Rattle.std.specs.Prelude.{◌≡◌, ℕ, pos, List, [], ◌∷◌, ◌++◌, codes, Option, Some, None, Ok}
+use Rattle.std.specs.Prelude.{◌≡◌, ℕ, pos, List, [], ◌∷◌, ◌++◌, codes, Some, None, Ok}
 use Rattle.pl_spec.specs.declared.Column.TheVariants.{Close, Volume}
 use Rattle.pl_pipeline.specs.declared.RankMethod.TheVariants.{Ordinal}
 use Rattle.pl_pipeline.specs.declared.RankOrder.TheVariants.{Ascending}
@@ -7,7 +7,7 @@ use Rattle.pl_pipeline.specs.Kind.{Window, Cross, Label, AverageDollarVolume, To
 use Rattle.pl_pipeline.specs.Term.{Node, BarColumn, TermInput}
 use Rattle.pl_pipeline.specs.Table.{Pipeline}
 use Rattle.pl_grammar.specs.declared.Place.{Place}
-use Rattle.pl_grammar.specs.Tree.{Tree, number, text, name, call, method, no_args, arg}
+use Rattle.pl_grammar.specs.Tree.{number, text, name, call, method, no_args, arg}
 use Rattle.pl_grammar.specs.Script.{Statement, LetHead, ColumnHead, ScreenHead}
 use Rattle.pl_syntax.specs.Spells.{Parsed, Spells}
 use Rattle.pl_check.specs.Typed.{typed}

@@ -1,5 +1,5 @@
 -- Rows that were worked out by hand: they hold by computation.
-use Rattle.std.specs.Prelude.{◌≡◌, ℕ, ℤ, refl, pos, List, [], ◌∷◌, ◌++◌, codes, Some, None, Ok, Err}
+use Rattle.std.specs.Prelude.{◌≡◌, ℕ, ℤ, refl, pos, List, [], ◌∷◌, codes, Some, None}
 use Rattle.pl_spec.specs.declared.Column.TheVariants.{Close}
 use Rattle.pl_spec.specs.Rounding.{MISSING}
 use Rattle.pl_spec.specs.Numbers.{NumberRow}

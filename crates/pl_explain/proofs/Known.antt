@@ -1,5 +1,5 @@
 -- The day of the record that a value is of.
-use Rattle.std.proofs.Common.{◌≡◌, ℕ, ◌<◌, length, true, false, if◌then◌else◌, ℤ, pos, Option, Some, None, slice_get, refl, sym, ◌∙◌, ap}
+use Rattle.std.proofs.Common.{◌≡◌, ℕ, ◌<◌, length, true, false, ℤ, pos, Some, None, slice_get, refl, sym, ◌∙◌, ap}
 use Rattle.std.specs.Option.{option_and_then}
 use Rattle.std.proofs.lemmas.Bool.{true≢false}
 use Rattle.pl_spec.specs.World.{World as SpecWorld, exists, day_of}
@@ -7,7 +7,6 @@ use Rattle.pl_spec.specs.Numbers.{known_at}
 use Rattle.pl_pipeline.specs.Kind as kinds
 use Rattle.pl_pipeline.specs.Kind.{Kind}
 use Rattle.pl_pipeline.specs.Table.{Pipeline}
-use Rattle.pl_pipeline.specs.Term.{Node as SpecNode}
 use Rattle.pl_pipeline.specs.Value.{name_at}
 use Rattle.pl_terms.specs.declared.node.Node.{Node}
 use Rattle.pl_terms.specs.Kinds.{kind_of}

@@ -8,10 +8,8 @@ use Rattle.pl_spec.specs.World.{World}
 use Rattle.pl_laws.proofs.AsOf.{slice_get-take}
 use Rattle.pl_laws.proofs.Calendars.{SameDays}
 use Rattle.pl_world.specs.Known.{ShowsSame}
-use Rattle.pl_world.specs.Known as model
 use Rattle.pl_world.specs.Worlds.{owned_world}
 use Rattle.pl_world.specs.declared.owned.OwnedWorld.{OwnedWorld}
-use Rattle.pl_world.specs.declared.world.World as lent
 use Rattle.pl_planner.specs.Plans.{Planned, IsPlanOf}
 use Rattle.pl_planner.proofs.Calendars.{plan-same}
 use Rattle.pl_words.specs.Request.{Dated, RunRequest, ExplainRequest, VerifyRequest, Run, Explain, Verify}

@@ -1,12 +1,12 @@
 -- The keys of rows of numbers tell their names, columns and days.
-use Rattle.std.proofs.Common.{◌≡◌, ℕ, ◌+◌, ◌<◌, ◌^◌, ◌==◌, ◌&&◌, ◌||◌, not, nat_eq, nat_lt, cond, Bool, true, false, ℤ, List, [], ◌∷◌, ◌++◌, length, length-append, get_or, Option, Some, None, FitsSigned, w32, refl, sym, ap, ◌∙◌, arith, inl, inr, eq-eqb, eqb-true}
+use Rattle.std.proofs.Common.{◌≡◌, ℕ, ◌+◌, ◌<◌, ◌^◌, ◌==◌, ◌&&◌, ◌||◌, nat_eq, nat_lt, cond, Bool, true, false, ℤ, List, [], ◌∷◌, ◌++◌, length, length-append, get_or, FitsSigned, w32, refl, sym, ap, ◌∙◌, arith, inl, inr, eq-eqb, eqb-true}
 use Rattle.std.specs.List.{list_any, position_or_len}
 use Rattle.std.specs.List.Sorted.{IsNonDecreasingBy}
 use Rattle.std.specs.HashSet.{HashSet, contains}
 use Rattle.std.specs.Str.{bytes_eq}
 use Rattle.std.specs.Cmp.{both_ways}
 use Rattle.std.specs.Ordering.{int_eq}
-use Rattle.std.proofs.lemmas.Bool.{and_parts, cases_lt, true≢false}
+use Rattle.std.proofs.lemmas.Bool.{and_parts, cases_lt}
 use Rattle.std.proofs.lemmas.Bool.Decides.{nat_tests}
 use Rattle.std.proofs.lemmas.List.{get_or_append_left}
 use Rattle.std.proofs.lemmas.List.Folds.{list_any_none}

@@ -1,11 +1,11 @@
 -- Records that state rows of which no two have one key say these rows.
-use Rattle.std.proofs.Common.{◌≡◌, ◌≢◌, ℕ, zero, suc, ◌+◌, ◌<◌, ◌≤◌, nat_le, Bool, true, false, true≢false, List, [], ◌∷◌, ◌++◌, length, length-append, append_assoc, map, drop, get_or, AllPairs, IfSome, OnSome, Option, option_map, Some, None, Result, Ok, Err, refl, sym, ap, ◌∙◌, arith}
+use Rattle.std.proofs.Common.{◌≡◌, ◌≢◌, ℕ, zero, suc, ◌+◌, ◌<◌, ◌≤◌, nat_le, Bool, true, false, true≢false, List, [], ◌∷◌, ◌++◌, length, length-append, append_assoc, drop, get_or, AllPairs, IfSome, OnSome, Option, option_map, Some, None, Ok, Err, refl, sym, ap, ◌∙◌, arith}
 use Rattle.std.specs.List.{list_any}
 use Rattle.std.specs.Option.{ok_or}
 use Rattle.std.proofs.lemmas.Bool.Decides.{nat_tests}
 use Rattle.std.proofs.lemmas.List.{append-nil, get_or-map, get_or_append_left, get_or_default, length-map}
 use Rattle.std.proofs.lemmas.List.Folds.{list_any_none}
-use Rattle.pl_records.specs.Reading.{Record, Fault, at_line, ◌>>=◌, rows_behind, rows_under}
+use Rattle.pl_records.specs.Reading.{Record, at_line, ◌>>=◌, rows_behind, rows_under}
 use Rattle.pl_records.specs.Sorted.{HasOwnKeys, sorted_by}
 use Rattle.pl_records.proofs.Readings.{rows-keep, under_ok}
 use Rattle.pl_records.proofs.RuleTables.{and_then_some, map_some}
@@ -16,7 +16,7 @@ use Rattle.pl_spec.specs.Parts.{ColumnNumber}
 use Rattle.pl_spec.specs.declared.AssetRow.{AssetRow}
 use Rattle.pl_assets.specs.LabelPlaces.{key}
 use Rattle.pl_assets.proofs.FirstSeen.{one_place}
-use Rattle.pl_numbers.specs.Numbers.{Rule, BadField, BadHeader, header, col_in, in_column, is_from, number_in, number_rows_in, numbers_of, row_of, number_or_rule, table_of}
+use Rattle.pl_numbers.specs.Numbers.{BadField, BadHeader, header, col_in, in_column, is_from, number_in, number_rows_in, numbers_of, row_of, number_or_rule, table_of}
 use Rattle.pl_numbers.specs.NumberPlaces.{AreNumbered, AreStated, IsPlace, IsTableOf, key_of, row_at, shown_rows, states}
 use Rattle.pl_numbers.specs.declared.rows.Place.{Place}
 use Rattle.pl_numbers.specs.declared.rows.NumberRows.{NumberRows}

@@ -1,5 +1,5 @@
 -- The numbers that are present, session by session, asset by asset and term by term.
-use Rattle.std.proofs.Common.{◌≡◌, ℕ, suc, ◌+◌, ◌-◌, ◌<◌, ◌≤◌, Bool, true, false, cond, ◌&&◌, if◌then◌else◌, ℤ, pos, List, [], ◌∷◌, ◌++◌, length, map, Option, Some, None, IfSome, IfNone, slice_get, refl, sym, ◌∙◌, ap, ap₂, arith, sum_by}
+use Rattle.std.proofs.Common.{◌≡◌, ℕ, suc, ◌+◌, ◌-◌, ◌<◌, ◌≤◌, Bool, true, false, cond, ◌&&◌, if◌then◌else◌, ℤ, pos, List, [], ◌∷◌, length, Option, Some, None, IfSome, IfNone, slice_get, refl, sym, ◌∙◌, ap, ap₂, arith, sum_by}
 use Rattle.std.specs.List.{range_with_len, count_by, list_any}
 use Rattle.std.specs.Option.{is_some}
 use Rattle.std.proofs.lemmas.List.Folds.{list_any-append, list_any_at}

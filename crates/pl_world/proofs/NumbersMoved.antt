@@ -1,5 +1,5 @@
 -- Numbers whose records stand in another order show the same.
-use Rattle.std.proofs.Common.{◌≡◌, ◌<◌, ℤ, List, [], ◌∷◌, length, map, All, AllPairs, Contains, IsPermutation, Result, Ok, Err, refl, arith}
+use Rattle.std.proofs.Common.{◌≡◌, ◌<◌, ℤ, List, [], ◌∷◌, length, map, All, AllPairs, IsPermutation, Result, Ok, Err, refl, arith}
 use Rattle.std.proofs.lemmas.List.Sorted.{Contains-permutation, IsPermutation-map, IsPermutation-sym}
 use Rattle.pl_records.specs.Reading.{Record, Fault, ◌>>=◌}
 use Rattle.pl_records.proofs.Sorts.{sorted-permutes}

@@ -1,4 +1,4 @@
-use Rattle.std.proofs.Common.{◌≡◌, ◌<◌, ◌+◌, length, ap, arith, rules, length-append, ◌∷◌, ◌++◌, [], Ok}
+use Rattle.std.proofs.Common.{◌≡◌, ◌<◌, ◌+◌, length, ap, arith, rules, length-append, ◌∷◌, ◌++◌, []}
 use Rattle.std.specs.Option.{ok_or}
 use Rattle.pl_records.specs.Reading.{at_line, rows_of}
 use Rattle.pl_records.proofs.Readings.{goes_on, is_done}

@@ -1,4 +1,4 @@
-use Rattle.std.proofs.Common.{◌≡◌, ◌∙◌, ap, sym, rules, w32, FitsSigned, pos, option_and_then, unwrap_or, Option, List, [], ℕ}
+use Rattle.std.proofs.Common.{◌≡◌, ◌∙◌, ap, sym, rules, w32, FitsSigned, option_and_then, unwrap_or, Option, List, [], ℕ}
 use Rattle.std.proofs.lemmas.Int.{to_z-of_z}
 use Rattle.pl_spec.specs.Numbers.{known_at}
 use Rattle.pl_spec.specs.Parts.{sid_at}

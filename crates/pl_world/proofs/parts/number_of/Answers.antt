@@ -1,4 +1,4 @@
-use Rattle.std.proofs.Common.{◌∙◌, ap, sym, rules, w32, w64, FitsSigned, pos, option_map, unwrap_or, Option, ℤ}
+use Rattle.std.proofs.Common.{◌∙◌, ap, sym, rules, w32, w64, FitsSigned, option_map, unwrap_or, Option, ℤ}
 use Rattle.std.proofs.lemmas.Int.{to_z-of_z}
 use Rattle.pl_spec.specs.Rounding.{MISSING}
 use Rattle.pl_spec.specs.Numbers.{number_at}

@@ -1,1 +1,0 @@
-use Rattle.pl_numbers.proofs.table.read_table.Goals as goal
