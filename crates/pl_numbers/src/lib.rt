@@ -13,6 +13,7 @@ ghost use Rattle.pl_numbers.specs.NumberFaults.{fault_of};
 
 mod cut;
 mod error;
+mod last;
 pub mod laws;
 mod named;
 mod order;

@@ -11,10 +11,11 @@ ghost use Rattle.pl_numbers.specs.NumberPlaces.{AreNumbered, AreSeen, IsNumberAf
 
 use crate::MOST_NUMBERS;
 use crate::error::NumbersError;
+use crate::last::Last;
 use crate::rows::{NumberRows, Place, key};
 use crate::seen::Seen;
 use pl_bars::read_cell;
-use pl_fixed::{LastDate, is_name, read_sid};
+use pl_fixed::read_sid;
 use pl_lifetimes::Assets;
 use pl_records::Records;
 use std::alloc::{AllocError, Global};
@@ -111,7 +112,7 @@ fn next_number(
     if before.places.len() >= MOST_NUMBERS {
         return Err(NumbersError::TooMany { line });
     }
-    let Some(fields) = fields_of(row, &mut LastDate::new()) else {
+    let Some(fields) = fields_of(row, &mut Last::new()) else {
         return Err(NumbersError::BadField { line });
     };
     let Some(col) = col_of(&before.places, assets, fields.sid) else {
@@ -175,14 +176,14 @@ pub(crate) struct Fields {
     pub(crate) value: i64,
 }
 
-// The fields of the record that was read last, where it is a number; `last` is the date of one before it, and
-// then its own.
+// The fields of the record that was read last, where it is a number; `last` is of one before it, and then its
+// own.
 #[tactic(auto, unfolding(crate::specs::Numbers::number_in))]
-pub(crate) fn fields_of(row: &Records, last: &mut LastDate) -> Option<Fields>
+pub(crate) fn fields_of(row: &Records, last: &mut Last) -> Option<Fields>
     ensures four { OnSome result (length row.now.fields ≡ 4) }
     ensures exact { option_map (number_from row.now.fields) result ≡ number_in row.now.fields }
 {
-    if row.field_count() != 4 || !is_name(row.field(0)) {
+    if row.field_count() != 4 || !last.is_name(row.field(0)) {
         return None;
     }
     let sid = read_sid(row.field(1))?;

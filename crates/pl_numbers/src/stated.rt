@@ -8,9 +8,9 @@ ghost use Rattle.pl_numbers.specs.Numbers.{row_of};
 ghost use Rattle.pl_numbers.specs.NumberPlaces.{AreNumbered, AreStated, row_from, shown_rows, states};
 
 use crate::MOST_NUMBERS;
+use crate::last::Last;
 use crate::reading::{NextNumber, col_of, fields_of, reads_header};
 use crate::rows::NumberRows;
-use pl_fixed::LastDate;
 use pl_lifetimes::Assets;
 use pl_records::Records;
 use std::alloc::{AllocError, Global};
@@ -68,7 +68,7 @@ fn put_stated(
     ensures few { OnOk result (length (shown_rows rows.new) ≤ most_numbers) }
     ensures numbered { OnOk result (AreNumbered rows.new) }
 {
-    let mut last = LastDate::new();
+    let mut last = Last::new();
     'rows: while records.next()? {
         let Some(number) = stated_number(rows, records, assets, &mut last) else {
             return Ok(false);
@@ -83,7 +83,7 @@ fn stated_number(
     before: &NumberRows,
     row: &Records,
     assets: &Assets,
-    last: &mut LastDate,
+    last: &mut Last,
 ) -> Option<NextNumber>
     requires { AreNumbered before.now }
     ensures room { OnSome result (length (shown_rows before.now) < most_numbers) }
