@@ -138,9 +138,10 @@ can_start() {
     done
 }
 
+# Starts the proof of a library, with so many jobs of its own.
 start_proof() {
     link_below "$1"
-    (cd "$(home_of "$1")" && exec rt lib --jobs 1) > "$room/$1/log" 2>&1 < /dev/null &
+    (cd "$(home_of "$1")" && exec rt lib --jobs "$2") > "$room/$1/log" 2>&1 < /dev/null &
     proving[$!]=$1
     children+=($!)
 }
@@ -156,14 +157,21 @@ end_proof() {
     is_proved "$crate" || fail "$crate" "$status"
 }
 
+# Where fewer libraries can start than there are places, each takes its share of them, as at the end of a build, where each crate
+# stands on the one before it.
 prove_libraries() {
-    local crate jobs order
+    local crate jobs order free able
     jobs=$(cat "$room/jobs")
     mapfile -t order < <(by_chain)
     while :; do
+        able=()
         for crate in "${order[@]}"; do
-            [ ${#proving[@]} -lt "$jobs" ] || break
-            ! can_start "$crate" || start_proof "$crate"
+            ! can_start "$crate" || able+=("$crate")
+        done
+        free=$((jobs - ${#proving[@]}))
+        [ "$free" -gt ${#able[@]} ] || able=("${able[@]:0:free}")
+        for crate in "${able[@]}"; do
+            start_proof "$crate" $((free / ${#able[@]}))
         done
         [ ${#proving[@]} != 0 ] || return 0
         end_proof
