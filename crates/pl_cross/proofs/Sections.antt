@@ -9,15 +9,15 @@ use Rattle.std.proofs.lemmas.List.{length-map}
 use Rattle.pl_spec.specs.Rounding.{MISSING, MILLION, is_present}
 use Rattle.pl_spec.specs.World.{World, exists}
 use Rattle.pl_pipeline.specs.Kind.{CrossKind}
-use Rattle.pl_pipeline.specs.Kind.CrossKind.{Rank, Demean, ZScore, Quantiles, Top, Bottom, PercentileBetween, PeerCount}
+use Rattle.pl_pipeline.specs.Kind.CrossKind.{PeerCount}
 use Rattle.pl_pipeline.specs.Kind.Kind.{Cross}
 use Rattle.pl_pipeline.specs.Cross.{Entry, cross, cross_at, entries_for, counts_at, same_group, array_at}
 use Rattle.pl_pipeline.specs.Term.{Term, Node, Graph, IsGraph, input_tree, trees}
 use Rattle.pl_pipeline.specs.Term.Term.{node}
-use Rattle.pl_pipeline.specs.Value.{Part, Value, number_of, value_of_part, passes, in_group, is_same, entry, counts_for, eligible, group_of, is_cross_filter, empty, sort_over, sort_kind, kind_value, value, part_of}
+use Rattle.pl_pipeline.specs.Value.{Part, Operands, Value, number_of, value_of_part, passes, in_group, is_same, entry, counts_for, eligible, group_of, is_cross_filter, empty, sort_over, sort_kind, kind_value, value, operands_of}
 use Rattle.pl_pipeline.specs.Value.Part.{Nothing, Bars, Values}
 use Rattle.pl_pipeline.specs.Value.Value.{Number}
-use Rattle.pl_pipeline.specs.NodeValue.{meaning_of, input_part, number_part}
+use Rattle.pl_pipeline.specs.NodeValue.{meaning_of, number_part, node_operands}
 use Rattle.pl_pipeline.specs.Table.{in_array}
 use Rattle.pl_spec.specs.Cells.{is_true}
 use Rattle.pl_pipeline.proofs.Unfolds.{value_at-node}
@@ -137,44 +137,38 @@ both-numbers v texts n = rw n.1 refl
 
 -- the input's numbers, where the kind looks at them
 told-numbers : (k : CrossKind) (x : Part) (d : ℤ) → HasNumbers k x d → (k ≡ PeerCount) ⊎ IsNumbered x d
-told-numbers (Rank m o) x d h = inr h
-told-numbers Demean x d h = inr h
-told-numbers ZScore x d h = inr h
-told-numbers (Quantiles b) x d h = inr h
-told-numbers (Top n) x d h = inr h
-told-numbers (Bottom n) x d h = inr h
-told-numbers (PercentileBetween a b) x d h = inr h
 told-numbers PeerCount x d h = inl refl
+told-numbers k x d h = inr h
 
 -- ---- the lists of a session
 
 abbrev pub columns : List ℕ → List ℤ → List ℤ → Option (List ℤ) → Columns
 columns sids vs keep labels = record { sids = sids; values = vs; keep = keep; labels = labels }
 
-module _ (w : World) (k : CrossKind) (x mask group : Part) (d : ℤ) (sids : List ℕ) (vs keep : List ℤ) (labels : Option (List ℤ)) (s : AreArrays w k x mask group d (columns sids vs keep labels)) where
+module _ (w : World) (k : CrossKind) (o : Operands) (d : ℤ) (sids : List ℕ) (vs keep : List ℤ) (labels : Option (List ℤ)) (s : AreArrays w k o d (columns sids vs keep labels)) where
   abbrev numbers : ℕ → ℤ
-  numbers j = number_of (value_of_part x (sid_in sids j) d)
+  numbers j = number_of (value_of_part o.first (sid_in sids j) d)
 
   abbrev counting : ℕ → List ℕ
   counting i = filter (counts_at vs keep (labels_for k vs labels) i) (range_with_len 0 (length vs))
 
   abbrev own : ℕ → List Entry
-  own i = eligible w x mask (group_of k x group) (sid_in sids i) d
+  own i = eligible w k o (sid_in sids i) d
 
   counted : (i j : ℕ) → i < length sids → j < length sids
-      → (exists w (sid_in sids j) d && counts_for x mask (group_of k x group) (sid_in sids i) d (sid_in sids j)) ≡ counts_at vs keep (labels_for k vs labels) i j
+      → (exists w (sid_in sids j) d && counts_for k o (sid_in sids i) d (sid_in sids j)) ≡ counts_at vs keep (labels_for k vs labels) i j
   counted i j h l =
-      and-first (exists w (sid_in sids j) d) (passes mask (sid_in sids j) d) (is_present (number_of (value_of_part x (sid_in sids j) d))) (in_group (group_of k x group) (sid_in sids i) d (sid_in sids j))
-      ∙ ap (λ b. (b && is_present (number_of (value_of_part x (sid_in sids j) d))) && in_group (group_of k x group) (sid_in sids i) d (sid_in sids j)) (sym (s.keep j l))
-      ∙ ap (λ b. (is_true (array_at keep j) && b) && in_group (group_of k x group) (sid_in sids i) d (sid_in sids j)) (present_code w.texts (value_of_part x (sid_in sids j) d) ∙ ap is_present (sym (s.values.each j l)))
-      ∙ ap (λ b. (is_true (array_at keep j) && is_present (array_at vs j)) && b) (groups_told w (group_of k x group) d sids (labels_for k vs labels) s.groups i j h l)
+      and-first (exists w (sid_in sids j) d) (passes o.mask (sid_in sids j) d) (is_present (number_of (value_of_part o.first (sid_in sids j) d))) (in_group (group_of k o.first o.group) (sid_in sids i) d (sid_in sids j))
+      ∙ ap (λ b. (b && is_present (number_of (value_of_part o.first (sid_in sids j) d))) && in_group (group_of k o.first o.group) (sid_in sids i) d (sid_in sids j)) (sym (s.keep j l))
+      ∙ ap (λ b. (is_true (array_at keep j) && b) && in_group (group_of k o.first o.group) (sid_in sids i) d (sid_in sids j)) (present_code w.texts (value_of_part o.first (sid_in sids j) d) ∙ ap is_present (sym (s.values.each j l)))
+      ∙ ap (λ b. (is_true (array_at keep j) && is_present (array_at vs j)) && b) (groups_told w (group_of k o.first o.group) d sids (labels_for k vs labels) s.groups i j h l)
 
-  listed : (i : ℕ) → i < length sids → eligible w x mask (group_of k x group) (sid_in sids i) d ≡ named (name_at sids) numbers (counting i)
+  listed : (i : ℕ) → i < length sids → eligible w k o (sid_in sids i) d ≡ named (name_at sids) numbers (counting i)
   listed i h =
-      let cf : ℕ → Bool = counts_for x mask (group_of k x group) (sid_in sids i) d in
+      let cf : ℕ → Bool = counts_for k o (sid_in sids i) d in
       let ex : ℕ → Bool = λ b. exists w b d in
       let sid : ℕ → ℕ = λ j. get_or sids (j - 0) 0 in
-      let en : ℕ → Entry = entry x d in
+      let en : ℕ → Entry = entry o.first d in
       ap (λ l. map en (filter cf l)) s.all
       ∙ ap (map en) (filter-twice cf ex sids)
       ∙ ap (λ l. map en (filter (λ b. ex b && cf b) l)) (places sids 0)
@@ -197,7 +191,7 @@ module _ (w : World) (k : CrossKind) (x mask group : Part) (d : ℤ) (sids : Lis
       let rest = any_same i js in
       rw (here, rest) refl
 
-  crossed : (i : ℕ) → i < length sids → (k ≡ PeerCount) ⊎ IsNumbered x d
+  crossed : (i : ℕ) → i < length sids → (k ≡ PeerCount) ⊎ IsNumbered o.first d
       → cross k (named (name_at sids) numbers (counting i)) (name_at sids i) (numbers i)
       ≡ cross k (placed (array_at vs) (counting i)) i (array_at vs i)
   unfolding cross
@@ -211,7 +205,7 @@ module _ (w : World) (k : CrossKind) (x mask group : Part) (d : ℤ) (sids : Lis
       ∙ cross-named (name_at sids) (names_rise sids s.ascend) (array_at vs) (counting i) k i (array_at vs i)
     where
       value_is : (j : ℕ) → j < length sids → numbers j ≡ array_at vs j
-      value_is j l = both-numbers (value_of_part x (sid_in sids j) d) w.texts (numbered (sid_in sids j)) ∙ sym (s.values.each j l)
+      value_is j l = both-numbers (value_of_part o.first (sid_in sids j) d) w.texts (numbered (sid_in sids j)) ∙ sym (s.values.each j l)
 
       same_values : named (name_at sids) numbers (counting i) ≡ named (name_at sids) (array_at vs) (counting i)
       same_values =
@@ -226,7 +220,7 @@ module _ (w : World) (k : CrossKind) (x mask group : Part) (d : ℤ) (sids : Lis
       ap (λ l. if list_any (λ (e : Entry). e.0 == sid_in sids i) l then cross k l (sid_in sids i) (numbers i) else none) (listed i h)
       ∙ ap (λ a. if list_any (λ (e : Entry). e.0 == a) list then cross k list a (numbers i) else none) (sym (name_low sids i h))
       ∙ ap (λ b. if b then cross k list (name_at sids i) (numbers i) else none) (any_same i (counting i))
-      ∙ ap (λ v. if list_any (λ (e : Entry). e.0 == i) (entries_for vs keep (labels_for k vs labels) i) then v else none) (crossed i h (told-numbers k x d s.numbers))
+      ∙ ap (λ v. if list_any (λ (e : Entry). e.0 == i) (entries_for vs keep (labels_for k vs labels) i) then v else none) (crossed i h (told-numbers k o.first d s.numbers))
 
 -- ---- values of terms
 
@@ -237,55 +231,51 @@ empty-is k = here (is_cross_filter k)
     here true = refl
     here false = refl
 
-module _ (w : World) (names : List (List ℕ)) (k : CrossKind) (size : ℕ) (x y z mask group : Part) (d : ℤ) (sids : List ℕ) (vs keep : List ℤ) (labels : Option (List ℤ)) (s : AreArrays w k x mask group d (columns sids vs keep labels)) where
+module _ (w : World) (names : List (List ℕ)) (k : CrossKind) (size : ℕ) (o : Operands) (d : ℤ) (sids : List ℕ) (vs keep : List ℤ) (labels : Option (List ℤ)) (s : AreArrays w k o d (columns sids vs keep labels)) where
   abbrev sid : ℕ → ℕ
   sid i = sid_in sids i
 
   abbrev list : ℕ → List Entry
-  list i = eligible w x mask (group_of k x group) (sid_in sids i) d
+  list i = eligible w k o (sid_in sids i) d
 
-  kept-value : (i : ℕ) → i < length sids → kind_value w names (Cross k) size x y z mask group (sid_in sids i) d ≡ Number (section_at k vs keep labels i)
+  kept-value : (i : ℕ) → i < length sids → kind_value w names (Cross k) size o (sid_in sids i) d ≡ Number (section_at k vs keep labels i)
   unfolding kind_value
   kept-value i h =
-      ap (λ v. if list_any (λ (e : Entry). e.0 == sid i) (list i) then Number (cross k (list i) (sid i) (number_of (value_of_part x (sid i) d))) else v) (empty-is k)
-      ∙ inside (list_any (λ (e : Entry). e.0 == sid i) (list i)) (cross k (list i) (sid i) (number_of (value_of_part x (sid i) d))) (empty_number k)
-      ∙ ap Number (section_is w k x mask group d sids vs keep labels s i (empty_number k) h)
+      ap (λ v. if list_any (λ (e : Entry). e.0 == sid i) (list i) then Number (cross k (list i) (sid i) (number_of (value_of_part o.first (sid i) d))) else v) (empty-is k)
+      ∙ inside (list_any (λ (e : Entry). e.0 == sid i) (list i)) (cross k (list i) (sid i) (number_of (value_of_part o.first (sid i) d))) (empty_number k)
+      ∙ ap Number (section_is w k o d sids vs keep labels s i (empty_number k) h)
     where
       inside : (b : Bool) (u v : ℤ) → (if b then Number u else Number v) ≡ Number (if b then u else v)
       inside true u v = refl
       inside false u v = refl
 
   -- an asset that is not kept is not listed
-  left-out : (i : ℕ) → i < length sids → (exists w (sid_in sids i) d && passes mask (sid_in sids i) d) ≡ false → section_at k vs keep labels i ≡ empty_number k
+  left-out : (i : ℕ) → i < length sids → (exists w (sid_in sids i) d && passes o.mask (sid_in sids i) d) ≡ false → section_at k vs keep labels i ≡ empty_number k
   left-out i h out = not-own k (empty_number k) vs keep (labels_for k vs labels) i (ap (λ b. b && (is_present (array_at vs i) && is_present (group_at (labels_for k vs labels) i))) (s.keep i h ∙ out))
 
   pub part-value : (i : ℕ) → i < length sids
-      → (if exists w (sid_in sids i) d && passes mask (sid_in sids i) d then kind_value w names (Cross k) size x y z mask group (sid_in sids i) d else empty (Cross k))
+      → (if exists w (sid_in sids i) d && passes o.mask (sid_in sids i) d then kind_value w names (Cross k) size o (sid_in sids i) d else empty (Cross k))
       ≡ Number (section_at k vs keep labels i)
-  part-value i h = here (exists w (sid_in sids i) d && passes mask (sid_in sids i) d) refl
+  part-value i h = here (exists w (sid_in sids i) d && passes o.mask (sid_in sids i) d) refl
     where
-      here : (b : Bool) → (exists w (sid_in sids i) d && passes mask (sid_in sids i) d) ≡ b
-          → (if b then kind_value w names (Cross k) size x y z mask group (sid_in sids i) d else empty (Cross k)) ≡ Number (section_at k vs keep labels i)
+      here : (b : Bool) → (exists w (sid_in sids i) d && passes o.mask (sid_in sids i) d) ≡ b
+          → (if b then kind_value w names (Cross k) size o (sid_in sids i) d else empty (Cross k)) ≡ Number (section_at k vs keep labels i)
       here true e = kept-value i h
       here false e = empty-is k ∙ ap Number (sym (left-out i h e))
 
 pub term-value : (w : World) (names : List (List ℕ)) (k : CrossKind) (size : ℕ) (x y z mask group : Term) (d : ℤ) (c : Columns)
-    → AreArrays w k (part_of x (value w names x)) (part_of mask (value w names mask)) (part_of group (value w names group)) d c
+    → AreArrays w k (operands_of w names (node (Cross k) size x y z mask group)) d c
     → (i : ℕ) → i < length c.sids → value w names (node (Cross k) size x y z mask group) (sid_in c.sids i) d ≡ Number (section_in k c i)
 unfolding value
-term-value w names k size x y z mask group d c s i h =
-    part-value w names k size (part_of x (value w names x)) (part_of y (value w names y)) (part_of z (value w names z)) (part_of mask (value w names mask)) (part_of group (value w names group))
-    d c.sids c.values c.keep c.labels s i h
+term-value w names k size x y z mask group d c s i h = part-value w names k size _ d c.sids c.values c.keep c.labels s i h
 
 pub node-value : (w : World) (names : List (List ℕ)) (g : Graph) (t : ℕ) (n : Node) (k : CrossKind) (d : ℤ) (c : Columns)
     → IsGraph g → slice_get g t ≡ Some n → n.kind ≡ Cross k → AreNodeArrays w names g n k d c
     → (i : ℕ) → i < length c.sids → meaning_of w names g t (sid_in c.sids i) d ≡ Number (section_in k c i)
 node-value w names g t n k d c ok e kind s i h =
     let a : ℕ = sid_in c.sids i in
-    let mask : Part = number_part w names g n.mask in
     value_at-node w names g ok t n e a d
-    ∙ ap (λ q. if exists w a d && passes mask a d
-    then kind_value w names q n.window (input_part w names g (slice_get n.inputs 0)) (input_part w names g (slice_get n.inputs 1)) (input_part w names g (slice_get n.inputs 2)) mask (number_part w names g n.group) a d
+    ∙ ap (λ q. if exists w a d && passes (number_part w names g n.mask) a d
+    then kind_value w names q n.window (node_operands w names g n) a d
     else empty (sort_over q (sort_kind (input_tree (trees g) (slice_get n.inputs 0))))) kind
-    ∙ part-value w names k n.window (input_part w names g (slice_get n.inputs 0)) (input_part w names g (slice_get n.inputs 1)) (input_part w names g (slice_get n.inputs 2)) mask (number_part w names g n.group)
-    d c.sids c.values c.keep c.labels s i h
+    ∙ part-value w names k n.window (node_operands w names g n) d c.sids c.values c.keep c.labels s i h

@@ -9,10 +9,10 @@ use Rattle.pl_spec.specs.Cells.{is_true}
 use Rattle.pl_pipeline.specs.Cross.{array_at, cross_at}
 use Rattle.pl_pipeline.specs.Term.{Term, Node, Graph, IsGraph}
 use Rattle.pl_pipeline.specs.Term.Term.{node}
-use Rattle.pl_pipeline.specs.Value.{Part, part_of, value_of_part, passes, group_of, is_cross_filter, value}
+use Rattle.pl_pipeline.specs.Value.{Part, Operands, value_of_part, passes, group_of, is_cross_filter, value, operands_of}
 use Rattle.pl_pipeline.specs.Value.Part.{Nothing, Values}
 use Rattle.pl_pipeline.specs.Value.Value.{Number, Text}
-use Rattle.pl_pipeline.specs.NodeValue.{meaning_of, input_part, number_part}
+use Rattle.pl_pipeline.specs.NodeValue.{meaning_of, node_operands}
 use Rattle.pl_pipeline.specs.Table.{in_array}
 use Rattle.pl_cross.specs.Listing.{labels_for}
 
@@ -52,16 +52,16 @@ pub record Columns : Type 0 where
   pub keep : List ℤ
   pub labels : Option (List ℤ)
 
--- The columns are those of session d for a kind over its input, its mask and its group. The sids ascend, and
--- each that exists on d is among them.
-pub record AreArrays (w : World) (k : CrossKind) (x mask group : Part) (d : ℤ) (c : Columns) : Type 0 where
+-- The columns are those of session d for a kind over its operands. The sids ascend, and each that exists on d
+-- is among them.
+pub record AreArrays (w : World) (k : CrossKind) (operands : Operands) (d : ℤ) (c : Columns) : Type 0 where
   pub ascend : AllPairs (λ a b. a < b) c.sids
   pub all : living_sids w d ≡ filter (λ a. exists w a d) c.sids
-  pub values : IsArray w x d c.sids c.values
-  pub numbers : HasNumbers k x d
+  pub values : IsArray w operands.first d c.sids c.values
+  pub numbers : HasNumbers k operands.first d
   pub keep : (i : ℕ) → i < length c.sids
-      → is_true (array_at c.keep i) ≡ (exists w (sid_in c.sids i) d && passes mask (sid_in c.sids i) d)
-  pub groups : IsGroupArray w (group_of k x group) d c.sids (labels_for k c.values c.labels)
+      → is_true (array_at c.keep i) ≡ (exists w (sid_in c.sids i) d && passes operands.mask (sid_in c.sids i) d)
+  pub groups : IsGroupArray w (group_of k operands.first operands.group) d c.sids (labels_for k c.values c.labels)
 
 -- the number in place of a value that is not there
 abbrev pub empty_number : CrossKind → ℤ
@@ -77,14 +77,13 @@ section_in k c i = section_at k c.values c.keep c.labels i
 -- the cross-section over the arrays of a session is the term's value for each asset
 abbrev pub SectionsAreValues : Type 0
 SectionsAreValues = (w : World) (names : List (List ℕ)) (k : CrossKind) (size : ℕ) (x y z mask group : Term) (d : ℤ) (c : Columns)
-    → AreArrays w k (part_of x (value w names x)) (part_of mask (value w names mask)) (part_of group (value w names group)) d c
+    → AreArrays w k (operands_of w names (node (Cross k) size x y z mask group)) d c
     → (i : ℕ) → i < length c.sids
     → value w names (node (Cross k) size x y z mask group) (sid_in c.sids i) d ≡ Number (section_in k c i)
 
 -- the input of a node, its mask and its group are in the arrays
 abbrev pub AreNodeArrays : World → List (List ℕ) → Graph → Node → CrossKind → ℤ → Columns → Type 0
-AreNodeArrays w names g n k d c =
-    AreArrays w k (input_part w names g (slice_get n.inputs 0)) (number_part w names g n.mask) (number_part w names g n.group) d c
+AreNodeArrays w names g n k d c = AreArrays w k (node_operands w names g n) d c
 
 -- and that of a numbered term, over the numbers that its node mentions
 abbrev pub NodesAreSections : Type 0

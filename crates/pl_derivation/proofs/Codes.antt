@@ -12,17 +12,15 @@ use Rattle.pl_spec.specs.declared.Column.{Column}
 use Rattle.pl_spec.specs.World.{World, exists}
 use Rattle.pl_spec.specs.Window.{downward, seen_cell}
 use Rattle.pl_spec.specs.Periods.{period_start}
-use Rattle.pl_pipeline.specs.Kind as kinds
 use Rattle.pl_pipeline.specs.Kind.{Kind, WindowKind, LabelKind, CrossKind}
-use Rattle.pl_pipeline.specs.Kind.Kind.{Constant, Label, StaticSids, Window, Point, LabelTest, Cross, Downsample}
+use Rattle.pl_pipeline.specs.Kind.Kind.{Label, Window, Point, LabelTest, Cross, Downsample}
 use Rattle.pl_pipeline.specs.Term.{Term, Graph, Input, Node, IsGraph, tree_over, trees, term_at}
 use Rattle.pl_pipeline.specs.Term.Term.{absent, column, node}
 use Rattle.pl_pipeline.specs.Term.Input.{BarColumn, TermInput}
-use Rattle.pl_pipeline.specs.Cross.{cross}
-use Rattle.pl_pipeline.specs.Value.{Value, Part, part_of, number_of, value_of_part, passes, eligible, group_of, window_of, is_window_filter, is_point_filter, is_cross_filter, sort_kind, test_value, kind_value, empty, value}
+use Rattle.pl_pipeline.specs.Value.{Value, Operands, part_of, value_of_part, passes, eligible, window_of, is_window_filter, is_point_filter, is_cross_filter, sort_kind, test_value, kind_value, empty, value, operands_of}
 use Rattle.pl_pipeline.specs.Value.Value.{Number, Text}
 use Rattle.pl_pipeline.specs.Value.Part.{Bars, Values}
-use Rattle.pl_pipeline.specs.NodeValue.{meaning_of, input_part, number_part, node_value}
+use Rattle.pl_pipeline.specs.NodeValue.{meaning_of, input_part, number_part, node_operands, node_value}
 use Rattle.pl_pipeline.specs.Table.{Pipeline, value_of, in_array}
 use Rattle.pl_pipeline.specs.Text.{kind_at}
 use Rattle.pl_spec.proofs.Members.{In, contains-in}
@@ -31,7 +29,7 @@ use Rattle.pl_pipeline.proofs.Unfolds.{value_at-node, past}
 use Rattle.pl_cross.specs.Arrays.{HasTexts}
 use Rattle.pl_cross.proofs.Codes.{IsCoded}
 use Rattle.pl_cross.proofs.LabelCodes.{labels-coded}
-use Rattle.pl_derivation.specs.Facts.{Fact, number_in, value_from, term_read, column_read, input_read, number_read, node_read, single_step}
+use Rattle.pl_derivation.specs.Facts.{Fact, number_in, value_from, term_read, column_read, input_read, number_read, operands_read, node_read, single_step}
 use Rattle.pl_derivation.specs.Facts.Fact.{Seen, TermValue}
 use Rattle.pl_spec.proofs.Each.{map_each, each_all}
 use Rattle.pl_derivation.proofs.Finding.{place_within, is_place}
@@ -59,15 +57,10 @@ kept_if texts k true v u h i = h
 kept_if texts k false v u h i = i
 
 empty_kept : (texts : List (List ℕ)) (k : Kind) → IsKept texts k (empty k)
-empty_kept texts (Constant x) = refl
-empty_kept texts (Label n) = refl
-empty_kept texts (kinds.Number n) = refl
-empty_kept texts (StaticSids sids) = refl
 empty_kept texts (Window k) = kept_if texts (Window k) (is_window_filter k) _ _ refl refl
 empty_kept texts (Point k) = kept_if texts (Point k) (is_point_filter k) _ _ refl refl
-empty_kept texts (LabelTest k) = refl
 empty_kept texts (Cross k) = kept_if texts (Cross k) (is_cross_filter k) _ _ refl refl
-empty_kept texts (Downsample f) = refl
+empty_kept texts k = refl
 
 label_kept : (texts : List (List ℕ)) (n : ℕ) (v : Value) → IsCoded texts v → IsKept texts (Label n) v
 label_kept texts n v (inl e) = rw e refl
@@ -84,11 +77,9 @@ module _ (w : World) (known : HasTexts w) (names : List (List ℕ)) where
   abbrev is_open : Term → ℕ → ℤ → Bool
   is_open m a d = exists w a d && passes (part_of m (value w names m)) a d
 
-  section_kept : (k : CrossKind) (x m g : Part) (a : ℕ) (d : ℤ)
-      → IsKept w.texts (Cross k) (let list = eligible w x m (group_of k x g) a d in if list_any (λ e. e.0 == a) list then Number (cross k list a (number_of (value_of_part x a d))) else empty (Cross k))
-  section_kept k x m g a d =
-      let list = eligible w x m (group_of k x g) a d in
-      gate (Cross k) (list_any (λ e. e.0 == a) list) (Number (cross k list a (number_of (value_of_part x a d)))) refl
+  section_kept : (k : CrossKind) (size : ℕ) (o : Operands) (a : ℕ) (d : ℤ) → IsKept w.texts (Cross k) (kind_value w names (Cross k) size o a d)
+  unfolding kind_value
+  section_kept k size o a d = gate (Cross k) (list_any (λ e. e.0 == a) (eligible w k o a d)) _ refl
 
   now_kept : (x : Term) (a : ℕ) (d : ℤ) → IsKept w.texts (sort_kind x) (value w names x a d) → IsKept w.texts (sort_kind x) (value_of_part (part_of x (value w names x)) a d)
   now_kept absent a d h = refl
@@ -100,17 +91,12 @@ module _ (w : World) (known : HasTexts w) (names : List (List ℕ)) where
   unfolding value kind_value
   kept absent a d = refl
   kept (column c) a d = refl
-  kept (node (Constant c) size x y z m g) a d = gate (Constant c) (is_open m a d) _ refl
   kept (node (Label n) size x y z m g) a d = label_kept w.texts n _ (labels-coded w known names n size x y z m g a d)
-  kept (node (kinds.Number n) size x y z m g) a d = gate (kinds.Number n) (is_open m a d) _ refl
-  kept (node (StaticSids sids) size x y z m g) a d = gate (StaticSids sids) (is_open m a d) _ refl
-  kept (node (Window k) size x y z m g) a d = gate (Window k) (is_open m a d) _ refl
-  kept (node (Point k) size x y z m g) a d = gate (Point k) (is_open m a d) _ refl
   kept (node (LabelTest k) size x y z m g) a d = gate (LabelTest k) (is_open m a d) _ (test_kept w.texts k (value_of_part (part_of x (value w names x)) a d))
-  kept (node (Cross k) size x y z m g) a d =
-      gate (Cross k) (is_open m a d) _ (section_kept k (part_of x (value w names x)) (part_of m (value w names m)) (part_of g (value w names g)) a d)
+  kept (node (Cross k) size x y z m g) a d = gate (Cross k) (is_open m a d) _ (section_kept k size (operands_of w names (node (Cross k) size x y z m g)) a d)
   kept (node (Downsample f) size x y z m g) a d =
       gate (sort_kind x) (is_open m a d) _ (now_kept x a (period_start f w.days d) (kept x a (period_start f w.days d)))
+  kept (node k size x y z m g) a d = gate k (is_open m a d) _ refl
 
 no_term : (g : Graph) (t : ℕ) → slice_get g t ≡ None → term_at g t ≡ absent
 no_term g t e = elim (cases_lt t (length g)) [
@@ -147,26 +133,20 @@ module _ (w : World) (p : Pipeline) (known : HasTexts w) (ok : IsGraph p.graph) 
     abbrev input : ℕ → Option Input
     input i = slice_get n.inputs i
 
+    -- a kind that reads no bars
+    flat_is : (k : Kind) → ((c : Column) → column_read (number_in w p) k d c ≡ Bars c) → operands_read w p (number_in w p) k n d ≡ node_operands w p.names p.graph n
+    flat_is k flat = rw (input_is k d flat (input 0), input_is k d flat (input 1), input_is k d flat (input 2), number_is n.mask, number_is n.group) refl
+
     step_is : (k : Kind)
-        → kind_value w p.names k n.window (input_read w p (number_in w p) k d (input 0)) (input_read w p (number_in w p) k d (input 1))
-        (input_read w p (number_in w p) k d (input 2)) (number_part w p.names p.graph n.mask) (number_part w p.names p.graph n.group) a d
-        ≡ kind_value w p.names k n.window (input_part w p.names p.graph (input 0)) (input_part w p.names p.graph (input 1))
-        (input_part w p.names p.graph (input 2)) (number_part w p.names p.graph n.mask) (number_part w p.names p.graph n.group) a d
+        → kind_value w p.names k n.window (operands_read w p (number_in w p) k n d) a d ≡ kind_value w p.names k n.window (node_operands w p.names p.graph n) a d
     unfolding kind_value
-    step_is (Constant c) = refl
-    step_is (Label l) = refl
-    step_is (kinds.Number l) = refl
-    step_is (StaticSids sids) = refl
     step_is (Window k) = rw (window_is k n.window a d (input 0), window_is k n.window a d (input 1), window_is k n.window a d (input 2)) refl
-    step_is (Point k) = rw (input_is (Point k) d (λ c. refl) (input 0), input_is (Point k) d (λ c. refl) (input 1), input_is (Point k) d (λ c. refl) (input 2)) refl
-    step_is (LabelTest k) = rw (input_is (LabelTest k) d (λ c. refl) (input 0)) refl
-    step_is (Cross k) = rw (input_is (Cross k) d (λ c. refl) (input 0)) refl
-    step_is (Downsample f) = rw (input_is (Downsample f) d (λ c. refl) (input 0)) refl
+    step_is k = ap (λ o. kind_value w p.names k n.window o a d) (flat_is k (λ c. refl))
 
     node_is : (t : ℕ) → slice_get p.graph t ≡ Some n → node_read w p (number_in w p) t n a d ≡ node_value w p.names p.graph n a d
     node_is t e =
         let shown : kind_at p.graph t ≡ sort_kind (tree_over (trees p.graph) n) = ap sort_kind (term_at-node p.graph t n ok e) in
-        rw (number_is n.mask, number_is n.group, step_is n.kind, shown) refl
+        rw (step_is n.kind, number_is n.mask, shown) refl
 
   -- the single step over the world's own numbers gives the world's number
   pub step_true : (f : Fact) → single_step w p (number_in w p) f ≡ number_in w p f

@@ -1,105 +1,33 @@
 -- A fact's premises and its single step depend on the numbers of the premises alone.
-use Rattle.std.proofs.Common.{◌≡◌, ℕ, suc, Bool, true, false, if◌then◌else◌, ℤ, List, [], ◌∷◌, ◌++◌, Option, Some, None, refl, sym, ◌∙◌, ap, arith, slice_get}
+use Rattle.std.proofs.Common.{◌≡◌, ℕ, suc, Bool, true, false, if◌then◌else◌, ℤ, List, [], ◌++◌, Option, Some, None, refl, sym, ◌∙◌, ap, arith, slice_get}
 use Rattle.std.proofs.lemmas.Int.{ints}
 use Rattle.pl_spec.specs.declared.Column.{Column}
 use Rattle.pl_spec.specs.World.{World, exists, living_sids}
 use Rattle.pl_spec.specs.Window.{before, downward}
 use Rattle.pl_pipeline.specs.Kind.{Kind, WindowKind, CrossKind}
-use Rattle.pl_pipeline.specs.Kind.Kind.{Constant, Label, Number, StaticSids, Window, Point, LabelTest, Cross, Downsample}
+use Rattle.pl_pipeline.specs.Kind.Kind.{Window, Point, LabelTest, Cross, Downsample}
 use Rattle.pl_spec.specs.Periods.{period_start}
-use Rattle.pl_pipeline.specs.Kind.CrossKind.{PeerCount}
 use Rattle.pl_pipeline.specs.Term.{Input, Node}
 use Rattle.pl_pipeline.specs.Term.Input.{BarColumn, TermInput}
-use Rattle.pl_pipeline.specs.Value.{Value, Part, number_of, holds, value_of_part, window_of, passes, in_group, entry, counts_for, eligible, group_of, kind_value}
-use Rattle.pl_pipeline.specs.Value.Part.{Nothing, Bars, Values}
+use Rattle.pl_pipeline.specs.Value.{Value, number_of, window_of, passes, kind_value}
+use Rattle.pl_pipeline.specs.Value.Part.{Bars}
+use Rattle.pl_pipeline.proofs.SameOperands.{Alike, AlikeEntry, passes_alike, eligible_alike}
 use Rattle.pl_pipeline.specs.Text.{kind_at}
 use Rattle.pl_pipeline.specs.Table.{Pipeline, in_array}
-use Rattle.pl_derivation.specs.Facts.{Fact, Reading, window_facts, facts_now, number_facts, over_inputs, entry_facts, kind_facts, value_from, column_read, input_read, number_read, node_read, node_facts, premises, single_step}
+use Rattle.pl_derivation.specs.Facts.{Fact, Reading, window_facts, facts_now, number_facts, over_inputs, entry_facts, kind_facts, value_from, column_read, input_read, number_read, operands_read, node_read, node_facts, premises, single_step}
 use Rattle.pl_derivation.specs.Facts.Fact.{Seen, TermValue}
-use Rattle.pl_spec.proofs.Each.{Each, each_front, each_back, each_of_map, each_of_flat, each_more, each_known, map_each, filter_each}
+use Rattle.pl_spec.proofs.Each.{Each, each_front, each_back, each_of_map, each_of_flat, each_more, each_known, map_each}
 
 pub before-twice : (d : ℤ) (n : ℕ) → before (before d n) 1 ≡ before d (suc n)
 before-twice d n = omega (arith, ints)
-
--- two parts that have the same value for b on session d
-abbrev pub Alike : Part → Part → ℕ → ℤ → Type 0
-Alike Nothing Nothing b d = Unit {0}
-Alike (Bars c) (Bars c') b d = Unit {0}
-Alike (Values f) (Values g) b d = f b d ≡ g b d
-Alike x y b d = ⊥
-
-module _ (b : ℕ) (d : ℤ) where
-  now_alike : (x y : Part) → Alike x y b d → value_of_part x b d ≡ value_of_part y b d
-  now_alike Nothing Nothing h = refl
-  now_alike (Bars c) (Bars c') h = refl
-  now_alike (Values f) (Values g) h = h
-  now_alike Nothing (Bars c') h = elim h [ ]
-  now_alike Nothing (Values g) h = elim h [ ]
-  now_alike (Bars c) Nothing h = elim h [ ]
-  now_alike (Bars c) (Values g) h = elim h [ ]
-  now_alike (Values f) Nothing h = elim h [ ]
-  now_alike (Values f) (Bars c') h = elim h [ ]
-
-  passes_alike : (x y : Part) → Alike x y b d → passes x b d ≡ passes y b d
-  passes_alike Nothing Nothing h = refl
-  passes_alike (Bars c) (Bars c') h = refl
-  passes_alike (Values f) (Values g) h = ap holds h
-  passes_alike Nothing (Bars c') h = elim h [ ]
-  passes_alike Nothing (Values g) h = elim h [ ]
-  passes_alike (Bars c) Nothing h = elim h [ ]
-  passes_alike (Bars c) (Values g) h = elim h [ ]
-  passes_alike (Values f) Nothing h = elim h [ ]
-  passes_alike (Values f) (Bars c') h = elim h [ ]
-
-  in_group_alike : (a : ℕ) (x y : Part) → Alike x y a d → Alike x y b d → in_group x a d b ≡ in_group y a d b
-  in_group_alike a Nothing Nothing h i = refl
-  in_group_alike a (Bars c) (Bars c') h i = refl
-  in_group_alike a (Values f) (Values g) h i = rw (h, i) refl
-  in_group_alike a Nothing (Bars c') h i = elim h [ ]
-  in_group_alike a Nothing (Values g) h i = elim h [ ]
-  in_group_alike a (Bars c) Nothing h i = elim h [ ]
-  in_group_alike a (Bars c) (Values g) h i = elim h [ ]
-  in_group_alike a (Values f) Nothing h i = elim h [ ]
-  in_group_alike a (Values f) (Bars c') h i = elim h [ ]
-
-module _ (d : ℤ) where
-  counts_alike : (x x' m m' g g' : Part) (a b : ℕ) → Alike x x' b d → Alike m m' b d → Alike g g' a d → Alike g g' b d
-      → counts_for x m g a d b ≡ counts_for x' m' g' a d b
-  counts_alike x x' m m' g g' a b hx hm ha hb =
-      rw (passes_alike b d m m' hm, now_alike b d x x' hx, in_group_alike b d a g g' ha hb) refl
-
-  entry_alike : (x x' : Part) (b : ℕ) → Alike x x' b d → entry x d b ≡ entry x' d b
-  entry_alike x x' b h = rw (now_alike b d x x' h) refl
-
-  abbrev AlikeAll : Part → Part → List ℕ → Type 0
-  AlikeAll x x' sids = Each (λ b. Alike x x' b d) sids
-
-  listed_alike : (x x' m m' g g' : Part) (a : ℕ) (sids : List ℕ) → AlikeAll x x' sids → AlikeAll m m' sids → Alike g g' a d → AlikeAll g g' sids
-      → Each (λ b. (counts_for x m g a d b ≡ counts_for x' m' g' a d b) × (entry x d b ≡ entry x' d b)) sids
-  listed_alike x x' m m' g g' a [] hx hm ha hg = tt
-  listed_alike x x' m m' g g' a (b ∷ sids) hx hm ha hg =
-      ((counts_alike x x' m m' g g' a b hx.0 hm.0 ha hg.0, entry_alike x x' b hx.0), listed_alike x x' m m' g g' a sids hx.1 hm.1 ha hg.1)
-
-  eligible_alike : (w : World) (x x' m m' g g' : Part) (a : ℕ) → AlikeAll x x' (living_sids w d) → AlikeAll m m' (living_sids w d)
-      → Alike g g' a d → AlikeAll g g' (living_sids w d)
-      → eligible w x m g a d ≡ eligible w x' m' g' a d
-  eligible_alike w x x' m m' g g' a hx hm ha hg =
-      filter_each (entry x d) (entry x' d) (counts_for x m g a d) (counts_for x' m' g' a d) (living_sids w d)
-      (listed_alike x x' m m' g g' a (living_sids w d) hx hm ha hg)
-
-  peers_alike : (k : CrossKind) (w : World) (x x' m m' g g' : Part) (a : ℕ) → AlikeAll x x' (living_sids w d) → AlikeAll m m' (living_sids w d)
-      → Alike x x' a d → Alike g g' a d → AlikeAll g g' (living_sids w d)
-      → eligible w x m (group_of k x g) a d ≡ eligible w x' m' (group_of k x' g') a d
-  peers_alike PeerCount w x x' m m' g g' a hx hm xa ha hg = eligible_alike w x x' m m' x x' a hx hm xa hx
-  peers_alike k w x x' m m' g g' a hx hm xa ha hg = eligible_alike w x x' m m' g g' a hx hm ha hg
 
 module _ (w : World) (p : Pipeline) (r q : Reading) where
   abbrev Same : Fact → Type 0
   Same f = r f ≡ q f
 
   number_alike : (b : ℕ) (d : ℤ) (o : Option ℕ) → Each Same (number_facts b d o) → Alike (number_read w p r o) (number_read w p q o) b d
-  number_alike b d None h = tt
-  number_alike b d (Some t) h = ap (value_from w.texts (kind_at p.graph t)) h.0
+  number_alike b d None h = record { value = refl; nothing = refl }
+  number_alike b d (Some t) h = record { value = ap (value_from w.texts (kind_at p.graph t)) h.0; nothing = refl }
 
   -- a kind that reads no bars
   abbrev IsFlat : Kind → Type 0
@@ -107,9 +35,9 @@ module _ (w : World) (p : Pipeline) (r q : Reading) where
 
   input_alike : (k : Kind) → IsFlat k → (b : ℕ) (d e : ℤ) (o : Option Input) → Each Same (facts_now b d o)
       → Alike (input_read w p r k e o) (input_read w p q k e o) b d
-  input_alike k flat b d e None h = tt
-  input_alike k flat b d e (Some (BarColumn c)) h = rw (flat r e c, flat q e c) tt
-  input_alike k flat b d e (Some (TermInput t)) h = ap (value_from w.texts (kind_at p.graph t)) h.0
+  input_alike k flat b d e None h = record { value = refl; nothing = refl }
+  input_alike k flat b d e (Some (BarColumn c)) h = rw (flat r e c, flat q e c) (record { value = refl; nothing = refl })
+  input_alike k flat b d e (Some (TermInput t)) h = record { value = ap (value_from w.texts (kind_at p.graph t)) h.0; nothing = refl }
 
   window_alike : (k : WindowKind) (size a : ℕ) (d : ℤ) (o : Option Input) → Each Same (window_facts size a d o)
       → window_of w size (input_read w p r (Window k) d o) a d ≡ window_of w size (input_read w p q (Window k) d o) a d
@@ -128,9 +56,7 @@ module _ (w : World) (p : Pipeline) (r q : Reading) where
     input i = slice_get n.inputs i
 
     abbrev stepped : Reading → Kind → Value
-    stepped s k =
-        kind_value w p.names k n.window (input_read w p s k d (input 0)) (input_read w p s k d (input 1)) (input_read w p s k d (input 2))
-        (number_read w p s n.mask) (number_read w p s n.group) a d
+    stepped s k = kind_value w p.names k n.window (operands_read w p s k n d) a d
 
     fronts : (f : Option Input → List Fact) → Each Same (over_inputs f n) → Each Same (f (input 0) ++ f (input 1))
     fronts f h = each_front Same (f (input 0) ++ f (input 1)) (f (input 2)) h
@@ -156,12 +82,15 @@ module _ (w : World) (p : Pipeline) (r q : Reading) where
     entries : (b : ℕ) → Each Same (entry_facts n d b) → Each Same (facts_now b d (input 0))
     entries b h = firsts (facts_now b d) (each_back Same (number_facts b d n.mask ++ number_facts b d n.group) (over_inputs (facts_now b d) n) h)
 
+    entry_alike : (k : CrossKind) (b : ℕ) → Each Same (entry_facts n d b) → AlikeEntry (operands_read w p r (Cross k) n d) (operands_read w p q (Cross k) n d) b d
+    entry_alike k b h = record {
+      first = input_alike (Cross k) (λ s e c. refl) b d d (input 0) (entries b h);
+      mask = number_alike b d n.mask (masks b h);
+      group = number_alike b d n.group (groups b h);
+    }
+
     step_same : (k : Kind) → exists w a d ≡ true → Each Same (kind_facts w n k a d) → stepped r k ≡ stepped q k
     unfolding kind_value
-    step_same (Constant x) e h = refl
-    step_same (Label x) e h = refl
-    step_same (Number x) e h = refl
-    step_same (StaticSids x) e h = refl
     step_same (Window k) e h =
         rw (
           window_alike k n.window a d (input 0) (firsts (window_facts n.window a d) h),
@@ -170,28 +99,21 @@ module _ (w : World) (p : Pipeline) (r q : Reading) where
         ) refl
     step_same (Point k) e h =
         rw (
-          now_alike a d _ _ (input_alike (Point k) (λ s e c. refl) a d d (input 0) (firsts (facts_now a d) h)),
-          now_alike a d _ _ (input_alike (Point k) (λ s e c. refl) a d d (input 1) (seconds (facts_now a d) h)),
-          now_alike a d _ _ (input_alike (Point k) (λ s e c. refl) a d d (input 2) (thirds (facts_now a d) h)),
+          (input_alike (Point k) (λ s e c. refl) a d d (input 0) (firsts (facts_now a d) h)).value,
+          (input_alike (Point k) (λ s e c. refl) a d d (input 1) (seconds (facts_now a d) h)).value,
+          (input_alike (Point k) (λ s e c. refl) a d d (input 2) (thirds (facts_now a d) h)).value,
         ) refl
     step_same (LabelTest k) e h =
-        rw (now_alike a d _ _ (input_alike (LabelTest k) (λ s e c. refl) a d d (input 0) (firsts (facts_now a d) h))) refl
+        rw (input_alike (LabelTest k) (λ s e c. refl) a d d (input 0) (firsts (facts_now a d) h)).value refl
     step_same (Cross k) e h =
-        let each : Each (λ b. Each Same (entry_facts n d b)) (living_sids w d) = each_of_flat Same (entry_facts n d) (living_sids w d) h in
-        let x : Each (λ b. Alike (input_read w p r (Cross k) d (input 0)) (input_read w p q (Cross k) d (input 0)) b d) (living_sids w d)
-        = each_more _ _ (living_sids w d) (λ b i. input_alike (Cross k) (λ s e c. refl) b d d (input 0) (entries b i)) each in
-        let m : Each (λ b. Alike (number_read w p r n.mask) (number_read w p q n.mask) b d) (living_sids w d)
-        = each_more _ _ (living_sids w d) (λ b i. number_alike b d n.mask (masks b i)) each in
-        let g : Each (λ b. Alike (number_read w p r n.group) (number_read w p q n.group) b d) (living_sids w d)
-        = each_more _ _ (living_sids w d) (λ b i. number_alike b d n.group (groups b i)) each in
-        let xa : Alike (input_read w p r (Cross k) d (input 0)) (input_read w p q (Cross k) d (input 0)) a d = each_known _ (living_sids w d) a x e in
-        let ga : Alike (number_read w p r n.group) (number_read w p q n.group) a d = each_known _ (living_sids w d) a g e in
-        rw (
-          peers_alike d k w _ _ _ _ _ _ a x m xa ga g,
-          now_alike a d _ _ xa,
-        ) refl
+        let each : Each (λ b. AlikeEntry (operands_read w p r (Cross k) n d) (operands_read w p q (Cross k) n d) b d) (living_sids w d)
+        = each_more _ _ (living_sids w d) (entry_alike k) (each_of_flat Same (entry_facts n d) (living_sids w d) h) in
+        let own : AlikeEntry (operands_read w p r (Cross k) n d) (operands_read w p q (Cross k) n d) a d = each_known _ (living_sids w d) a each e in
+        rw (eligible_alike w w k _ _ a d own refl each, own.first.value) refl
     step_same (Downsample f) e h =
-        now_alike a (period_start f w.days d) _ _ (input_alike (Downsample f) (λ s e c. refl) a (period_start f w.days d) d (input 0) (firsts (facts_now a (period_start f w.days d)) h))
+        let start : ℤ = period_start f w.days d in
+        (input_alike (Downsample f) (λ s e c. refl) a start d (input 0) (firsts (facts_now a start) h)).value
+    step_same k e h = refl
 
     node_same : (t : ℕ) → Each Same (node_facts w p r n a d) → (node_facts w p r n a d ≡ node_facts w p q n a d) × (node_read w p r t n a d ≡ node_read w p q t n a d)
     node_same t h = here (exists w a d) refl
@@ -200,7 +122,7 @@ module _ (w : World) (p : Pipeline) (r q : Reading) where
             → (node_facts w p r n a d ≡ node_facts w p q n a d) × (node_read w p r t n a d ≡ node_read w p q t n a d)
         passed b f e h =
             let pass : passes (number_read w p r n.mask) a d ≡ passes (number_read w p q n.mask) a d
-            = passes_alike a d _ _ (number_alike a d n.mask (each_front Same (number_facts a d n.mask) _ h)) in
+            = passes_alike _ _ a d (number_alike a d n.mask (each_front Same (number_facts a d n.mask) _ h)) in
             rest b f (sym pass ∙ f) (each_back Same (number_facts a d n.mask) _ h)
           where
             rest : (b : Bool) → passes (number_read w p r n.mask) a d ≡ b → passes (number_read w p q n.mask) a d ≡ b → Each Same (if b then kind_facts w n n.kind a d else [])

@@ -13,7 +13,7 @@ use Rattle.pl_pipeline.specs.Kind.{Kind}
 use Rattle.pl_pipeline.specs.Kind.Kind.{Label, Window, Point, LabelTest, Cross, Downsample}
 use Rattle.pl_pipeline.specs.Term.{Input, Node}
 use Rattle.pl_pipeline.specs.Term.Input.{BarColumn, TermInput}
-use Rattle.pl_pipeline.specs.Value.{Value, Meaning, Part, passes, kind_value, empty, name_at}
+use Rattle.pl_pipeline.specs.Value.{Value, Meaning, Part, Operands, passes, kind_value, empty, name_at}
 use Rattle.pl_pipeline.specs.Value.Value.{Number, Text}
 use Rattle.pl_pipeline.specs.Value.Part.{Nothing, Bars, Values}
 use Rattle.pl_pipeline.specs.Table.{Pipeline, value_of, in_array}
@@ -115,12 +115,21 @@ abbrev pub number_read : World → Pipeline → Reading → Option ℕ → Part
 number_read w p r None = Nothing
 number_read w p r (Some t) = Values (term_read w p r t)
 
+-- what the kind of a node reads on session d
+abbrev pub operands_read : World → Pipeline → Reading → Kind → Node → ℤ → Operands
+operands_read w p r k n d = record {
+  first = input_read w p r k d (slice_get n.inputs 0);
+  second = input_read w p r k d (slice_get n.inputs 1);
+  third = input_read w p r k d (slice_get n.inputs 2);
+  mask = number_read w p r n.mask;
+  group = number_read w p r n.group;
+}
+
 -- what node t is worth where its premises have the numbers of the reading
 abbrev pub node_read : World → Pipeline → Reading → ℕ → Node → Meaning
 node_read w p r t n a d =
     if exists w a d && passes (number_read w p r n.mask) a d
-    then kind_value w p.names n.kind n.window (input_read w p r n.kind d (slice_get n.inputs 0)) (input_read w p r n.kind d (slice_get n.inputs 1))
-    (input_read w p r n.kind d (slice_get n.inputs 2)) (number_read w p r n.mask) (number_read w p r n.group) a d
+    then kind_value w p.names n.kind n.window (operands_read w p r n.kind n d) a d
     else empty (kind_at p.graph t)
 
 -- the mask's value comes first, and what else is read follows where it is true

@@ -4,41 +4,24 @@ use Rattle.std.proofs.Common.{◌≡◌, ℕ, ◌-◌, ℤ, pos, ◌≤ℤ◌, L
 use Rattle.std.proofs.lemmas.Int.{ints}
 use Rattle.pl_spec.specs.Window.{before, downward}
 use Rattle.pl_pipeline.specs.Kind.{Kind}
-use Rattle.pl_pipeline.specs.Kind.Kind.{Constant, Label, Number, StaticSids, Window, Point, LabelTest, Cross, Downsample}
+use Rattle.pl_pipeline.specs.Kind.Kind.{Downsample}
 use Rattle.pl_pipeline.specs.Term.{Term, Node, Graph, term_at}
 use Rattle.pl_pipeline.specs.Term.Term.{absent, column, node}
 use Rattle.pl_pipeline.specs.Graph.{least_of, part_reach, reads_at, reach}
 use Rattle.pl_pipeline.specs.Lows.{Reads, Needs, IsLow, least_reach}
 use Rattle.pl_pipeline.specs.Lows.Reads.{input, mask, group}
 use Rattle.pl_pipeline.specs.Lows.Needs.{output, read}
-use Rattle.pl_laws.proofs.Starts.{start-same, start-within}
+use Rattle.pl_laws.proofs.Starts.{start-same}
+use Rattle.pl_laws.proofs.Lows.{reads_at-within}
 
 -- up to session k
 abbrev pub SameDays : List ℤ → List ℤ → ℤ → Type 0
 SameDays days other k = (i : ℕ) → pos i ≤ℤ k → slice_get days i ≡ slice_get other i
 
 module _ (days other : List ℤ) (k : ℤ) (same : SameDays days other k) where
-  reads_at-same : (q : Kind) (d : ℤ) → d ≤ℤ k → reads_at days q d ≡ reads_at other q d
-  reads_at-same (Constant x) d h = refl
-  reads_at-same (Label x) d h = refl
-  reads_at-same (Number x) d h = refl
-  reads_at-same (StaticSids x) d h = refl
-  reads_at-same (Window x) d h = refl
-  reads_at-same (Point x) d h = refl
-  reads_at-same (LabelTest x) d h = refl
-  reads_at-same (Cross x) d h = refl
+  pub reads_at-same : (q : Kind) (d : ℤ) → d ≤ℤ k → reads_at days q d ≡ reads_at other q d
   reads_at-same (Downsample f) d h = start-same f days other d (λ i l. same i (omega (arith, ints)))
-
-  reads_at-within : (q : Kind) (d : ℤ) → reads_at days q d ≤ℤ d
-  reads_at-within (Constant x) d = omega (arith, ints)
-  reads_at-within (Label x) d = omega (arith, ints)
-  reads_at-within (Number x) d = omega (arith, ints)
-  reads_at-within (StaticSids x) d = omega (arith, ints)
-  reads_at-within (Window x) d = omega (arith, ints)
-  reads_at-within (Point x) d = omega (arith, ints)
-  reads_at-within (LabelTest x) d = omega (arith, ints)
-  reads_at-within (Cross x) d = omega (arith, ints)
-  reads_at-within (Downsample f) d = start-within f days d
+  reads_at-same q d h = refl
 
   part-same : (t : Term) (f g : ℤ → ℤ) → ((d : ℤ) → d ≤ℤ k → f d ≡ g d) → (size : ℕ) (d : ℤ) → d ≤ℤ k → part_reach t f size d ≡ part_reach t g size d
   part-same absent f g e size d h = refl
@@ -55,7 +38,7 @@ module _ (days other : List ℤ) (k : ℤ) (same : SameDays days other k) where
   reach-same (column c) d h = refl
   reach-same (node q size x y z m g) d h =
       let s = reads_at days q d in
-      let within : s ≤ℤ k = omega (arith, ints, reads_at-within q d) in
+      let within : s ≤ℤ k = omega (arith, ints, reads_at-within days q d) in
       ap (λ v. least_of (v ∷ part_reach y (reach days y) size s ∷ part_reach z (reach days z) size s ∷ part_reach m (reach days m) 1 d ∷ part_reach g (reach days g) 1 d ∷ []) d)
       (part-same x (reach days x) (reach other x) (reach-same x) size s within)
       ∙ ap (λ v. least_of (part_reach x (reach other x) size s ∷ v ∷ part_reach z (reach days z) size s ∷ part_reach m (reach days m) 1 d ∷ part_reach g (reach days g) 1 d ∷ []) d)
@@ -78,7 +61,7 @@ module _ (days other : List ℤ) (k : ℤ) (same : SameDays days other k) where
 
   reads-same : (n : Node) (s : ℤ) (t : ℕ) (r : ℤ) → s ≤ℤ k → Reads days n s t r → Reads other n s t r × (r ≤ℤ s)
   reads-same n s t r h (input i e) =
-      (subst (λ z. Reads other n s t (before z (n.window - 1))) (sym (reads_at-same n.kind s h)) (input i e), omega (arith, ints, reads_at-within n.kind s))
+      (subst (λ z. Reads other n s t (before z (n.window - 1))) (sym (reads_at-same n.kind s h)) (input i e), omega (arith, ints, reads_at-within days n.kind s))
   reads-same n s t r h (mask e) = (mask e, omega (arith, ints))
   reads-same n s t r h (group e) = (group e, omega (arith, ints))
 

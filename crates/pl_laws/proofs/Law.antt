@@ -1,27 +1,24 @@
 -- What came to be known later doesn't change a value.
-use Rattle.std.proofs.Common.{◌≡◌, ℕ, suc, ◌<◌, ◌≤◌, Bool, true, false, ◌&&◌, cond, ℤ, pos, negsuc, ◌<ℤ◌, ◌≤ℤ◌, List, [], ◌∷◌, length, map, get_or, Option, Some, None, refl, sym, ◌∙◌, ap, arith, inl, inr, filter, filter_map, slice_get, AllPairs, ◌==◌, unwrap_or, option_map}
+use Rattle.std.proofs.Common.{◌≡◌, ℕ, suc, ◌<◌, ◌≤◌, Bool, true, false, cond, ℤ, pos, negsuc, ◌<ℤ◌, ◌≤ℤ◌, List, [], ◌∷◌, length, map, get_or, Option, Some, None, refl, sym, ◌∙◌, ap, arith, inl, inr, filter, filter_map, slice_get, AllPairs, ◌==◌, unwrap_or, option_map}
 use Rattle.std.proofs.Math.Path.{fun_ext}
 use Rattle.std.specs.List.{list_any}
 use Rattle.std.proofs.lemmas.Int.{ints}
 use Rattle.std.proofs.lemmas.Bool.{eqb-true, eq-eqb, ne_eqb, or_cases, or_left, true≢false, false_from_ne_true, cases_eq}
 use Rattle.std.proofs.lemmas.Option.{get_or_from_slice_get, slice_get_within}
-use Rattle.pl_spec.specs.Rounding.{MISSING, is_present}
+use Rattle.pl_spec.specs.Rounding.{MISSING}
 use Rattle.pl_spec.specs.World.{World, IsWorld, Event, events_of, day_of, bar_cell, exists, living_sids, label_at, lives_on, known_number}
 use Rattle.pl_spec.specs.declared.AssetRow.{AssetRow}
 use Rattle.pl_spec.specs.declared.Column.{Column}
 use Rattle.pl_spec.specs.Window.{effect, is_between, effects_from, effects_in, effects, after_all, seen_cell, before, downward}
 use Rattle.pl_spec.specs.Agree.{Agree, is_known}
-use Rattle.pl_pipeline.specs.Kind.{Kind, CrossKind}
-use Rattle.pl_pipeline.specs.Kind as kinds
+use Rattle.pl_pipeline.specs.Graph.{reads_at}
 use Rattle.pl_spec.specs.Numbers.{number_at}
-use Rattle.pl_pipeline.specs.Kind.Kind.{Constant, Label, StaticSids, Window, Point, LabelTest, Cross, Downsample}
-use Rattle.pl_pipeline.specs.Kind.CrossKind.{PeerCount}
-use Rattle.pl_spec.specs.Periods.{period_start}
-use Rattle.pl_laws.proofs.Starts.{start-same, start-within}
+use Rattle.pl_laws.proofs.Lows.{reads_at-within}
+use Rattle.pl_laws.proofs.Calendars.{reads_at-same}
 use Rattle.pl_pipeline.specs.Term.{Term}
 use Rattle.pl_pipeline.specs.Term.Term.{absent, column, node}
-use Rattle.pl_pipeline.specs.Value.Value.{Number}
-use Rattle.pl_pipeline.specs.Value.{Meaning, part_of, number_of, holds, value_of_part, window_of, passes, in_group, entry, counts_for, eligible, group_of, label_value, name_at, test_value, kind_value, value}
+use Rattle.pl_pipeline.specs.Value.{Meaning, part_of, number_of, operands_of, value}
+use Rattle.pl_pipeline.proofs.SameOperands.{SamePart, SameReads, passes_alike, step_alike}
 use Rattle.pl_spec.proofs.Lists.{filter-filter}
 use Rattle.pl_spec.proofs.Windows.{before-less}
 
@@ -208,69 +205,17 @@ module _ (w v : World) (d day : ℤ) (ok : IsWorld w) (ok' : IsWorld v) (agree :
   abbrev SameBy : Meaning → Meaning → Type 0
   SameBy f g = (a : ℕ) (s : ℤ) → s ≤ℤ d → f a s ≡ g a s
 
-  now_same : (t : Term) (f g : Meaning) → SameBy f g → SameBy (value_of_part (part_of t f)) (value_of_part (part_of t g))
-  now_same absent f g h a s l = refl
-  now_same (column c) f g h a s l = refl
-  now_same (node k size x y z m p) f g h a s l = h a s l
-
-  window_same : (t : Term) (f g : Meaning) (size : ℕ) → SameBy f g → (a : ℕ) (s : ℤ) → s ≤ℤ d → window_of w size (part_of t f) a s ≡ window_of v size (part_of t g) a s
-  window_same absent f g size h a s l = refl
-  window_same (column c) f g size h a s l = ap (λ e. map e (downward size)) (fun_ext (λ n. seen_same a c (before s (suc n)) s (before-less s n) l))
-  window_same (node k n x y z m p) f g size h a s l = ap (λ e. map e (downward size)) (fun_ext (λ n. ap number_of (h a (before s n) (before_below s n d l))))
-
-  passes_same : (t : Term) (f g : Meaning) → SameBy f g → (a : ℕ) (s : ℤ) → s ≤ℤ d → passes (part_of t f) a s ≡ passes (part_of t g) a s
-  passes_same absent f g h a s l = refl
-  passes_same (column c) f g h a s l = refl
-  passes_same (node k n x y z m p) f g h a s l = ap holds (h a s l)
-
-  in_group_same : (t : Term) (f g : Meaning) → SameBy f g → (a : ℕ) (s : ℤ) (b : ℕ) → s ≤ℤ d → in_group (part_of t f) a s b ≡ in_group (part_of t g) a s b
-  in_group_same absent f g h a s b l = refl
-  in_group_same (column c) f g h a s b l = refl
-  in_group_same (node k n x y z m p) f g h a s b l = rw (h a s l, h b s l) refl
-
-  entry_same : (t : Term) (f g : Meaning) → SameBy f g → (s : ℤ) → s ≤ℤ d → (b : ℕ) → number_of (value_of_part (part_of t f) b s) ≡ number_of (value_of_part (part_of t g) b s)
-  entry_same t f g h s l b = ap number_of (now_same t f g h b s l)
-
-  eligible_same : (x m p : Term) (f f' g g' e e' : Meaning) → SameBy f f' → SameBy g g' → SameBy e e' → (a : ℕ) (s : ℤ) → s ≤ℤ d
-      → eligible w (part_of x f) (part_of m g) (part_of p e) a s ≡ eligible v (part_of x f') (part_of m g') (part_of p e') a s
-  eligible_same x m p f f' g g' e e' hf hg he a s l =
-      let entries : entry (part_of x f) s ≡ entry (part_of x f') s
-      = fun_ext (λ b. same_entry b (entry_same x f f' hf s l b)) in
-      let tests : counts_for (part_of x f) (part_of m g) (part_of p e) a s ≡ counts_for (part_of x f') (part_of m g') (part_of p e') a s
-      = fun_ext (λ b. same_test (passes_same m g g' hg b s l) (entry_same x f f' hf s l b) (in_group_same p e e' he a s b l)) in
-      rw (entries, tests, living_same s l) refl
-    where
-      same_entry : (b : ℕ) {m n : ℤ} → m ≡ n → (let r : ℕ × ℤ = (b, m) in r) ≡ (b, n)
-      same_entry b h = ap (λ n. (b, n)) h
-
-      same_test : {p p' q q' : Bool} {m n : ℤ} → p ≡ p' → m ≡ n → q ≡ q' → (p && is_present m && q) ≡ (p' && is_present n && q')
-      same_test h i j = rw (h, i, j) refl
-
-  -- the group that counts for a kind is that of a term
-  group_same : (k : CrossKind) (x m p : Term) (f f' g g' e e' : Meaning) → SameBy f f' → SameBy g g' → SameBy e e' → (a : ℕ) (s : ℤ) → s ≤ℤ d
-      → eligible w (part_of x f) (part_of m g) (group_of k (part_of x f) (part_of p e)) a s ≡ eligible v (part_of x f') (part_of m g') (group_of k (part_of x f') (part_of p e')) a s
-  group_same PeerCount x m p f f' g g' e e' hf hg he a s l = eligible_same x m x f f' g g' f f' hf hg hf a s l
-  group_same k x m p f f' g g' e e' hf hg he a s l = eligible_same x m p f f' g g' e e' hf hg he a s l
-
-  step_same : (names : List (List ℕ)) (k : Kind) (size : ℕ) (x y z m p : Term) (f f' g g' h h' q q' e e' : Meaning)
-      → SameBy f f' → SameBy g g' → SameBy h h' → SameBy q q' → SameBy e e' → (a : ℕ) (s : ℤ) → s ≤ℤ d
-      → kind_value w names k size (part_of x f) (part_of y g) (part_of z h) (part_of m q) (part_of p e) a s
-      ≡ kind_value v names k size (part_of x f') (part_of y g') (part_of z h') (part_of m q') (part_of p e') a s
-  unfolding kind_value
-  step_same names (Constant cell) size x y z m p f f' g g' h h' q q' e e' hf hg hh hq he a s l = refl
-  step_same names (Label n) size x y z m p f f' g g' h h' q q' e e' hf hg hh hq he a s l = ap label_value (agree.labels (name_at names n) a s l)
-  step_same names (kinds.Number n) size x y z m p f f' g g' h h' q q' e e' hf hg hh hq he a s l = ap Number (number_same (name_at names n) a s l)
-  step_same names (StaticSids sids) size x y z m p f f' g g' h h' q q' e e' hf hg hh hq he a s l = refl
-  step_same names (Window k) size x y z m p f f' g g' h h' q q' e e' hf hg hh hq he a s l =
-      rw (window_same x f f' size hf a s l, window_same y g g' size hg a s l, window_same z h h' size hh a s l) refl
-  step_same names (Point k) size x y z m p f f' g g' h h' q q' e e' hf hg hh hq he a s l =
-      rw (entry_same x f f' hf s l a, entry_same y g g' hg s l a, entry_same z h h' hh s l a) refl
-  step_same names (LabelTest k) size x y z m p f f' g g' h h' q q' e e' hf hg hh hq he a s l = ap (test_value k) (now_same x f f' hf a s l)
-  step_same names (Cross k) size x y z m p f f' g g' h h' q q' e e' hf hg hh hq he a s l =
-      rw (group_same k x m p f f' q q' e e' hf hq he a s l, entry_same x f f' hf s l a) refl
-  step_same names (Downsample k) size x y z m p f f' g g' h h' q q' e e' hf hg hh hq he a s l =
-      ap (value_of_part (part_of x f) a) (start-same k w.days v.days s (λ i n. agree.days (pos i) (omega (arith, ints))))
-      ∙ now_same x f f' hf a (period_start k v.days s) (omega (arith, ints, start-within k v.days s))
+  -- a part tells the same of both worlds
+  part_same : (t : Term) (f g : Meaning) → SameBy f g → (size : ℕ) (s : ℤ) → s ≤ℤ d → SamePart w v size (part_of t f) (part_of t g) s
+  part_same absent f g h size s l = record { now = λ b. record { value = refl; nothing = refl }; window = λ b. refl }
+  part_same (column c) f g h size s l = record {
+    now = λ b. record { value = refl; nothing = refl };
+    window = λ b. ap (λ e. map e (downward size)) (fun_ext (λ n. seen_same b c (before s (suc n)) s (before-less s n) l));
+  }
+  part_same (node k i x y z m p) f g h size s l = record {
+    now = λ b. record { value = h b s l; nothing = refl };
+    window = λ b. ap (λ e. map e (downward size)) (fun_ext (λ n. ap number_of (h b (before s n) (before_below s n d l))));
+  }
 
   -- The law: values at sessions up to d are the same in both worlds.
   pub values_agree : (names : List (List ℕ)) (t : Term) → SameBy (value w names t) (value v names t)
@@ -278,8 +223,18 @@ module _ (w v : World) (d day : ℤ) (ok : IsWorld w) (ok' : IsWorld v) (agree :
   values_agree names absent a s l = refl
   values_agree names (column c) a s l = refl
   values_agree names (node k size x y z m p) a s l =
-      let same_mask : passes (part_of m (value w names m)) a s ≡ passes (part_of m (value v names m)) a s = passes_same m (value w names m) (value v names m) (values_agree names m) a s l in
-      let same_step : kind_value w names k size (part_of x (value w names x)) (part_of y (value w names y)) (part_of z (value w names z)) (part_of m (value w names m)) (part_of p (value w names p)) a s
-      ≡ kind_value v names k size (part_of x (value v names x)) (part_of y (value v names y)) (part_of z (value v names z)) (part_of m (value v names m)) (part_of p (value v names p)) a s
-      = step_same names k size x y z m p _ _ _ _ _ _ _ _ _ _ (values_agree names x) (values_agree names y) (values_agree names z) (values_agree names m) (values_agree names p) a s l in
-      rw (agree.lifetimes a s l, same_mask, same_step) refl
+      let t : Term = node k size x y z m p in
+      let read : ℤ = reads_at w.days k s in
+      let by : read ≤ℤ d = omega (arith, ints, reads_at-within w.days k s) in
+      let same : SameReads w v k size (operands_of w names t) (operands_of v names t) a s = record {
+        labels = λ name. agree.labels name a s l;
+        numbers = λ name. number_same name a s l;
+        living = living_same s l;
+        reads = reads_at-same w.days v.days d (λ i h. agree.days (pos i) h) k s l;
+        first = part_same x _ _ (values_agree names x) size read by;
+        second = part_same y _ _ (values_agree names y) size read by;
+        third = part_same z _ _ (values_agree names z) size read by;
+        mask = (part_same m _ _ (values_agree names m) size s l).now;
+        group = (part_same p _ _ (values_agree names p) size s l).now;
+      } in
+      rw (agree.lifetimes a s l, passes_alike _ _ a s (same.mask a), step_alike w v names size _ _ a s k same) refl

@@ -10,7 +10,7 @@ use Rattle.std.specs.Int.Signed.{≤ℤ_refl}
 use Rattle.pl_spec.specs.declared.Frequency.{Frequency}
 use Rattle.pl_spec.specs.Periods.{period, same_period, first_session, period_start}
 use Rattle.pl_pipeline.specs.Kind.{Kind}
-use Rattle.pl_pipeline.specs.Kind.Kind.{Constant, Label, Number, StaticSids, Window, Point, LabelTest, Cross, Downsample}
+use Rattle.pl_pipeline.specs.Kind.Kind.{Downsample}
 use Rattle.pl_spec.specs.Window.{before, downward}
 use Rattle.pl_pipeline.specs.Term.{Term, Input, Node, Graph, input_tree, number_tree, tree_over, trees, term_at, IsGraph}
 use Rattle.pl_pipeline.specs.Term.Term.{absent, column, node}
@@ -89,15 +89,8 @@ reaches_of days k size x y z m g d =
 
 module _ (days : List ℤ) (rise : AllPairs (λ a b. a <ℤ b) days) where
   pub reads_at-rises : (k : Kind) (d e : ℤ) → d ≤ℤ e → reads_at days k d ≤ℤ reads_at days k e
-  reads_at-rises (Constant cell) d e h = h
-  reads_at-rises (Label n) d e h = h
-  reads_at-rises (Number n) d e h = h
-  reads_at-rises (StaticSids sids) d e h = h
-  reads_at-rises (Window k) d e h = h
-  reads_at-rises (Point k) d e h = h
-  reads_at-rises (LabelTest k) d e h = h
-  reads_at-rises (Cross k) d e h = h
   reads_at-rises (Downsample f) d e h = start-rises f days rise d e h
+  reads_at-rises k d e h = h
 
   pub reach-rises : (t : Term) (d e : ℤ) → d ≤ℤ e → reach days t d ≤ℤ reach days t e
   unfolding reach AreEarlier
@@ -289,15 +282,8 @@ part_within (column c) f size s low h = omega (arith, ints)
 part_within (node k n x y z m g) f size s low h = (below_least low s (map (λ i. f (before s i)) (downward size)) h).0
 
 pub reads_at-within : (days : List ℤ) (k : Kind) (d : ℤ) → reads_at days k d ≤ℤ d
-reads_at-within days (Constant cell) d = ≤ℤ_refl d
-reads_at-within days (Label n) d = ≤ℤ_refl d
-reads_at-within days (Number n) d = ≤ℤ_refl d
-reads_at-within days (StaticSids sids) d = ≤ℤ_refl d
-reads_at-within days (Window k) d = ≤ℤ_refl d
-reads_at-within days (Point k) d = ≤ℤ_refl d
-reads_at-within days (LabelTest k) d = ≤ℤ_refl d
-reads_at-within days (Cross k) d = ≤ℤ_refl d
 reads_at-within days (Downsample f) d = start-within f days d
+reads_at-within days k d = ≤ℤ_refl d
 
 module _ (days : List ℤ) (rise : AllPairs (λ a b. a <ℤ b) days) (g : Graph) (ok : IsGraph g) (wide : (k : ℕ) (n : Node) → slice_get g k ≡ Some n → 1 ≤ n.window) (outputs : List ℕ) (from : ℤ) where
   abbrev reach_of : ℕ → ℤ → ℤ

@@ -4,14 +4,11 @@ use Rattle.std.specs.List.{list_any}
 use Rattle.std.proofs.lemmas.Bool.{eq-eqb, or_left, or_right}
 use Rattle.pl_spec.specs.Rounding.{is_present}
 use Rattle.pl_spec.specs.World.{World, exists, living_sids}
-use Rattle.pl_pipeline.specs.Kind as kinds
 use Rattle.pl_pipeline.specs.Kind.{Kind, CrossKind}
-use Rattle.pl_pipeline.specs.Kind.Kind.{Constant, Label, StaticSids, Window, Point, LabelTest, Cross, Downsample}
-use Rattle.pl_pipeline.specs.Cross.{Entry, cross}
+use Rattle.pl_pipeline.specs.Kind.Kind.{Cross}
 use Rattle.pl_pipeline.specs.Term.{Term}
 use Rattle.pl_pipeline.specs.Term.Term.{absent, column, node}
-use Rattle.pl_pipeline.specs.Value.{Part, part_of, number_of, holds, value_of_part, passes, in_group, entry, counts_for, eligible, group_of, sort_over, sort_kind, empty, kind_value, value}
-use Rattle.pl_pipeline.specs.Value.Value.{Number}
+use Rattle.pl_pipeline.specs.Value.{Operands, part_of, number_of, holds, value_of_part, passes, in_group, entry, counts_for, eligible, group_of, sort_over, sort_kind, empty, kind_value, operands_of, value}
 use Rattle.pl_pipeline.specs.Value.Part.{Nothing}
 
 -- two tests that agree on what stands in a list leave the same of it
@@ -22,29 +19,20 @@ filter-agree p q (x ∷ xs) h =
     let rest : filter p xs ≡ filter q xs = filter-agree p q xs (λ b e. h b (or_right (x == b) (list_any (λ y. y == b) xs) e)) in
     rw (front, rest) refl
 
-module _ (w : World) (names : List (List ℕ)) (mask : Part) (d : ℤ) (open_to_all : (b : ℕ) → exists w b d ≡ true → passes mask b d ≡ true) where
-  eligible-open : (x group : Part) (a : ℕ) → eligible w x mask group a d ≡ eligible w x Nothing group a d
-  eligible-open x group a =
-      ap (map (entry x d))
-      (filter-agree (counts_for x mask group a d) (counts_for x Nothing group a d) (living_sids w d)
-      (λ b e. ap (λ t. t && is_present (number_of (value_of_part x b d)) && in_group group a d b) (open_to_all b e)))
+module _ (w : World) (names : List (List ℕ)) (o : Operands) (d : ℤ) (open_to_all : (b : ℕ) → exists w b d ≡ true → passes o.mask b d ≡ true) where
+  abbrev unmasked : Operands
+  unmasked = record o { mask = Nothing }
 
-  cross-open : (k : CrossKind) (x group : Part) (a : ℕ) (list other : List Entry) → list ≡ other
-      → cond (list_any (λ e. e.0 == a) list) (Number (cross k list a (number_of (value_of_part x a d)))) (empty (Cross k))
-      ≡ cond (list_any (λ e. e.0 == a) other) (Number (cross k other a (number_of (value_of_part x a d)))) (empty (Cross k))
-  cross-open k x group a list other e = ap (λ l. cond (list_any (λ e. e.0 == a) l) (Number (cross k l a (number_of (value_of_part x a d)))) (empty (Cross k))) e
+  eligible-open : (k : CrossKind) (a : ℕ) → eligible w k o a d ≡ eligible w k unmasked a d
+  eligible-open k a =
+      ap (map (entry o.first d))
+      (filter-agree (counts_for k o a d) (counts_for k unmasked a d) (living_sids w d)
+      (λ b e. ap (λ t. t && is_present (number_of (value_of_part o.first b d)) && in_group (group_of k o.first o.group) a d b) (open_to_all b e)))
 
-  pub step-open : (kind : Kind) (size : ℕ) (x y z group : Part) (a : ℕ) → kind_value w names kind size x y z mask group a d ≡ kind_value w names kind size x y z Nothing group a d
+  step-open : (kind : Kind) (size a : ℕ) → kind_value w names kind size o a d ≡ kind_value w names kind size unmasked a d
   unfolding kind_value
-  step-open (Constant cell) size x y z group a = refl
-  step-open (Label n) size x y z group a = refl
-  step-open (kinds.Number n) size x y z group a = refl
-  step-open (StaticSids sids) size x y z group a = refl
-  step-open (Window k) size x y z group a = refl
-  step-open (Point k) size x y z group a = refl
-  step-open (LabelTest k) size x y z group a = refl
-  step-open (Downsample f) size x y z group a = refl
-  step-open (Cross k) size x y z group a = cross-open k x group a _ _ (eligible-open x (group_of k x group) a)
+  step-open (Cross k) size a = rw (eligible-open k a) refl
+  step-open kind size a = refl
 
 module _ (w : World) (names : List (List ℕ)) where
   -- every existing asset passes the term as a mask
@@ -62,22 +50,11 @@ module _ (w : World) (names : List (List ℕ)) where
   unfolding value
   value-open kind size x y z mask group open_to_all a d = here (exists w a d) refl
     where
-      X : Part
-      X = part_of x (value w names x)
-
-      Y : Part
-      Y = part_of y (value w names y)
-
-      Z : Part
-      Z = part_of z (value w names z)
-
-      M : Part
-      M = part_of mask (value w names mask)
-
-      G : Part
-      G = part_of group (value w names group)
+      o : Operands
+      o = operands_of w names (node kind size x y z mask group)
 
       here : (b : Bool) → exists w a d ≡ b
-          → cond (b && passes M a d) (kind_value w names kind size X Y Z M G a d) (empty (sort_over kind (sort_kind x))) ≡ cond (b && true) (kind_value w names kind size X Y Z Nothing G a d) (empty (sort_over kind (sort_kind x)))
+          → cond (b && passes o.mask a d) (kind_value w names kind size o a d) (empty (sort_over kind (sort_kind x)))
+          ≡ cond (b && true) (kind_value w names kind size (record o { mask = Nothing }) a d) (empty (sort_over kind (sort_kind x)))
       here false e = refl
-      here true e = rw (passes-open mask open_to_all a d e) (step-open w names M d (λ b f. passes-open mask open_to_all b d f) kind size X Y Z G a)
+      here true e = rw (passes-open mask open_to_all a d e) (step-open w names o d (λ b f. passes-open mask open_to_all b d f) kind size a)

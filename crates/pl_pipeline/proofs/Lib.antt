@@ -10,3 +10,4 @@ pub mod Distinct
 pub mod Filters
 pub mod Unfolds
 pub mod Trees
+pub mod SameOperands

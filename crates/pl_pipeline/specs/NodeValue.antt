@@ -3,7 +3,7 @@ use Rattle.std.specs.Prelude.{ℕ, ◌&&◌, if◌then◌else◌, List, Option, 
 use Rattle.pl_spec.specs.World.{World, exists}
 use Rattle.pl_pipeline.specs.Term.{Input, Node, Graph, input_tree, trees, term_at}
 use Rattle.pl_pipeline.specs.Term.Input.{BarColumn, TermInput}
-use Rattle.pl_pipeline.specs.Value.{Meaning, Part, passes, sort_over, sort_kind, kind_value, value, empty}
+use Rattle.pl_pipeline.specs.Value.{Meaning, Part, Operands, passes, sort_over, sort_kind, kind_value, value, empty}
 use Rattle.pl_pipeline.specs.Value.Part.{Nothing, Bars, Values}
 
 -- the meaning of number k
@@ -19,10 +19,19 @@ abbrev pub number_part : World → List (List ℕ) → Graph → Option ℕ → 
 number_part w names g None = Nothing
 number_part w names g (Some k) = Values (meaning_of w names g k)
 
+-- what the kind of a node reads
+abbrev pub node_operands : World → List (List ℕ) → Graph → Node → Operands
+node_operands w names g n = record {
+  first = input_part w names g (slice_get n.inputs 0);
+  second = input_part w names g (slice_get n.inputs 1);
+  third = input_part w names g (slice_get n.inputs 2);
+  mask = number_part w names g n.mask;
+  group = number_part w names g n.group;
+}
+
 -- what a node is worth, over the values of the terms that it mentions
 abbrev pub node_value : World → List (List ℕ) → Graph → Node → Meaning
 node_value w names g n a d =
     if exists w a d && passes (number_part w names g n.mask) a d
-    then kind_value w names n.kind n.window (input_part w names g (slice_get n.inputs 0)) (input_part w names g (slice_get n.inputs 1))
-    (input_part w names g (slice_get n.inputs 2)) (number_part w names g n.mask) (number_part w names g n.group) a d
+    then kind_value w names n.kind n.window (node_operands w names g n) a d
     else empty (sort_over n.kind (sort_kind (input_tree (trees g) (slice_get n.inputs 0))))

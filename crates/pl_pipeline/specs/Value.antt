@@ -79,18 +79,29 @@ in_group p a d b = is_present (number_of (value_of_part p a d)) && is_same (valu
 abbrev pub entry : Part → ℤ → ℕ → Entry
 entry x d b = (b, number_of (value_of_part x b d))
 
--- asset b counts for asset a: it passes the mask, its value is present, and it is of a's group
-abbrev pub counts_for : Part → Part → Part → ℕ → ℤ → ℕ → Bool
-counts_for x mask group a d b = passes mask b d && is_present (number_of (value_of_part x b d)) && in_group group a d b
-
--- the entries of session d that count for asset a
-abbrev pub eligible : World → Part → Part → Part → ℕ → ℤ → List Entry
-eligible w x mask group a d = map (entry x d) (filter (counts_for x mask group a d) (living_sids w d))
+-- what a kind reads: its inputs, its mask and its group
+pub record Operands : Type 0 where
+  pub first : Part
+  pub second : Part
+  pub third : Part
+  pub mask : Part
+  pub group : Part
 
 -- of peers those with the asset's own label count
 abbrev pub group_of : CrossKind → Part → Part → Part
 group_of PeerCount x group = x
 group_of k x group = group
+
+-- asset b counts for asset a: it passes the mask, its value is present, and it is of a's group
+abbrev pub counts_for : CrossKind → Operands → ℕ → ℤ → ℕ → Bool
+counts_for k operands a d b =
+    passes operands.mask b d
+    && is_present (number_of (value_of_part operands.first b d))
+    && in_group (group_of k operands.first operands.group) a d b
+
+-- the entries of session d that count for asset a
+abbrev pub eligible : World → CrossKind → Operands → ℕ → ℤ → List Entry
+eligible w k operands a d = map (entry operands.first d) (filter (counts_for k operands a d) (living_sids w d))
 
 abbrev pub is_window_filter : WindowKind → Bool
 is_window_filter All = true
@@ -152,26 +163,42 @@ abbrev pub name_at : List (List ℕ) → ℕ → List ℕ
 name_at names n = unwrap_or (slice_get names n) []
 
 -- what the kind gives, where the asset exists and passes the mask
-unfoldable pub kind_value : World → List (List ℕ) → Kind → ℕ → Part → Part → Part → Part → Part → Meaning
-kind_value w names (Constant cell) size x y z mask group a d = Number cell
-kind_value w names (Label n) size x y z mask group a d = label_value (label_at w (name_at names n) a d)
-kind_value w names (kind.Number n) size x y z mask group a d = Number (known_number w (name_at names n) a d)
-kind_value w names (StaticSids sids) size x y z mask group a d = Number (truth (list_any (λ b. b == a) sids))
-kind_value w names (Window k) size x y z mask group a d =
-    Number (formula k (window_of w size x a d) (window_of w size y a d) (window_of w size z a d))
-kind_value w names (Point k) size x y z mask group a d =
-    Number (pointwise k (number_of (value_of_part x a d)) (number_of (value_of_part y a d)) (number_of (value_of_part z a d)))
-kind_value w names (LabelTest k) size x y z mask group a d = test_value k (value_of_part x a d)
-kind_value w names (Cross k) size x y z mask group a d =
-    let list = eligible w x mask (group_of k x group) a d in
-    if list_any (λ e. e.0 == a) list then Number (cross k list a (number_of (value_of_part x a d))) else empty (Cross k)
-kind_value w names (Downsample f) size x y z mask group a d = value_of_part x a (period_start f w.days d)
+unfoldable pub kind_value : World → List (List ℕ) → Kind → ℕ → Operands → Meaning
+kind_value w names (Constant cell) size operands a d = Number cell
+kind_value w names (Label n) size operands a d = label_value (label_at w (name_at names n) a d)
+kind_value w names (kind.Number n) size operands a d = Number (known_number w (name_at names n) a d)
+kind_value w names (StaticSids sids) size operands a d = Number (truth (list_any (λ b. b == a) sids))
+kind_value w names (Window k) size operands a d =
+    Number (formula k (window_of w size operands.first a d) (window_of w size operands.second a d) (window_of w size operands.third a d))
+kind_value w names (Point k) size operands a d =
+    let now : Part → ℤ = λ x. number_of (value_of_part x a d) in
+    Number (pointwise k (now operands.first) (now operands.second) (now operands.third))
+kind_value w names (LabelTest k) size operands a d = test_value k (value_of_part operands.first a d)
+kind_value w names (Cross k) size operands a d =
+    let list = eligible w k operands a d in
+    if list_any (λ e. e.0 == a) list then Number (cross k list a (number_of (value_of_part operands.first a d))) else empty (Cross k)
+kind_value w names (Downsample f) size operands a d = value_of_part operands.first a (period_start f w.days d)
 
 unfoldable pub value : World → List (List ℕ) → Term → Meaning
 value w names absent a d = Number MISSING
 value w names (column c) a d = Number MISSING
 value w names (node k size x y z m g) a d =
-    let mask = part_of m (value w names m) in
-    if exists w a d && passes mask a d
-    then kind_value w names k size (part_of x (value w names x)) (part_of y (value w names y)) (part_of z (value w names z)) mask (part_of g (value w names g)) a d
-    else empty (sort_over k (sort_kind x))
+    let operands : Operands = record {
+      first = part_of x (value w names x);
+      second = part_of y (value w names y);
+      third = part_of z (value w names z);
+      mask = part_of m (value w names m);
+      group = part_of g (value w names g);
+    } in
+    if exists w a d && passes operands.mask a d then kind_value w names k size operands a d else empty (sort_over k (sort_kind x))
+
+-- what the kind of a term reads
+abbrev pub operands_of : World → List (List ℕ) → Term → Operands
+operands_of w names (node k size x y z m g) = record {
+  first = part_of x (value w names x);
+  second = part_of y (value w names y);
+  third = part_of z (value w names z);
+  mask = part_of m (value w names m);
+  group = part_of g (value w names g);
+}
+operands_of w names t = record { first = Nothing; second = Nothing; third = Nothing; mask = Nothing; group = Nothing }

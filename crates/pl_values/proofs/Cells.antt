@@ -5,7 +5,7 @@ use Rattle.pl_spec.specs.Cells.{is_true}
 use Rattle.pl_pipeline.specs.Term.{Node, input_tree, trees}
 use Rattle.pl_pipeline.specs.Value.{Value, number_of, passes, empty, sort_over, sort_kind, kind_value}
 use Rattle.pl_pipeline.specs.Value.Value.{Number}
-use Rattle.pl_pipeline.specs.NodeValue.{input_part, number_part}
+use Rattle.pl_pipeline.specs.NodeValue.{number_part, node_operands}
 use Rattle.pl_pipeline.specs.Table.{Pipeline, value_of, in_array}
 use Rattle.pl_pipeline.proofs.Trees.{term_at-node}
 use Rattle.pl_terms.specs.Checked.{IsChecked}
@@ -27,8 +27,7 @@ module _ (w : World) (p : Pipeline) (sids : List ℕ) (ok : IsChecked p) where
     a = sid_in sids i
 
     abbrev pub stepped : Value
-    stepped = kind_value w p.names n.kind n.window (input_part w p.names p.graph (slice_get n.inputs 0)) (input_part w p.names p.graph (slice_get n.inputs 1))
-        (input_part w p.names p.graph (slice_get n.inputs 2)) (number_part w p.names p.graph n.mask) (number_part w p.names p.graph n.group) a (pos s)
+    stepped = kind_value w p.names n.kind n.window (node_operands w p.names p.graph n) a (pos s)
 
     passes_is : (mask : Option ℕ) → ((m : ℕ) → mask ≡ Some m → sort_at p.graph m ≡ Some Filters)
         → (exists w a (pos s) && passes (number_part w p.names p.graph mask) a (pos s)) ≡ is_kept w p sids mask i s

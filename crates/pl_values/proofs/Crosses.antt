@@ -10,9 +10,9 @@ use Rattle.pl_spec.specs.Cells.{is_true}
 use Rattle.pl_pipeline.specs.Cross.{array_at}
 use Rattle.pl_pipeline.specs.Term.{Node, Input}
 use Rattle.pl_pipeline.specs.Term.Input.{BarColumn, TermInput}
-use Rattle.pl_pipeline.specs.Value.{Part, passes, group_of}
+use Rattle.pl_pipeline.specs.Value.{Part, Operands, passes, group_of}
 use Rattle.pl_pipeline.specs.Value.Part.{Values}
-use Rattle.pl_pipeline.specs.NodeValue.{meaning_of, input_part, number_part}
+use Rattle.pl_pipeline.specs.NodeValue.{meaning_of, input_part, number_part, node_operands}
 use Rattle.pl_pipeline.specs.Table.{Pipeline, in_array}
 use Rattle.pl_terms.specs.Checked.{IsChecked}
 use Rattle.pl_terms.specs.Sorts.{Sort, Factors, Labels, Numbers, Place, Factor, Classifier, sort_at, places, cross_places, fits, all_fit, takes_sort, has_group}
@@ -119,7 +119,8 @@ section-cell w p sids k n i s own f values keep labels texts e rows =
     let b : Fills (λ i. cell_of w p sids x.0 i s) (length sids) values = subst (λ o. IsInputRow w p sids (length sids) o s values) x.1 rows.values in
     let columns : Columns = record { sids = sids; values = values; keep = keep; labels = labels } in
     let m : Part = Values (meaning_of w p.names p.graph x.0) in
-    let whole : AreArrays w f m (number_part w p.names p.graph n.mask) (number_part w p.names p.graph n.group) (pos s) columns = record {
+    let with_first : Part → Operands = λ q. record (node_operands w p.names p.graph n) { first = q } in
+    let whole : AreArrays w f (with_first m) (pos s) columns = record {
       ascend = rows.ascend;
       all = rows.all;
       values = row-array w p sids ok x.0 s values b;
@@ -127,7 +128,7 @@ section-cell w p sids k n i s own f values keep labels texts e rows =
       keep = kept w p sids ok k n is f e s keep rows.keep;
       groups = groups-of w p sids ok f x.0 s n.group values labels texts x.2 b (group-sort w p sids ok k n is f e) rows.groups;
     } in
-    let arrays = subst (λ (o : Option Input). AreArrays w f (input_part w p.names p.graph o) (number_part w p.names p.graph n.mask) (number_part w p.names p.graph n.group) (pos s) columns) (sym x.1) whole in (
+    let arrays = subst (λ (o : Option Input). AreArrays w f (with_first (input_part w p.names p.graph o)) (pos s) columns) (sym x.1) whole in (
       right-of n.kind f e (allowed-right n.kind n.window (length p.names) (ok.nodes k n is).parameters),
       λ h. ap (in_array w.texts) (node-value w p.names p.graph k n f (pos s) columns ok.graph is e arrays i h),
     )

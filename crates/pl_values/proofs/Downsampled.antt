@@ -9,7 +9,7 @@ use Rattle.pl_pipeline.specs.Term.{Node, Input, input_tree, trees}
 use Rattle.pl_pipeline.specs.Term.Input.{BarColumn, TermInput}
 use Rattle.pl_pipeline.specs.Text.{kind_at}
 use Rattle.pl_pipeline.specs.Value.{Value, passes, value_of_part, empty, sort_over, sort_kind, kind_value}
-use Rattle.pl_pipeline.specs.NodeValue.{node_value, input_part, number_part}
+use Rattle.pl_pipeline.specs.NodeValue.{node_value, input_part, number_part, node_operands}
 use Rattle.pl_pipeline.specs.Table.{Pipeline, value_of}
 use Rattle.pl_pipeline.proofs.Unfolds.{value_at-node}
 use Rattle.pl_pipeline.proofs.Trees.{term_at-node}
@@ -66,8 +66,7 @@ module _ (w : World) (p : Pipeline) (ok : IsChecked p) where
       let open_now = exists w a d && passes (number_part w p.names p.graph m.mask) a d in
       let none = empty (sort_over m.kind (sort_kind (input_tree (trees p.graph) (slice_get m.inputs 0)))) in
       value-node t m e a d
-      ∙ ap (λ k. if open_now then kind_value w p.names k m.window (input_part w p.names p.graph (slice_get m.inputs 0)) (input_part w p.names p.graph (slice_get m.inputs 1)) (input_part w p.names p.graph (slice_get m.inputs 2))
-      (number_part w p.names p.graph m.mask) (number_part w p.names p.graph m.group) a d else none) o.kind
+      ∙ ap (λ k. if open_now then kind_value w p.names k m.window (node_operands w p.names p.graph m) a d else none) o.kind
       ∙ ap (λ i. if open_now then value_of_part (input_part w p.names p.graph i) a (period_start o.frequency w.days d) else none) o.first
       ∙ ap (λ x. if open_now then value_of w p o.input a (period_start o.frequency w.days d) else empty (sort_kind x)) (sym (term_at-node p.graph t m ok.graph e))
 

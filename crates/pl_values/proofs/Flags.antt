@@ -12,9 +12,9 @@ use Rattle.pl_pipeline.specs.Formula.{formula}
 use Rattle.pl_pipeline.specs.Pointwise.{pointwise, label_test}
 use Rattle.pl_pipeline.specs.Cross.{cross}
 use Rattle.pl_pipeline.specs.Term.{Node, input_tree, trees}
-use Rattle.pl_pipeline.specs.Value.{Value, Part, value_of_part, passes, eligible, group_of, test_value, empty, number_of, sort_over, sort_kind, kind_value}
+use Rattle.pl_pipeline.specs.Value.{Value, Operands, value_of_part, passes, eligible, test_value, empty, number_of, sort_over, sort_kind, kind_value}
 use Rattle.pl_pipeline.specs.Value.Value.{Number, Text}
-use Rattle.pl_pipeline.specs.NodeValue.{node_value, input_part, number_part}
+use Rattle.pl_pipeline.specs.NodeValue.{node_value, number_part, node_operands}
 use Rattle.pl_pipeline.specs.Table.{Pipeline, value_of, in_array}
 use Rattle.pl_terms.specs.Checked.{IsChecked}
 use Rattle.pl_terms.specs.Sorts.{Sort, Factors, Filters, sort_of, sort_at, window_sort, point_sort, cross_sort}
@@ -32,24 +32,24 @@ abbrev is_filters : Sort → Bool
 is_filters Filters = true
 is_filters r = false
 
-window_truth : (k : WindowKind) (a b c : List ℤ) → window_sort k ≡ Filters → IsTruth (Number (formula k a b c))
+window_truth : (k : WindowKind) (a b c : List ℤ) → window_sort k ≡ Filters → IsTruth (Number (formula k a b c)) × IsTruth (empty (Window k))
 unfolding formula
-window_truth All a b c e = (_, refl)
-window_truth Any a b c e = (_, refl)
-window_truth (AtLeastN n) a b c e = (_, refl)
-window_truth AllPresent a b c e = (_, refl)
+window_truth All a b c e = ((_, refl), (false, refl))
+window_truth Any a b c e = ((_, refl), (false, refl))
+window_truth (AtLeastN n) a b c e = ((_, refl), (false, refl))
+window_truth AllPresent a b c e = ((_, refl), (false, refl))
 window_truth k a b c e = absurd (let bad : Factors ≡ Filters = e in cc)
 
-point_truth : (k : PointKind) (x y z : ℤ) → point_sort k ≡ Filters → IsTruth (Number (pointwise k x y z))
+point_truth : (k : PointKind) (x y z : ℤ) → point_sort k ≡ Filters → IsTruth (Number (pointwise k x y z)) × IsTruth (empty (Point k))
 unfolding pointwise
-point_truth (Comparison c) x y z e = (_, refl)
-point_truth And x y z e = (_, refl)
-point_truth Or x y z e = (_, refl)
-point_truth Not x y z e = (_, refl)
-point_truth IsNull x y z e = (_, refl)
-point_truth NotNull x y z e = (_, refl)
-point_truth (NumberIs n) x y z e = (_, refl)
-point_truth (NumberIsNot n) x y z e = (_, refl)
+point_truth (Comparison c) x y z e = ((_, refl), (false, refl))
+point_truth And x y z e = ((_, refl), (false, refl))
+point_truth Or x y z e = ((_, refl), (false, refl))
+point_truth Not x y z e = ((_, refl), (false, refl))
+point_truth IsNull x y z e = ((_, refl), (false, refl))
+point_truth NotNull x y z e = ((_, refl), (false, refl))
+point_truth (NumberIs n) x y z e = ((_, refl), (false, refl))
+point_truth (NumberIsNot n) x y z e = ((_, refl), (false, refl))
 point_truth k x y z e = absurd (true≢false (sym (ap is_filters e)))
 
 either_truth : (b : Bool) (v u : Value) → IsTruth v → IsTruth u → IsTruth (if b then v else u)
@@ -67,40 +67,22 @@ test_truth : (k : LabelKind) (v : Value) → IsTruth (test_value k v)
 test_truth k (Number x) = (false, refl)
 test_truth k (Text t) = (label_test k t, refl)
 
-step_truth : (w : World) (names : List (List ℕ)) (k : Kind) (size : ℕ) (x y z m g : Part) (a : ℕ) (d : ℤ) → sort_of k ≡ Filters → IsTruth (kind_value w names k size x y z m g a d)
+step_truth : (w : World) (names : List (List ℕ)) (k : Kind) (size : ℕ) (o : Operands) (a : ℕ) (d : ℤ) → sort_of k ≡ Filters → IsTruth (kind_value w names k size o a d)
 unfolding kind_value sort_of
-step_truth w names (StaticSids sids) size x y z m g a d h = (_, refl)
-step_truth w names (Window k) size x y z m g a d h = window_truth k _ _ _ h
-step_truth w names (Point k) size x y z m g a d h = point_truth k _ _ _ h
-step_truth w names (LabelTest k) size x y z m g a d h = test_truth k (value_of_part x a d)
-step_truth w names (Cross k) size x y z m g a d h =
-    let t = cross_truth k (eligible w x m (group_of k x g) a d) a (number_of (value_of_part x a d)) h in
-    either_truth (list_any (λ e. e.0 == a) (eligible w x m (group_of k x g) a d)) _ (empty (Cross k)) t.0 t.1
-step_truth w names k size x y z m g a d h = absurd (true≢false (sym (ap is_filters h)))
-
-window_empty : (k : WindowKind) → window_sort k ≡ Filters → IsTruth (empty (Window k))
-window_empty All e = (false, refl)
-window_empty Any e = (false, refl)
-window_empty (AtLeastN n) e = (false, refl)
-window_empty AllPresent e = (false, refl)
-window_empty k e = absurd (let bad : Factors ≡ Filters = e in cc)
-
-point_empty : (k : PointKind) → point_sort k ≡ Filters → IsTruth (empty (Point k))
-point_empty (Comparison c) e = (false, refl)
-point_empty And e = (false, refl)
-point_empty Or e = (false, refl)
-point_empty Not e = (false, refl)
-point_empty IsNull e = (false, refl)
-point_empty NotNull e = (false, refl)
-point_empty (NumberIs n) e = (false, refl)
-point_empty (NumberIsNot n) e = (false, refl)
-point_empty k e = absurd (true≢false (sym (ap is_filters e)))
+step_truth w names (StaticSids sids) size o a d h = (_, refl)
+step_truth w names (Window k) size o a d h = (window_truth k _ _ _ h).0
+step_truth w names (Point k) size o a d h = (point_truth k _ _ _ h).0
+step_truth w names (LabelTest k) size o a d h = test_truth k (value_of_part o.first a d)
+step_truth w names (Cross k) size o a d h =
+    let t = cross_truth k (eligible w k o a d) a (number_of (value_of_part o.first a d)) h in
+    either_truth (list_any (λ e. e.0 == a) (eligible w k o a d)) _ (empty (Cross k)) t.0 t.1
+step_truth w names k size o a d h = absurd (true≢false (sym (ap is_filters h)))
 
 empty_truth : (k : Kind) → sort_of k ≡ Filters → IsTruth (empty k)
 unfolding sort_of
 empty_truth (StaticSids sids) h = (false, refl)
-empty_truth (Window k) h = window_empty k h
-empty_truth (Point k) h = point_empty k h
+empty_truth (Window k) h = (window_truth k [] [] [] h).1
+empty_truth (Point k) h = (point_truth k (pos 0) (pos 0) (pos 0) h).1
 empty_truth (LabelTest k) h = (false, refl)
 empty_truth (Cross k) h = (cross_truth k [] 0 (pos 0) h).1
 empty_truth k h = absurd (true≢false (sym (ap is_filters h)))
@@ -118,8 +100,7 @@ node_truth : (w : World) (p : Pipeline) (ok : IsChecked p) (t : ℕ) (n : Node) 
 node_truth w p ok t n is s a d =
     let whole : IsTruth (node_value w p.names p.graph n a d) = either_truth
     (exists w a d && passes (number_part w p.names p.graph n.mask) a d) _ (empty (sort_over n.kind (sort_kind (input_tree (trees p.graph) (slice_get n.inputs 0)))))
-    (step_truth w p.names n.kind n.window (input_part w p.names p.graph (slice_get n.inputs 0)) (input_part w p.names p.graph (slice_get n.inputs 1)) (input_part w p.names p.graph (slice_get n.inputs 2))
-    (number_part w p.names p.graph n.mask) (number_part w p.names p.graph n.group) a d s)
+    (step_truth w p.names n.kind n.window (node_operands w p.names p.graph n) a d s)
     (over_truth n.kind (sort_kind (input_tree (trees p.graph) (slice_get n.inputs 0))) s) in
     (whole.0, value-node w p ok t n is a d ∙ whole.1)
 

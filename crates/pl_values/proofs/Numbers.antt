@@ -10,9 +10,9 @@ use Rattle.pl_pipeline.specs.Kind.Kind.{Label, Window, Point, LabelTest, Cross, 
 use Rattle.pl_spec.specs.Cells.{truth}
 use Rattle.pl_pipeline.specs.Pointwise.{label_test}
 use Rattle.pl_pipeline.specs.Term.{Node, input_tree, trees}
-use Rattle.pl_pipeline.specs.Value.{Value, Part, value_of_part, passes, eligible, group_of, test_value, empty, is_filter, number_of, sort_over, sort_kind, kind_value}
+use Rattle.pl_pipeline.specs.Value.{Value, Operands, value_of_part, passes, eligible, test_value, empty, is_filter, number_of, sort_over, sort_kind, kind_value}
 use Rattle.pl_pipeline.specs.Value.Value.{Number, Text}
-use Rattle.pl_pipeline.specs.NodeValue.{node_value, input_part, number_part}
+use Rattle.pl_pipeline.specs.NodeValue.{node_value, number_part, node_operands}
 use Rattle.pl_pipeline.specs.Table.{Pipeline, value_of, in_array}
 use Rattle.pl_pipeline.proofs.Trees.{term_at-node}
 use Rattle.pl_terms.specs.Checked.{IsChecked}
@@ -44,14 +44,14 @@ gives_numbers (Label n) = false
 gives_numbers (Downsample f) = false
 gives_numbers k = true
 
-step_number : (w : World) (names : List (List ℕ)) (k : Kind) (size : ℕ) (x y z m g : Part) (a : ℕ) (d : ℤ) → gives_numbers k ≡ true → IsNumber (kind_value w names k size x y z m g a d)
+step_number : (w : World) (names : List (List ℕ)) (k : Kind) (size : ℕ) (o : Operands) (a : ℕ) (d : ℤ) → gives_numbers k ≡ true → IsNumber (kind_value w names k size o a d)
 unfolding kind_value
-step_number w names (Label n) size x y z m g a d h = absurd (true≢false (sym h))
-step_number w names (Downsample f) size x y z m g a d h = absurd (true≢false (sym h))
-step_number w names (LabelTest k) size x y z m g a d h = test_number k (value_of_part x a d)
-step_number w names (Cross k) size x y z m g a d h =
-    either_number (list_any (λ e. e.0 == a) (eligible w x m (group_of k x g) a d)) _ (empty (Cross k)) (_, refl) (number_of (empty (Cross k)), empty_is (Cross k))
-step_number w names k size x y z m g a d h = (_, refl)
+step_number w names (Label n) size o a d h = absurd (true≢false (sym h))
+step_number w names (Downsample f) size o a d h = absurd (true≢false (sym h))
+step_number w names (LabelTest k) size o a d h = test_number k (value_of_part o.first a d)
+step_number w names (Cross k) size o a d h =
+    either_number (list_any (λ e. e.0 == a) (eligible w k o a d)) _ (empty (Cross k)) (_, refl) (number_of (empty (Cross k)), empty_is (Cross k))
+step_number w names k size o a d h = (_, refl)
 
 -- the kind of a term that is neither downsampled nor a label
 not_label : (k : Kind) → is_downsampled k ≡ false → (sort_of k ≡ Labels → ⊥) → gives_numbers k ≡ true
@@ -100,8 +100,7 @@ module _ (w : World) (p : Pipeline) (ok : IsChecked p) where
   numbered t m is own other a d =
       let whole : IsNumber (node_value w p.names p.graph m a d) = either_number
       (exists w a d && passes (number_part w p.names p.graph m.mask) a d) _ (empty (sort_over m.kind (sort_kind (input_tree (trees p.graph) (slice_get m.inputs 0)))))
-      (step_number w p.names m.kind m.window (input_part w p.names p.graph (slice_get m.inputs 0)) (input_part w p.names p.graph (slice_get m.inputs 1)) (input_part w p.names p.graph (slice_get m.inputs 2))
-      (number_part w p.names p.graph m.mask) (number_part w p.names p.graph m.group) a d (not_label m.kind own other))
+      (step_number w p.names m.kind m.window (node_operands w p.names p.graph m) a d (not_label m.kind own other))
       (number_of (empty (sort_over m.kind (sort_kind (input_tree (trees p.graph) (slice_get m.inputs 0))))), empty_is (sort_over m.kind (sort_kind (input_tree (trees p.graph) (slice_get m.inputs 0))))) in
       (whole.0, value-node w p ok t m is a d ∙ whole.1)
 
