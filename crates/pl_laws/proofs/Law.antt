@@ -1,9 +1,10 @@
 -- What came to be known later doesn't change a value.
-use Rattle.std.proofs.Common.{◌≡◌, ℕ, suc, ◌<◌, ◌≤◌, Bool, true, false, cond, ℤ, pos, negsuc, ◌<ℤ◌, ◌≤ℤ◌, List, [], ◌∷◌, length, map, get_or, Option, Some, None, refl, sym, ◌∙◌, ap, arith, inl, inr, filter, filter_map, slice_get, AllPairs, ◌==◌, unwrap_or, option_map}
+use Rattle.std.proofs.Common.{◌≡◌, ℕ, suc, ◌<◌, ◌≤◌, Bool, true, false, ℤ, pos, negsuc, ◌<ℤ◌, ◌≤ℤ◌, List, [], ◌∷◌, length, map, get_or, Option, Some, None, refl, sym, ◌∙◌, ap, arith, inl, inr, filter, filter_map, slice_get, AllPairs, ◌==◌, unwrap_or, option_map}
 use Rattle.std.proofs.Math.Path.{fun_ext}
-use Rattle.std.specs.List.{list_any}
+use Rattle.std.specs.List.{All, list_any}
 use Rattle.std.proofs.lemmas.Int.{ints}
 use Rattle.std.proofs.lemmas.Bool.{eqb-true, eq-eqb, ne_eqb, or_cases, or_left, true≢false, false_from_ne_true, cases_eq}
+use Rattle.std.proofs.lemmas.List.Kept.{AllPairs-filter}
 use Rattle.std.proofs.lemmas.Option.{get_or_from_slice_get, slice_get_within}
 use Rattle.pl_spec.specs.Rounding.{MISSING}
 use Rattle.pl_spec.specs.World.{World, IsWorld, Event, events_of, day_of, bar_cell, exists, living_sids, label_at, lives_on, known_number}
@@ -92,28 +93,21 @@ rising_is_one (x ∷ xs) (y ∷ ys) p q same =
           rw (f, g) at s
     ]
 
-sids_above : (p : AssetRow → Bool) (x : ℕ) (rows : List AssetRow) → ((k : ℕ) (d : AssetRow) → k < length rows → x < (get_or rows k d).sid) → AllAbove x (map (λ a. a.sid) (filter p rows))
+sids_above : (x : ℕ) (rows : List AssetRow) → All (λ a. x < a.sid) rows → AllAbove x (map (λ a. a.sid) rows)
 unfolding AllAbove
-sids_above p x [] h = tt
-sids_above p x (a ∷ rows) h = here (p a) (sids_above p x rows (λ k d l. h (suc k) d (omega arith)))
-  where
-    here : (b : Bool) → AllAbove x (map (λ a. a.sid) (filter p rows)) → AllAbove x (map (λ a. a.sid) (cond b (a ∷ filter p rows) (filter p rows)))
-    here true rest = (h 0 a (omega arith), rest)
-    here false rest = rest
+sids_above x [] h = tt
+sids_above x (a ∷ rows) h = (h 0 a (omega arith), sids_above x rows (λ k d l. h (suc k) d (omega arith)))
 
-sids_rise : (p : AssetRow → Bool) (rows : List AssetRow) → AllPairs (λ a b. a.sid < b.sid) rows → Rising (map (λ a. a.sid) (filter p rows))
+sids_rise : (rows : List AssetRow) → AllPairs (λ a b. a.sid < b.sid) rows → Rising (map (λ a. a.sid) rows)
 unfolding Rising
-sids_rise p [] h = tt
-sids_rise p (a ∷ rows) h = here (p a) (sids_rise p rows (λ i j d l m. h (suc i) (suc j) d (omega arith) (omega arith)))
-  where
-    here : (b : Bool) → Rising (map (λ a. a.sid) (filter p rows)) → Rising (map (λ a. a.sid) (cond b (a ∷ filter p rows) (filter p rows)))
-    here true rest = (sids_above p a.sid rows (λ k d l. h 0 (suc k) d (omega arith) (omega arith)), rest)
-    here false rest = rest
+sids_rise [] h = tt
+sids_rise (a ∷ rows) h =
+    (sids_above a.sid rows (λ k d l. h 0 (suc k) d (omega arith) (omega arith)), sids_rise rows (λ i j d l m. h (suc i) (suc j) d (omega arith) (omega arith)))
 
 living_rise : (w : World) → IsWorld w → (o : Option ℤ) → Rising (unwrap_or (option_map (λ day. map (λ a. a.sid) (filter (lives_on day) w.assets)) o) [])
 unfolding Rising
 living_rise w ok None = tt
-living_rise w ok (Some day) = sids_rise (lives_on day) w.assets ok.sids_ascend
+living_rise w ok (Some day) = sids_rise (filter (lives_on day) w.assets) (AllPairs-filter (λ a b. a.sid < b.sid) (lives_on day) w.assets ok.sids_ascend)
 
 -- ---- days and events
 

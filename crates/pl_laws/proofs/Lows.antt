@@ -24,7 +24,7 @@ use Rattle.pl_laws.proofs.Starts.{first_within, start-within}
 use Rattle.pl_laws.proofs.Rises.{start-rises}
 use Rattle.pl_laws.proofs.Reaches.{AllFrom, below_least, at_downward}
 use Rattle.pl_pipeline.proofs.Trees.{term_at-node}
-use Rattle.pl_pipeline.proofs.Unfolds.{past}
+use Rattle.pl_pipeline.proofs.Unfolds.{stands}
 use Rattle.pl_spec.proofs.Signed.{int_eq-true, eq-int_eq, int_eq-itself, le-both, min-rises, min-either}
 use Rattle.pl_spec.proofs.Windows.{before-zero}
 
@@ -168,14 +168,11 @@ module _ (days : List ℤ) (g : Graph) (ok : IsGraph g) (wide : (k : ℕ) (n : N
   -- a term of the graph is a node, so its place reaches over a window
   over : (t : ℕ) → t < length g → (size : ℕ) (s low : ℤ) → 1 ≤ size → low ≤ℤ part_reach (term_at g t) (reach days (term_at g t)) size s
       → low ≤ℤ reach days (term_at g t) (before s (size - 1))
-  over t l size s low some h = found (slice_get g t) refl
-    where
-      found : (o : Option Node) → slice_get g t ≡ o → low ≤ℤ reach days (term_at g t) (before s (size - 1))
-      found None e = absurd (past g t l e)
-      found (Some m) e =
-          let same : term_at g t ≡ tree_over (trees g) m = term_at-node g t m ok e in
-          let h' = rw same at h in
-          rw same (node_over m.kind m.window _ _ _ _ _ size s low some h')
+  over t l size s low some h =
+      let m = stands g t l in
+      let same : term_at g t ≡ tree_over (trees g) m.0 = term_at-node g t m.0 ok m.1 in
+      let h' = rw same at h in
+      rw same (node_over m.0.kind m.0.window _ _ _ _ _ size s low some h')
 
   read-later : (u t : ℕ) (n : Node) (s r low : ℤ) → slice_get g u ≡ Some n → Reads days n s t r → low ≤ℤ reach days (term_at g u) s → low ≤ℤ reach days (term_at g t) r
   read-later u t n s r low at (Reads.input i at_i) h =
@@ -302,12 +299,9 @@ module _ (days : List ℤ) (rise : AllPairs (λ a b. a <ℤ b) days) (g : Graph)
   over_least : (u : ℕ) → u < length g → (size : ℕ) (s : ℤ) → 1 ≤ size
       → (part_reach (term_at g u) (reach days (term_at g u)) size s ≡ s) ⊎ (part_reach (term_at g u) (reach days (term_at g u)) size s ≡ reach_of u (before s (size - 1)))
   over_least u l zero s some = absurd (omega arith)
-  over_least u l (suc size) s some = found (slice_get g u) refl
-    where
-      found : (o : Option Node) → slice_get g u ≡ o
-          → (part_reach (term_at g u) (reach days (term_at g u)) (suc size) s ≡ s) ⊎ (part_reach (term_at g u) (reach days (term_at g u)) (suc size) s ≡ reach_of u (before s (suc size - 1)))
-      found None e = absurd (past g u l e)
-      found (Some m) e = let last : suc size - 1 ≡ size = omega arith in rw (last, term_at-node g u m ok e) (node_least m.kind m.window _ _ _ _ _ size s)
+  over_least u l (suc size) s some =
+      let m = stands g u l in
+      let last : suc size - 1 ≡ size = omega arith in rw (last, term_at-node g u m.0 ok m.1) (node_least m.0.kind m.0.window _ _ _ _ _ size s)
 
   module _ (t : ℕ) (n : Node) (s : ℤ) (at : slice_get g t ≡ Some n) where
     abbrev start : ℤ
@@ -390,11 +384,7 @@ module _ (days : List ℤ) (rise : AllPairs (λ a b. a <ℤ b) days) (g : Graph)
 
   meet : (k t : ℕ) (s : ℤ) → t < k → t < length g → Needs days g outputs from t s → Met (reach_of t s)
   meet zero t s h l needs = absurd (omega arith)
-  meet (suc k) t s h l needs = found (slice_get g t) refl (λ u q lower needs_u. meet k u q (omega arith) (omega arith) needs_u)
-    where
-      found : (o : Option Node) → slice_get g t ≡ o → ((u : ℕ) (q : ℤ) → u < t → Needs days g outputs from u q → Met (reach_of u q)) → Met (reach_of t s)
-      found None e lower = absurd (past g t l e)
-      found (Some n) e lower = node_met t n s e needs lower
+  meet (suc k) t s h l needs = let n = stands g t l in node_met t n.0 s n.1 needs (λ u q lower needs_u. meet k u q (omega arith) (omega arith) needs_u)
 
   pub reaches-meet : (t : ℕ) (s : ℤ) → t < length g → Needs days g outputs from t s → Met (reach_of t s)
   reaches-meet t s l needs = meet (suc t) t s (omega arith) l needs

@@ -7,7 +7,7 @@ use Rattle.pl_pipeline.specs.Term.{Term, Input, Node, Graph, input_tree, number_
 use Rattle.pl_pipeline.specs.Term.Term.{absent, column, node}
 use Rattle.pl_pipeline.specs.Term.Input.{BarColumn, TermInput}
 use Rattle.pl_pipeline.proofs.Trees.{term_at-node}
-use Rattle.pl_pipeline.proofs.Unfolds.{past}
+use Rattle.pl_pipeline.proofs.Unfolds.{stands}
 
 -- lists of at most three elements are told by these
 three : {X : Type 0} (xs ys : List X) → length xs ≤ 3 → length ys ≤ 3 → slice_get xs 0 ≡ slice_get ys 0 → slice_get xs 1 ≡ slice_get ys 1 → slice_get xs 2 ≡ slice_get ys 2 → xs ≡ ys
@@ -43,19 +43,11 @@ module _ (g : Graph) (ok : IsGraph g) where
   abbrev One : Term → Type 0
   One t = (j k : ℕ) → j < length g → k < length g → term_at g j ≡ t → term_at g k ≡ t → j ≡ k
 
-  -- a number's tree is a node
-  is_node : (k : ℕ) → k < length g → (n : Node) × (slice_get g k ≡ Some n)
-  is_node k h = found (slice_get g k) refl
-    where
-      found : (o : Option Node) → slice_get g k ≡ o → (n : Node) × (slice_get g k ≡ Some n)
-      found None e = absurd (past g k h e)
-      found (Some n) e = (n, e)
-
   not_absent : (k : ℕ) → k < length g → term_at g k ≡ absent → ⊥
-  not_absent k h e = let n : (n : Node) × (slice_get g k ≡ Some n) = is_node k h in let t : term_at g k ≡ tree_over (trees g) n.0 = term_at-node g k n.0 ok n.1 in cc
+  not_absent k h e = let n : (n : Node) × (slice_get g k ≡ Some n) = stands g k h in let t : term_at g k ≡ tree_over (trees g) n.0 = term_at-node g k n.0 ok n.1 in cc
 
   not_column : (k : ℕ) (c : Column) → k < length g → term_at g k ≡ column c → ⊥
-  not_column k c h e = let n : (n : Node) × (slice_get g k ≡ Some n) = is_node k h in let t : term_at g k ≡ tree_over (trees g) n.0 = term_at-node g k n.0 ok n.1 in cc
+  not_column k c h e = let n : (n : Node) × (slice_get g k ≡ Some n) = stands g k h in let t : term_at g k ≡ tree_over (trees g) n.0 = term_at-node g k n.0 ok n.1 in cc
 
   one_input : (t : Term) → One t → (o p : Option Input) → ((k : ℕ) → o ≡ Some (TermInput k) → k < length g) → ((k : ℕ) → p ≡ Some (TermInput k) → k < length g)
       → input_tree (trees g) o ≡ t → input_tree (trees g) p ≡ t → o ≡ p
@@ -93,8 +85,8 @@ module _ (g : Graph) (ok : IsGraph g) where
   one_tree absent j k h i e f = absurd (not_absent j h e)
   one_tree (column c) j k h i e f = absurd (not_column j c h e)
   one_tree (node kind size x y z m p) j k h i e f =
-      let a : (n : Node) × (slice_get g j ≡ Some n) = is_node j h in
-      let b : (n : Node) × (slice_get g k ≡ Some n) = is_node k i in
+      let a : (n : Node) × (slice_get g j ≡ Some n) = stands g j h in
+      let b : (n : Node) × (slice_get g k ≡ Some n) = stands g k i in
       let ta : tree_over (trees g) a.0 ≡ node kind size x y z m p = sym (term_at-node g j a.0 ok a.1) ∙ e in
       let tb : tree_over (trees g) b.0 ≡ node kind size x y z m p = sym (term_at-node g k b.0 ok b.1) ∙ f in
       let ra : InRange a.0 = in_range j a.0 a.1 in

@@ -13,17 +13,19 @@ past [] k h e = omega arith
 past (x ∷ xs) zero h e = cc
 past (x ∷ xs) (suc k) h e = past xs k (omega arith) e
 
+-- what stands at a place of a list
+pub stands : {X : Type 0} (xs : List X) (k : ℕ) → k < length xs → (x : X) × (slice_get xs k ≡ Some x)
+stands [] k h = absurd (omega arith)
+stands (x ∷ xs) zero h = (x, refl)
+stands (x ∷ xs) (suc k) h = stands xs k (omega arith)
+
 -- a term of the graph is a node
 part_of-term_at : (g : Graph) (k : ℕ) (n : Node) → IsGraph g → slice_get g k ≡ Some n → (f : Meaning) → part_of (term_at g k) f ≡ Part.Values f
 part_of-term_at g k n ok e f = rw (term_at-node g k n ok e) refl
 
 module _ (w : World) (names : List (List ℕ)) (g : Graph) (ok : IsGraph g) where
   number_is : (k : ℕ) → k < length g → part_of (term_at g k) (value w names (term_at g k)) ≡ Part.Values (meaning_of w names g k)
-  number_is k h = found (slice_get g k) refl
-    where
-      found : (o : Option Node) → slice_get g k ≡ o → part_of (term_at g k) (value w names (term_at g k)) ≡ Part.Values (meaning_of w names g k)
-      found None e = absurd (past g k h e)
-      found (Some n) e = part_of-term_at g k n ok e (value w names (term_at g k))
+  number_is k h = let n = stands g k h in part_of-term_at g k n.0 ok n.1 (value w names (term_at g k))
 
   input_is : (o : Option Input) → ((k : ℕ) → o ≡ Some (TermInput k) → k < length g)
       → part_of (input_tree (trees g) o) (value w names (input_tree (trees g) o)) ≡ input_part w names g o

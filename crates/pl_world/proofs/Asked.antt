@@ -1,7 +1,6 @@
 -- What a term reads may be asked for where the term may.
-use Rattle.std.proofs.Common.{◌≡◌, ℕ, zero, suc, ◌+◌, ◌-◌, ◌<◌, ◌≤◌, ◌==◌, Bool, true, false, ℤ, pos, negsuc, ◌≤ℤ◌, List, [], ◌∷◌, map, length, Option, Some, None, option_map, slice_get, refl, sym, ◌∙◌, ap, subst, arith}
-use Rattle.std.specs.Int.{int_min}
-use Rattle.std.proofs.lemmas.Int.{ints, int_min_is}
+use Rattle.std.proofs.Common.{◌≡◌, ℕ, zero, suc, ◌+◌, ◌-◌, ◌<◌, ◌≤◌, true, false, ℤ, pos, negsuc, ◌≤ℤ◌, List, [], ◌∷◌, map, length, Option, Some, None, option_map, slice_get, refl, sym, ◌∙◌, ap, subst, arith}
+use Rattle.std.proofs.lemmas.Int.{ints}
 use Rattle.std.proofs.lemmas.Bool.Decides.{nat_tests}
 use Rattle.std.proofs.lemmas.Option.{slice_get-map}
 use Rattle.pl_spec.specs.Window.{before, downward}
@@ -11,7 +10,7 @@ use Rattle.pl_pipeline.specs.Term as spec
 use Rattle.pl_pipeline.specs.Term.{Term, Graph, input_tree, number_tree, trees, term_at, IsGraph}
 use Rattle.pl_pipeline.specs.Graph.{least_of, part_reach, reads_at, reach}
 use Rattle.pl_pipeline.proofs.Trees.{term_at-node}
-use Rattle.pl_pipeline.proofs.Unfolds.{past}
+pub use Rattle.pl_pipeline.proofs.Unfolds.{stands as has-node}
 use Rattle.pl_spec.proofs.Windows.{before-pos}
 use Rattle.pl_terms.specs.declared.node.TermId.{TermId}
 use Rattle.pl_terms.specs.declared.node.Input.{Input}
@@ -20,6 +19,7 @@ use Rattle.pl_terms.specs.declared.node.Node.{Node}
 use Rattle.pl_spec.specs.declared.Frequency.{Frequency}
 use Rattle.pl_spec.specs.Periods.{period_start}
 use Rattle.pl_laws.proofs.Lows.{reach-rises, reads_at-within}
+use Rattle.pl_laws.proofs.Reaches.{below_least, at_downward}
 use Rattle.pl_terms.specs.Kinds.{kind_of}
 use Rattle.pl_terms.specs.Nodes.{node_of, graph_of, input_of, number_of}
 use Rattle.pl_terms.specs.Checked.{Parts, pipeline_of, IsChecked}
@@ -27,27 +27,6 @@ use Rattle.pl_terms.specs.Sorts.{has_window, is_windowed}
 use Rattle.pl_terms.proofs.Graphs.{graph-long, graph-at}
 use Rattle.pl_world.specs.declared.world.World.{World}
 use Rattle.pl_world.specs.Evaluations.{IsAsked, IsAskedInput, IsAskedOption, as_input, above, above_option}
-
--- ---- least sessions
-
-both-low : (x y : ℤ) → pos 0 ≤ℤ int_min x y → (pos 0 ≤ℤ x) × (pos 0 ≤ℤ y)
-both-low x y h = (omega (arith, ints, int_min_is x y, h), omega (arith, ints, int_min_is x y, h))
-
-abbrev AreLow : List ℤ → Type 0
-AreLow [] = Unit {0}
-AreLow (x ∷ xs) = (pos 0 ≤ℤ x) × AreLow xs
-
-least-low : (xs : List ℤ) (d : ℤ) → pos 0 ≤ℤ least_of xs d → (pos 0 ≤ℤ d) × AreLow xs
-least-low [] d h = (h, tt)
-least-low (x ∷ xs) d h = let r = least-low xs (int_min d x) h in let b = both-low d x r.0 in (b.0, (b.1, r.1))
-
-below-low : (f : ℕ → ℤ) (size m : ℕ) → AreLow (map f (downward size)) → m < size → pos 0 ≤ℤ f m
-below-low f zero m h l = absurd (omega (arith, l))
-below-low f (suc size) m h l = here (m == size) refl (λ k. below-low f size m h.1 k)
-  where
-    here : (b : Bool) → (m == size) ≡ b → (m < size → pos 0 ≤ℤ f m) → pos 0 ≤ℤ f m
-    here true e more = let same : m ≡ size = grind (arith, nat_tests) in subst (λ k. pos 0 ≤ℤ f k) (sym same) h.0
-    here false e more = let other : m < size = grind (arith, nat_tests, l) in more other
 
 -- ---- sessions
 
@@ -76,23 +55,15 @@ reaches-of : (days : List ℤ) (g : Graph) (t : ℕ) (m : spec.Node) (d : ℤ) �
 unfolding reach
 reaches-of days g t m d ok e h =
     let tree = subst (λ x. pos 0 ≤ℤ reach days x d) (term_at-node g t m ok e) h in
-    let all = least-low (reach_list days g m (reads_at days m.kind d) d) d tree in
+    let all = below_least (pos 0) d (reach_list days g m (reads_at days m.kind d) d) tree in
     record { own = all.0; first = all.1.0; second = all.1.1.0; third = all.1.1.1.0; mask = all.1.1.1.1.0; group = all.1.1.1.1.1.0 }
-
--- a term of the graph is a node
-pub has-node : (g : Graph) (u : ℕ) → u < length g → (m : spec.Node) × (slice_get g u ≡ Some m)
-has-node g u h = here (slice_get g u) refl
-  where
-    here : (o : Option spec.Node) → slice_get g u ≡ o → (m : spec.Node) × (slice_get g u ≡ Some m)
-    here None e = absurd (past g u h e)
-    here (Some m) e = (m, e)
 
 part-node : (g : Graph) (u size : ℕ) (m : spec.Node) (f : ℤ → ℤ) (d : ℤ) → IsGraph g → slice_get g u ≡ Some m → part_reach (term_at g u) f size d ≡ least_of (map (λ i. f (before d i)) (downward size)) d
 part-node g u size m f d ok e = rw (term_at-node g u m ok e) refl
 
 own-low : (days : List ℤ) (g : Graph) (u : ℕ) (m : spec.Node) (d : ℤ) → IsGraph g → slice_get g u ≡ Some m → pos 0 ≤ℤ reach days (term_at g u) d → pos 0 ≤ℤ d
 unfolding reach
-own-low days g u m d ok e h = (least-low (reach_list days g m (reads_at days m.kind d) d) d (subst (λ x. pos 0 ≤ℤ reach days x d) (term_at-node g u m ok e) h)).0
+own-low days g u m d ok e h = (below_least (pos 0) d (reach_list days g m (reads_at days m.kind d) d) (subst (λ x. pos 0 ≤ℤ reach days x d) (term_at-node g u m ok e) h)).0
 
 pub inputs-at : (n : Node) (j : ℕ) → slice_get (node_of n).inputs j ≡ option_map input_of (slice_get n.inputs j)
 unfolding node_of
@@ -101,14 +72,7 @@ inputs-at n j = slice_get-map input_of n.inputs j
 one-of : (k : Kind) (size : ℕ) → is_windowed k ≡ false → has_window k size ≡ true → size ≡ 1
 unfolding has_window
 one-of (kinds.Window f) size e h = absurd (let bad : true ≡ false = e in cc)
-one-of (kinds.Constant f) size e h = grind (arith, nat_tests)
-one-of (kinds.Label f) size e h = grind (arith, nat_tests)
-one-of (kinds.Number f) size e h = grind (arith, nat_tests)
-one-of (kinds.StaticSids f) size e h = grind (arith, nat_tests)
-one-of (kinds.Point f) size e h = grind (arith, nat_tests)
-one-of (kinds.LabelTest f) size e h = grind (arith, nat_tests)
-one-of (kinds.Cross f) size e h = grind (arith, nat_tests)
-one-of (kinds.Downsample f) size e h = grind (arith, nat_tests)
+one-of k size e h = grind (arith, nat_tests)
 
 module _ (w : World) (c : Parts) (ok : IsChecked (pipeline_of c)) (t session : ℕ) (asked : IsAsked w c t session) where
   -- a term over the size sessions up to one
@@ -120,8 +84,8 @@ module _ (w : World) (c : Parts) (ok : IsChecked (pipeline_of c)) (t session : �
   term-asked u size r up h low =
       let m = has-node (graph_of c.graph) u (omega (arith, h, graph-long c.graph)) in
       let f = reach w.sessions.now (term_at (graph_of c.graph) u) in
-      let all = least-low (map (λ i. f (before (pos r) i)) (downward size)) (pos r) (subst (λ x. pos 0 ≤ℤ x) (part-node (graph_of c.graph) u size m.0 f (pos r) ok.graph m.1) low) in
-      let each : (n : ℕ) → n < size → pos 0 ≤ℤ f (before (pos r) n) = λ n l. below-low (λ i. f (before (pos r) i)) size n all.1 l in
+      let all = below_least (pos 0) (pos r) (map (λ i. f (before (pos r) i)) (downward size)) (subst (λ x. pos 0 ≤ℤ x) (part-node (graph_of c.graph) u size m.0 f (pos r) ok.graph m.1) low) in
+      let each : (n : ℕ) → n < size → pos 0 ≤ℤ f (before (pos r) n) = λ n l. at_downward (pos 0) (λ i. f (before (pos r) i)) size all.1 n l in
       let there : (n : ℕ) → n < size → n ≤ r = λ n l. early r n (own-low w.sessions.now (graph_of c.graph) u m.0 (before (pos r) n) ok.graph m.1 (each n l)) in (
         some-size size there,
         λ n l. record {
@@ -184,7 +148,7 @@ module _ (w : World) (c : Parts) (ok : IsChecked (pipeline_of c)) (t session : �
     term-late j u s e low =
         let m = has-node (graph_of c.graph) u.0 (omega (arith, term-below j u e, graph-long c.graph)) in
         let f = reach w.sessions.now (term_at (graph_of c.graph) u.0) in
-        (least-low (map (λ i. f (before s i)) (downward n.window)) s (subst (λ x. pos 0 ≤ℤ x) (part-node (graph_of c.graph) u.0 n.window m.0 f s ok.graph m.1) (at-input j (Some (input.Term u)) s e low))).0
+        (below_least (pos 0) s (map (λ i. f (before s i)) (downward n.window)) (subst (λ x. pos 0 ≤ℤ x) (part-node (graph_of c.graph) u.0 n.window m.0 f s ok.graph m.1) (at-input j (Some (input.Term u)) s e low))).0
 
     input-asked : (j : ℕ) (o : Option Input) (s : ℤ) → slice_get n.inputs j ≡ o → s ≤ℤ pos session → InputLow j s → IsAskedInput w c o n.window session
     unfolding AskedUp

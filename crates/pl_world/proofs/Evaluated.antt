@@ -8,12 +8,12 @@ use Rattle.pl_lifetimes.specs.Assets.{sid_of}
 use Rattle.pl_spec.specs.declared.Frequency.{Frequency}
 use Rattle.pl_spec.specs.Periods.{period_start}
 use Rattle.pl_pipeline.specs.Kind as kinds
-use Rattle.pl_pipeline.specs.Kind.{Kind, WindowKind, PointKind, LabelKind, CrossKind}
+use Rattle.pl_pipeline.specs.Kind.{Kind}
 use Rattle.pl_pipeline.specs.Term as spec
 use Rattle.pl_pipeline.specs.Term.{term_at}
 use Rattle.pl_pipeline.specs.Value.{number_of as number_in, empty, sort_kind, name_at}
 use Rattle.pl_spec.specs.World.{label_at, known_number}
-use Rattle.pl_pipeline.proofs.Unfolds.{past}
+pub use Rattle.pl_pipeline.proofs.Unfolds.{stands as code-node}
 use Rattle.pl_terms.specs.declared.node.TermId.{TermId}
 use Rattle.pl_terms.specs.declared.node.Input.{Input}
 use Rattle.pl_terms.specs.declared.node.Input.TheVariants as input
@@ -30,68 +30,12 @@ use Rattle.pl_values.specs.Arrays.{cell_of, empty_cell, is_kept, chosen}
 use Rattle.pl_values.specs.Inputs.{input_window, AreWindows, IsInputRow, AreRows}
 use Rattle.pl_values.specs.Families.{windowed, TakesWindows, sid_flag, label_code, IsCode, code_flag, is_sids, is_point, is_label_test}
 use Rattle.pl_values.specs.Laws.{IsNode}
+pub use Rattle.pl_values.proofs.KindFamilies.{window_kind as windowed-is, point_kind as point-is, label_test_kind as label-test-is, sids_kind as sids-is, section_kind as section-is}
 use Rattle.pl_values.proofs.Given.{unkept-cell, constant-cell, window-cell, point-cell, point-operands, sid-cell, label-cell, number-cell, label-test-cell, label-input, section-input, window-input, downsampled-cell, downsampled-input}
 use Rattle.pl_world.specs.declared.world.World.{World}
 use Rattle.pl_world.specs.Worlds.{world_of}
 use Rattle.pl_world.specs.Evaluations.{IsAskedInput, IsKept, as_input, lets_pass, cell_in, input_cell_in, window_in}
 use Rattle.pl_world.proofs.Asked.{inputs-at}
-
--- ---- families
-
-pub windowed-is : (k : Kind) → is_windowed k ≡ true → (f : WindowKind) × (k ≡ kinds.Window f)
-windowed-is (kinds.Window f) e = (f, refl)
-windowed-is (kinds.Constant f) e = absurd (let bad : false ≡ true = e in cc)
-windowed-is (kinds.Label f) e = absurd (let bad : false ≡ true = e in cc)
-windowed-is (kinds.Number f) e = absurd (let bad : false ≡ true = e in cc)
-windowed-is (kinds.StaticSids f) e = absurd (let bad : false ≡ true = e in cc)
-windowed-is (kinds.Point f) e = absurd (let bad : false ≡ true = e in cc)
-windowed-is (kinds.LabelTest f) e = absurd (let bad : false ≡ true = e in cc)
-windowed-is (kinds.Cross f) e = absurd (let bad : false ≡ true = e in cc)
-windowed-is (kinds.Downsample f) e = absurd (let bad : false ≡ true = e in cc)
-
-pub point-is : (k : Kind) → is_point k ≡ true → (f : PointKind) × (k ≡ kinds.Point f)
-point-is (kinds.Point f) e = (f, refl)
-point-is (kinds.Constant f) e = absurd (let bad : false ≡ true = e in cc)
-point-is (kinds.Label f) e = absurd (let bad : false ≡ true = e in cc)
-point-is (kinds.Number f) e = absurd (let bad : false ≡ true = e in cc)
-point-is (kinds.StaticSids f) e = absurd (let bad : false ≡ true = e in cc)
-point-is (kinds.Window f) e = absurd (let bad : false ≡ true = e in cc)
-point-is (kinds.LabelTest f) e = absurd (let bad : false ≡ true = e in cc)
-point-is (kinds.Cross f) e = absurd (let bad : false ≡ true = e in cc)
-point-is (kinds.Downsample f) e = absurd (let bad : false ≡ true = e in cc)
-
-pub label-test-is : (k : Kind) → is_label_test k ≡ true → (f : LabelKind) × (k ≡ kinds.LabelTest f)
-label-test-is (kinds.LabelTest f) e = (f, refl)
-label-test-is (kinds.Constant f) e = absurd (let bad : false ≡ true = e in cc)
-label-test-is (kinds.Label f) e = absurd (let bad : false ≡ true = e in cc)
-label-test-is (kinds.Number f) e = absurd (let bad : false ≡ true = e in cc)
-label-test-is (kinds.StaticSids f) e = absurd (let bad : false ≡ true = e in cc)
-label-test-is (kinds.Window f) e = absurd (let bad : false ≡ true = e in cc)
-label-test-is (kinds.Point f) e = absurd (let bad : false ≡ true = e in cc)
-label-test-is (kinds.Cross f) e = absurd (let bad : false ≡ true = e in cc)
-label-test-is (kinds.Downsample f) e = absurd (let bad : false ≡ true = e in cc)
-
-pub sids-is : (k : Kind) → is_sids k ≡ true → (own : List ℕ) × (k ≡ kinds.StaticSids own)
-sids-is (kinds.StaticSids f) e = (f, refl)
-sids-is (kinds.Constant f) e = absurd (let bad : false ≡ true = e in cc)
-sids-is (kinds.Label f) e = absurd (let bad : false ≡ true = e in cc)
-sids-is (kinds.Number f) e = absurd (let bad : false ≡ true = e in cc)
-sids-is (kinds.LabelTest f) e = absurd (let bad : false ≡ true = e in cc)
-sids-is (kinds.Window f) e = absurd (let bad : false ≡ true = e in cc)
-sids-is (kinds.Point f) e = absurd (let bad : false ≡ true = e in cc)
-sids-is (kinds.Cross f) e = absurd (let bad : false ≡ true = e in cc)
-sids-is (kinds.Downsample f) e = absurd (let bad : false ≡ true = e in cc)
-
-pub section-is : (k : Kind) → is_section k ≡ true → (f : CrossKind) × (k ≡ kinds.Cross f)
-section-is (kinds.Cross f) e = (f, refl)
-section-is (kinds.Constant f) e = absurd (let bad : false ≡ true = e in cc)
-section-is (kinds.Label f) e = absurd (let bad : false ≡ true = e in cc)
-section-is (kinds.Number f) e = absurd (let bad : false ≡ true = e in cc)
-section-is (kinds.StaticSids f) e = absurd (let bad : false ≡ true = e in cc)
-section-is (kinds.Window f) e = absurd (let bad : false ≡ true = e in cc)
-section-is (kinds.Point f) e = absurd (let bad : false ≡ true = e in cc)
-section-is (kinds.LabelTest f) e = absurd (let bad : false ≡ true = e in cc)
-section-is (kinds.Downsample f) e = absurd (let bad : false ≡ true = e in cc)
 
 -- an input of the code that is a term by the definitions
 term-input : (o : Option Input) (t : ℕ) → option_map input_of o ≡ Some (spec.TermInput t) → (u : TermId) × (o ≡ Some (input.Term u)) × (u.0 ≡ t)
@@ -137,13 +81,6 @@ module _ (c : Parts) (ok : IsChecked (pipeline_of c)) (t : ℕ) (n : Node) (is :
       here (Some (input.Column k)) y e asked = omega (arith, asked)
       here (Some (input.Term u)) y e asked = asked.0
 
-pub code-node : (ns : List Node) (t : ℕ) → t < length ns → (n : Node) × (slice_get ns t ≡ Some n)
-code-node ns t h = here (slice_get ns t) refl
-  where
-    here : (o : Option Node) → slice_get ns t ≡ o → (n : Node) × (slice_get ns t ≡ Some n)
-    here None e = absurd (past ns t h e)
-    here (Some n) e = (n, e)
-
 -- a mask's value decides
 pub mask-passed : (w : World) (c : Parts) (m : Option TermId) (o : Option Input) (x : ℤ) (b r : Bool) (a s : ℕ) → o ≡ as_input m → x ≡ input_cell_in w c o a s → r ≡ lets_pass o x → r ≡ b
     → lets_pass (as_input m) (input_cell_in w c (as_input m) a s) ≡ b
@@ -153,14 +90,7 @@ pub not-windowed : (k : Kind) → (is_label_test k ≡ true) ⊎ (is_point k ≡
 not-windowed (kinds.Window f) (inl e) = absurd (let bad : false ≡ true = e in cc)
 not-windowed (kinds.Window f) (inr (inl e)) = absurd (let bad : false ≡ true = e in cc)
 not-windowed (kinds.Window f) (inr (inr e)) = absurd (let bad : false ≡ true = e in cc)
-not-windowed (kinds.Constant f) e = refl
-not-windowed (kinds.Label f) e = refl
-not-windowed (kinds.Number f) e = refl
-not-windowed (kinds.StaticSids f) e = refl
-not-windowed (kinds.Point f) e = refl
-not-windowed (kinds.LabelTest f) e = refl
-not-windowed (kinds.Cross f) e = refl
-not-windowed (kinds.Downsample f) e = refl
+not-windowed k e = refl
 
 pub downsampled-plain : (k : Kind) (f : Frequency) → k ≡ kinds.Downsample f → is_windowed k ≡ false
 downsampled-plain k f e = ap is_windowed e

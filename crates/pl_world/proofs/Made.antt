@@ -27,7 +27,7 @@ use Rattle.pl_numbers.proofs.NumberKeys as number_keys
 use Rattle.pl_adjust.specs.Columns.{StandByDay, events_at}
 use Rattle.pl_adjust.proofs.Sids.{column_events}
 use Rattle.pl_world.specs.declared.world.World.{World}
-use Rattle.pl_world.specs.Worlds.{world_of, AreMadeFor, AreSound, IsMade, PartsMakeAWorld}
+use Rattle.pl_world.specs.Worlds.{world_of, AreSound, IsMade, PartsMakeAWorld}
 
 module _ (w : World) (made : IsMade w) (assets : AreAssets w.assets.now) (col : ℕ) (inside : col < length w.assets.now) where
   -- the adjustments of the asset in a column
@@ -102,39 +102,46 @@ numbers-once assets rows up inside once r q first second names sids days =
     true≢false (sym (number_keys.parts_from row.name row.col row.known (get_or rows j d) (ap (λ (k : List ℕ × ℤ). k.0) keys) cols (ap (λ (k : List ℕ × ℤ). k.1) keys)) ∙ once i j d lt l))
     r q first second sids (ap₂ {C = List ℕ × ℤ} (λ n d. (n, d)) names days)
 
-module _ (days : List ℤ) (assets : List AssetRow) (labels : List ColumnLabel) (texts : List (List ℕ)) (bars : List BarRow) (adjustments : List ColumnAdjustment) (numbers : List ColumnNumber)
-    (made : AreMadeFor days assets labels bars adjustments []) (days_up : AllPairs (λ a b. a <ℤ b) days) (sids_up : AllPairs (λ a b. a.sid < b.sid) assets)
-    (starts_own : AllPairs (λ r q. is_from r.name r.col r.start q ≡ false) labels) (bars_up : AllPairs (λ a b. IsTrue (is_before b.col b.session a)) bars)
-    (in_order : StandByDay adjustments) where
+-- what parts of a world have to be
+pub record AreParts (days : List ℤ) (assets : List AssetRow) (labels : List ColumnLabel) (bars : List BarRow) : Type 0 where
+  pub days_up : AllPairs (λ a b. a <ℤ b) days
+  pub sids_up : AllPairs (λ a b. a.sid < b.sid) assets
+  pub labels_in : All (λ r. r.col < length assets) labels
+  pub starts_own : AllPairs (λ r q. is_from r.name r.col r.start q ≡ false) labels
+  pub bars_in : All (λ b. b.col < length assets) bars
+  pub bars_up : AllPairs (λ a b. IsTrue (is_before b.col b.session a)) bars
+
+module _ (days : List ℤ) (assets : List AssetRow) (labels : List ColumnLabel) (texts : List (List ℕ)) (bars : List BarRow) (are : AreParts days assets labels bars)
+    (adjustments : List ColumnAdjustment) (adjustments_in : All (λ x. x.col < length assets) adjustments) (in_order : StandByDay adjustments) (numbers : List ColumnNumber) where
   abbrev whole : spec.World
   whole = parts.world_of days assets labels texts bars adjustments numbers
 
   pub bars_once : BarsOnce whole
   bars_once =
-      once-keyed {K = ℕ} (bar_of assets) (λ b. b.col) (λ b. b.session) (λ b. b.sid) (λ b. b.session) assets sids_up (λ b. refl) (λ b. refl) bars made.bars_in
-      (λ i j d lt l cols sessions. differ (get_or bars i d) (get_or bars j d) (bars_up i j d lt l) cols sessions)
+      once-keyed {K = ℕ} (bar_of assets) (λ b. b.col) (λ b. b.session) (λ b. b.sid) (λ b. b.session) assets are.sids_up (λ b. refl) (λ b. refl) bars are.bars_in
+      (λ i j d lt l cols sessions. differ (get_or bars i d) (get_or bars j d) (are.bars_up i j d lt l) cols sessions)
     where
       differ : (x y : BarRow) → IsTrue (is_before y.col y.session x) → y.col ≡ x.col → y.session ≡ x.session → ⊥
       differ x y before cols sessions = grind (arith, nat_tests)
 
   pub labels_once : LabelsOnce whole
   labels_once r q first second names sids starts =
-      once-keyed {K = List ℕ × ℤ} (label_of assets) (λ r. r.col) (λ r. (r.name, r.start)) (λ r. r.sid) (λ r. (r.name, r.start)) assets sids_up (λ r. refl) (λ r. refl) labels made.labels_in
+      once-keyed {K = List ℕ × ℤ} (label_of assets) (λ r. r.col) (λ r. (r.name, r.start)) (λ r. r.sid) (λ r. (r.name, r.start)) assets are.sids_up (λ r. refl) (λ r. refl) labels are.labels_in
       (λ i j d lt l cols keys.
       let row = get_or labels i d in
-      true≢false (sym (parts_from row.name row.col row.start (get_or labels j d) (ap (λ (k : List ℕ × ℤ). k.0) keys) cols (ap (λ (k : List ℕ × ℤ). k.1) keys)) ∙ starts_own i j d lt l))
+      true≢false (sym (parts_from row.name row.col row.start (get_or labels j d) (ap (λ (k : List ℕ × ℤ). k.0) keys) cols (ap (λ (k : List ℕ × ℤ). k.1) keys)) ∙ are.starts_own i j d lt l))
       r q first second sids (ap₂ {C = List ℕ × ℤ} (λ n d. (n, d)) names starts)
 
   events_in : (col : ℕ) → col < length assets → events_of whole (sid_at assets col) ≡ events_at adjustments col
   events_in col inside =
       ap (events_of whole) (sid_at-row assets col no_asset inside)
-      ∙ column_events days assets labels texts bars adjustments numbers sids_up made.adjustments_in col (get_or assets col no_asset) (slice_get-get_or assets col no_asset inside)
+      ∙ column_events days assets labels texts bars adjustments numbers are.sids_up adjustments_in col (get_or assets col no_asset) (slice_get-get_or assets col no_asset inside)
 
   pub is_world : IsWorld whole
   is_world = record {
-    days_ascend = days_up;
-    sids_ascend = sids_up;
-    events_in_order = λ a. elim (sid-found assets adjustments a made.adjustments_in) [
+    days_ascend = are.days_up;
+    sids_ascend = are.sids_up;
+    events_in_order = λ a. elim (sid-found assets adjustments a adjustments_in) [
       | inl none ↦ rw none (λ i j d l m. absurd (omega arith))
       | inr at ↦ rw (← at.2, events_in at.0 at.1) (events-by-day _ (in_order at.0))
     ];
@@ -146,8 +153,14 @@ parts_make_a_world w sound =
     let rows = w.labels.now.rows in
     let texts = w.labels.now.texts in
     let numbers = w.numbers.now.rows in
-    let bare : AreMadeFor w.sessions.now w.assets.now rows w.bars.now w.adjustments.now [] =
-    record { labels_in = made.labels_in; bars_in = made.bars_in; sessions_in = made.sessions_in; adjustments_in = made.adjustments_in; numbers_in = λ k d l. absurd (omega arith) } in
+    let are : AreParts w.sessions.now w.assets.now rows w.bars.now = record {
+      days_up = sound.days.ascend;
+      sids_up = sound.assets.ascend;
+      labels_in = made.labels_in;
+      starts_own = sound.labels.once;
+      bars_in = made.bars_in;
+      bars_up = sound.bars.ascend;
+    } in
     record {
       sound = sound;
       parts = record {
@@ -160,8 +173,8 @@ parts_make_a_world w sound =
         events_in_order = sound.in_order;
         numbers_in = made.numbers_in;
       };
-      world = is_world w.sessions.now w.assets.now rows texts w.bars.now w.adjustments.now numbers bare sound.days.ascend sound.assets.ascend sound.labels.once sound.bars.ascend sound.in_order;
-      bars_once = bars_once w.sessions.now w.assets.now rows texts w.bars.now w.adjustments.now numbers bare sound.days.ascend sound.assets.ascend sound.labels.once sound.bars.ascend sound.in_order;
-      labels_once = labels_once w.sessions.now w.assets.now rows texts w.bars.now w.adjustments.now numbers bare sound.days.ascend sound.assets.ascend sound.labels.once sound.bars.ascend sound.in_order;
+      world = is_world w.sessions.now w.assets.now rows texts w.bars.now are w.adjustments.now made.adjustments_in sound.in_order numbers;
+      bars_once = bars_once w.sessions.now w.assets.now rows texts w.bars.now are w.adjustments.now made.adjustments_in sound.in_order numbers;
+      labels_once = labels_once w.sessions.now w.assets.now rows texts w.bars.now are w.adjustments.now made.adjustments_in sound.in_order numbers;
       numbers_once = numbers-once w.assets.now numbers sound.assets.ascend made.numbers_in sound.numbers.once;
     }

@@ -1,5 +1,5 @@
 -- Numbers whose records stand in another order show the same.
-use Rattle.std.proofs.Common.{◌≡◌, ◌<◌, ℤ, List, [], ◌∷◌, length, map, All, AllPairs, IsPermutation, Result, Ok, Err, refl, arith}
+use Rattle.std.proofs.Common.{◌≡◌, ◌<◌, ℤ, List, [], ◌∷◌, length, map, All, AllPairs, IsPermutation, Result, Ok, Err, refl}
 use Rattle.std.proofs.lemmas.List.Sorted.{Contains-permutation, IsPermutation-map, IsPermutation-sym}
 use Rattle.pl_records.specs.Reading.{Record, Fault, ◌>>=◌}
 use Rattle.pl_records.proofs.Sorts.{sorted-permutes}
@@ -11,22 +11,15 @@ use Rattle.pl_spec.specs.Parts.{ColumnAdjustment, ColumnNumber, number_of}
 use Rattle.pl_spec.specs.Permuted.{AgreeInAll}
 use Rattle.pl_spec.specs.World.{World, IsWorld}
 use Rattle.pl_spec.proofs.Numbers.{numbers_look_back}
-use Rattle.pl_calendar.specs.Days.{AreDays}
-use Rattle.pl_calendar.proofs.DaysRead.{AreDays-read}
-use Rattle.pl_lifetimes.specs.Assets.{AreAssets}
-use Rattle.pl_lifetimes.proofs.AssetsRead.{AreAssets-read}
 use Rattle.pl_assets.specs.Labels.{LabelTable}
-use Rattle.pl_assets.proofs.LabelsRead.{AreRead}
-use Rattle.pl_bars.specs.Bars.{AreBars}
-use Rattle.pl_bars.proofs.BarsRead.{AreBars-read, AreInside-read}
 use Rattle.pl_numbers.specs.Numbers.{Rule, NumberTable, key_in, names_of, number_rows_in, numbers_of, table_of}
 use Rattle.pl_numbers.proofs.NumbersMoved.{numbers-moved}
 use Rattle.pl_numbers.proofs.NumbersRead as numbers_read
 use Rattle.pl_adjust.specs.Columns.{StandByDay}
 use Rattle.pl_world.specs.Laws.{ShowAlike}
 use Rattle.pl_world.specs.Records.{AreMoved, NumbersInAnyOrder}
-use Rattle.pl_world.proofs.Made.{is_world, numbers-once}
-use Rattle.pl_world.proofs.Moved.{AreRead-labels, show-alike}
+use Rattle.pl_world.proofs.Made.{AreParts, is_world, numbers-once}
+use Rattle.pl_world.proofs.Moved.{AreParts-read, show-alike}
 
 once-moved : (rows others : List NumberRow) → IsPermutation rows others → NumbersOnce rows → NumbersOnce others
 once-moved rows others moved once r q first second =
@@ -55,18 +48,13 @@ others-read assets [] others m table e = (table, rw m e, record { moves = []; be
 others-read assets (r ∷ rs) [] m table e = absurd m
 others-read assets (r ∷ rs) (q ∷ qs) m table e = rw m.0 at (numbers-moved assets r rs qs m.1 table e)
 
-module _ (days : List ℤ) (assets : List AssetRow) (labels : LabelTable) (bars : List BarRow) (adjustments : List ColumnAdjustment)
-    (days_are : AreDays days) (assets_are : AreAssets assets) (bars_are : AreBars bars) (labels_are : AreRead assets labels.rows)
-    (bars_in : All (λ b. b.col < length assets) bars) (sessions_in : All (λ b. b.session < length days) bars)
-    (adjustments_in : All (λ x. x.col < length assets) adjustments) (in_order : StandByDay adjustments) where
+module _ (days : List ℤ) (assets : List AssetRow) (labels : LabelTable) (bars : List BarRow) (are : AreParts days assets labels.rows bars)
+    (adjustments : List ColumnAdjustment) (adjustments_in : All (λ x. x.col < length assets) adjustments) (in_order : StandByDay adjustments) where
   abbrev whole : List ColumnNumber → World
   whole numbers = parts.world_of days assets labels.rows labels.texts bars adjustments numbers
 
   made : (numbers : List ColumnNumber) → IsWorld (whole numbers)
-  made numbers =
-      is_world days assets labels.rows labels.texts bars adjustments numbers
-      (record { labels_in = labels_are.cols; bars_in = bars_in; sessions_in = sessions_in; adjustments_in = adjustments_in; numbers_in = λ k d l. absurd (omega arith) })
-      days_are.ascend assets_are.ascend labels_are.once bars_are.ascend in_order
+  made numbers = is_world days assets labels.rows labels.texts bars are adjustments adjustments_in in_order numbers
 
   agree : (numbers others : List ColumnNumber) → NumbersOnce (map (number_of assets) numbers) → IsPermutation numbers others → AgreeInAll (whole numbers) (whole others)
   agree numbers others once moved = record {
@@ -83,15 +71,11 @@ module _ (days : List ℤ) (assets : List AssetRow) (labels : LabelTable) (bars 
 
 pub numbers-in-any-order : NumbersInAnyOrder
 numbers-in-any-order files days assets labels bars are records others m table e =
-    let days_are = AreDays-read files.sessions days are.days_read in
-    let assets_are = AreAssets-read files.assets assets are.assets_read in
-    let bars_are = AreBars-read days assets files.bars bars days_are.few are.bars_read in
-    let inside = AreInside-read days assets files.bars bars are.bars_read in
+    let parts_are = AreParts-read files days assets labels bars are in
     let found = others-read assets records others m table e in (
       found.0,
       found.1,
       found.2,
-      λ adjustments adjustments_in in_order. shown days assets labels bars adjustments days_are assets_are bars_are
-          (AreRead-labels assets files.labels labels are.labels_read) inside.cols inside.sessions adjustments_in in_order table.rows found.0.rows
-          (table-once assets assets_are.ascend records table e) found.2,
+      λ adjustments adjustments_in in_order. shown days assets labels bars parts_are adjustments adjustments_in in_order table.rows found.0.rows
+          (table-once assets parts_are.sids_up records table e) found.2,
     )

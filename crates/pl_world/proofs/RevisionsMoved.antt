@@ -1,5 +1,5 @@
 -- Revisions whose records stand in another order show the same tables.
-use Rattle.std.proofs.Common.{◌≡◌, ◌<◌, ◌==◌, ℤ, List, [], ◌∷◌, length, All, Ok, refl, sym, ◌∙◌, ap, arith}
+use Rattle.std.proofs.Common.{◌≡◌, ◌<◌, ◌==◌, ℤ, List, [], ◌∷◌, length, All, Ok, refl, sym, ◌∙◌, ap}
 use Rattle.pl_records.specs.Reading.{Record}
 use Rattle.pl_spec.specs.declared.AssetRow.{AssetRow}
 use Rattle.pl_spec.specs.declared.BarRow.{BarRow}
@@ -12,17 +12,14 @@ use Rattle.pl_calendar.proofs.DaysRead.{AreDays-read}
 use Rattle.pl_lifetimes.specs.Assets.{AreAssets}
 use Rattle.pl_lifetimes.proofs.AssetsRead.{AreAssets-read}
 use Rattle.pl_assets.specs.Labels.{LabelTable}
-use Rattle.pl_assets.proofs.LabelsRead.{AreRead}
-use Rattle.pl_bars.specs.Bars.{AreBars}
-use Rattle.pl_bars.proofs.BarsRead.{AreBars-read, AreInside-read}
 use Rattle.pl_adjust.specs.Columns.{StandByDay}
 use Rattle.pl_adjust.specs.Revised.{revised_in}
 use Rattle.pl_adjust.proofs.RevisionsMoved.{PickedAlike, kept-revised, picked-alike}
 use Rattle.pl_adjust.proofs.Sids.{parts_events}
 use Rattle.pl_laws.proofs.Alike.{SeenInAll, table_same, text_same}
 use Rattle.pl_world.specs.Records.{AreMoved, HaveSameTables, RevisionsInAnyOrder}
-use Rattle.pl_world.proofs.Made.{is_world}
-use Rattle.pl_world.proofs.Moved.{AreRead-labels}
+use Rattle.pl_world.proofs.Made.{AreParts, is_world}
+use Rattle.pl_world.proofs.Moved.{AreParts-read}
 
 -- the others are read too
 others-read : (days : List ℤ) (assets : List AssetRow) → AreDays days → AreAssets assets → (records others : List Record) → AreMoved records others → (old xs : List ColumnAdjustment)
@@ -31,17 +28,12 @@ others-read days assets ud ua [] others m old xs e = (xs, rw m e, λ at c bar lo
 others-read days assets ud ua (r ∷ rs) [] m old xs e = absurd m
 others-read days assets ud ua (r ∷ rs) (q ∷ qs) m old xs e = rw m.0 at (picked-alike days assets ud ua r rs qs m.1 old xs e)
 
-module _ (days : List ℤ) (assets : List AssetRow) (labels : LabelTable) (bars : List BarRow) (days_are : AreDays days) (assets_are : AreAssets assets) (bars_are : AreBars bars)
-    (labels_are : AreRead assets labels.rows) (bars_in : All (λ b. b.col < length assets) bars) (sessions_in : All (λ b. b.session < length days) bars)
-    (numbers : List ColumnNumber) where
+module _ (days : List ℤ) (assets : List AssetRow) (labels : LabelTable) (bars : List BarRow) (are : AreParts days assets labels.rows bars) (numbers : List ColumnNumber) where
   abbrev whole : List ColumnAdjustment → World
   whole xs = parts.world_of days assets labels.rows labels.texts bars xs numbers
 
   made : (xs : List ColumnAdjustment) → All (λ x. x.col < length assets) xs × StandByDay xs → IsWorld (whole xs)
-  made xs kept =
-      is_world days assets labels.rows labels.texts bars xs numbers
-      (record { labels_in = labels_are.cols; bars_in = bars_in; sessions_in = sessions_in; adjustments_in = kept.0; numbers_in = λ k d l. absurd (omega arith) })
-      days_are.ascend assets_are.ascend labels_are.once bars_are.ascend kept.1
+  made xs kept = is_world days assets labels.rows labels.texts bars are xs kept.0 kept.1 numbers
 
   seen : (xs ys : List ColumnAdjustment) → PickedAlike xs ys → SeenInAll (whole xs) (whole ys)
   seen xs ys alike =
@@ -49,9 +41,9 @@ module _ (days : List ℤ) (assets : List AssetRow) (labels : LabelTable) (bars 
         days = refl;
         bars = λ a c s. refl;
         changes = λ a c bar low high.
-            ap (effects_in c bar low high) (parts_events days assets labels.rows labels.texts bars xs numbers assets_are.ascend a)
+            ap (effects_in c bar low high) (parts_events days assets labels.rows labels.texts bars xs numbers are.sids_up a)
             ∙ alike (λ n. sid_at assets n == a) c bar low high
-            ∙ sym (ap (effects_in c bar low high) (parts_events days assets labels.rows labels.texts bars ys numbers assets_are.ascend a));
+            ∙ sym (ap (effects_in c bar low high) (parts_events days assets labels.rows labels.texts bars ys numbers are.sids_up a));
         lifetimes = λ a s. refl;
         labels = λ name a s. refl;
         numbers = λ name a day. refl;
@@ -68,15 +60,13 @@ pub revisions-in-any-order : RevisionsInAnyOrder
 revisions-in-any-order files days assets labels bars are records others m old xs cols e =
     let days_are = AreDays-read files.sessions days are.days_read in
     let assets_are = AreAssets-read files.assets assets are.assets_read in
-    let bars_are = AreBars-read days assets files.bars bars days_are.few are.bars_read in
-    let inside = AreInside-read days assets files.bars bars are.bars_read in
-    let labels_are = AreRead-labels assets files.labels labels are.labels_read in
+    let parts_are = AreParts-read files days assets labels bars are in
     let it = others-read days assets days_are assets_are records others m old xs e in
     let first = kept-revised days assets days_are assets_are records old xs cols e in
     let second = kept-revised days assets days_are assets_are others old it.0 cols it.1 in (
       it.0,
       it.1,
       λ numbers.
-          let is = made days assets labels bars days_are assets_are bars_are labels_are inside.cols inside.sessions numbers in
-          same days assets labels bars days_are assets_are bars_are labels_are inside.cols inside.sessions numbers xs it.0 (is xs first) (is it.0 second) it.2,
+          let is = made days assets labels bars parts_are numbers in
+          same days assets labels bars parts_are numbers xs it.0 (is xs first) (is it.0 second) it.2,
     )

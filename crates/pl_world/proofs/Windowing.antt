@@ -3,10 +3,12 @@ use Rattle.std.proofs.Common.{◌≡◌, ℕ, zero, suc, ◌+◌, ◌-◌, ◌<�
 use Rattle.std.specs.List.{range_with_len}
 use Rattle.std.proofs.lemmas.List.{take_more, take_all, map-append}
 use Rattle.std.proofs.lemmas.List.FromFn.{map-range_with_len_more}
-use Rattle.std.proofs.lemmas.List.Sums.{sum_by-cons, sum_by-append}
+use Rattle.std.proofs.lemmas.List.Sums.{sum_by_push}
 use Rattle.std.proofs.lemmas.List.Elements.{All-append}
 use Rattle.pl_spec.specs.declared.AssetRow.{AssetRow}
 use Rattle.pl_spec.specs.Window.{downward}
+use Rattle.pl_spec.proofs.Ranges.{range-more}
+use Rattle.pl_cross.proofs.Centers.{sum-map}
 use Rattle.pl_values.specs.Arrays.{window_up_to}
 
 -- the sessions up to one by how many ago, and by number
@@ -20,28 +22,11 @@ up-to f (suc size) s h =
     ∙ ap (λ k. f (s + 1 - suc size) ∷ map f (range_with_len k size)) next
 
 sum-up-to : (f : ℕ → ℕ) (size s : ℕ) → size ≤ s + 1 → sum_by (λ n. f (s - n)) (downward size) ≡ sum_by f (range_with_len (s + 1 - size) size)
-sum-up-to f zero s h = refl
-sum-up-to f (suc size) s h =
-    let first : s - size ≡ s + 1 - suc size = omega arith in
-    let next : s + 1 - size ≡ (s + 1 - suc size) + 1 = omega arith in
-    sum_by-cons (λ n. f (s - n)) size (downward size)
-    ∙ ap (λ k. f (s - size) + k) (sum-up-to f size s (omega arith))
-    ∙ ap (λ k. f k + sum_by f (range_with_len (s + 1 - size) size)) first
-    ∙ ap (λ k. f (s + 1 - suc size) + sum_by f (range_with_len k size)) next
-    ∙ sym (sum_by-cons f (s + 1 - suc size) (range_with_len ((s + 1 - suc size) + 1) size))
+sum-up-to f size s h =
+    sym (sum-map (λ n. n) (λ n. f (s - n)) (downward size)) ∙ ap (sum_by (λ n. n)) (up-to f size s h) ∙ sum-map (λ n. n) f (range_with_len (s + 1 - size) size)
 
 sum-range-more : (f : ℕ → ℕ) (first n : ℕ) → sum_by f (range_with_len first (n + 1)) ≡ sum_by f (range_with_len first n) + f (first + n)
-sum-range-more f first zero =
-    let one = sum_by-cons f first [] in
-    let z : first + 0 ≡ first = omega arith in
-    one ∙ (let q : f first + 0 ≡ 0 + f first = omega arith in q) ∙ ap (λ k. 0 + f k) (sym z)
-sum-range-more f first (suc n) =
-    let rest = sum-range-more f (first + 1) n in
-    let a = sum_by-cons f first (range_with_len (first + 1) (n + 1)) in
-    let b = sum_by-cons f first (range_with_len (first + 1) n) in
-    let z : f (first + 1 + n) ≡ f (first + suc n) = ap f (let q : first + 1 + n ≡ first + suc n = omega arith in q) in
-    ap (λ k. sum_by f (range_with_len first k)) (let q : suc n + 1 ≡ suc (n + 1) = omega arith in q) ∙ a ∙ ap (λ k. f first + k) rest ∙ (let q : f first + (sum_by f (range_with_len (first + 1) n) + f (first + 1 + n)) ≡ (f first + sum_by f (range_with_len (first + 1) n)) + f (first + 1 + n) = omega arith in q)
-    ∙ ap (λ k. k + f (first + 1 + n)) (sym b) ∙ ap (λ k. sum_by f (range_with_len first (suc n)) + k) z
+sum-range-more f first n = ap (sum_by f) (range-more first n) ∙ sum_by_push f (range_with_len first n) (first + n)
 
 -- one cell more
 pub all-more : (P : ℤ → Type 0) (xs new : List ℤ) (x : ℤ) → new ≡ xs ++ x ∷ [] → All P xs → P x → All P new
@@ -89,11 +74,9 @@ module _ (f : AssetRow → ℤ) (g : AssetRow → ℕ) (assets : List AssetRow) 
 
   pub row-steps-more : (old now new : ℕ) → now ≡ old + sum_by g (take i assets) → new ≡ now + g (get_or assets i d) → new ≡ old + sum_by g (take (i + 1) assets)
   row-steps-more old now new so_far is =
-      let t : sum_by g (take (i + 1) assets) ≡ sum_by g (take i assets ++ get_or assets i d ∷ []) = ap (sum_by g) (take_more assets i d inside) in
-      let a = sum_by-append g (take i assets) (get_or assets i d ∷ []) in
-      let c : sum_by g (get_or assets i d ∷ []) ≡ g (get_or assets i d) + sum_by g [] = sum_by-cons g (get_or assets i d) [] in
-      let z : sum_by g [] ≡ 0 = refl in
-      omega (arith, so_far, is, t, a, c, z)
+      let more : sum_by g (take (i + 1) assets) ≡ sum_by g (take i assets) + g (get_or assets i d) =
+      ap (sum_by g) (take_more assets i d inside) ∙ sum_by_push g (take i assets) (get_or assets i d) in
+      omega (arith, so_far, is, more)
 
 pub row-all : (f : AssetRow → ℤ) (assets : List AssetRow) (i : ℕ) (xs : List ℤ) → length assets ≤ i → xs ≡ map f (take i assets) → xs ≡ map f assets
 row-all f assets i xs h e = e ∙ ap (map f) (take_all i assets h)

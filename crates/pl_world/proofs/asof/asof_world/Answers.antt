@@ -9,8 +9,8 @@ overflow_add-session c =
     let few : c.args.session + 1 < 2 ^ 64 = omega (arith, c.requires.within, c.day-day.ensures.few) in
     search rules
 
-pub returns-clause-known : goal.returns-clause-known
-returns-clause-known c =
+pub returns : goal.returns
+returns c =
     let fits : FitsSigned w32 c.day-day.result = search rules in
     let parts : OwnedWorld = record { sessions = c.in_ok-sessions.sessions; assets = c.in_ok-assets.assets; labels = c.in_ok-labels.labels; bars = c.in_ok-bars.bars; adjustments = c.in_ok-adjustments.adjustments; numbers = c.in_ok-numbers.numbers } in
     let cut : AreCut c.args.world.now c.args.session c.day-day.result parts = record {
@@ -23,36 +23,8 @@ returns-clause-known c =
       adjustments = simp to_z-of_z at c.in_ok-adjustments.ensures;
       numbers = simp to_z-of_z at c.in_ok-numbers.ensures.rows;
     } in
-    is_known c.args.world.now c.args.session c.day-day.result parts cut c.parts_make_a_world.ensures
-
-pub returns-clause-made : goal.returns-clause-made
-returns-clause-made c =
-    let fits : FitsSigned w32 c.day-day.result = search rules in
-    let parts : OwnedWorld = record { sessions = c.in_ok-sessions.sessions; assets = c.in_ok-assets.assets; labels = c.in_ok-labels.labels; bars = c.in_ok-bars.bars; adjustments = c.in_ok-adjustments.adjustments; numbers = c.in_ok-numbers.numbers } in
-    let cut : AreCut c.args.world.now c.args.session c.day-day.result parts = record {
-      is_day = c.day-day.ensures.exact;
-      sessions = c.in_ok-sessions.ensures;
-      assets = c.in_ok-assets.ensures;
-      labels = simp to_z-of_z at c.in_ok-labels.ensures.rows;
-      texts = c.in_ok-labels.ensures.texts;
-      bars = c.in_ok-bars.ensures;
-      adjustments = simp to_z-of_z at c.in_ok-adjustments.ensures;
-      numbers = simp to_z-of_z at c.in_ok-numbers.ensures.rows;
-    } in
-    is_owned c.args.world.now c.args.session c.day-day.result parts cut c.parts_make_a_world.ensures
-
-pub returns-clause-same : goal.returns-clause-same
-returns-clause-same c =
-    let fits : FitsSigned w32 c.day-day.result = search rules in
-    let parts : OwnedWorld = record { sessions = c.in_ok-sessions.sessions; assets = c.in_ok-assets.assets; labels = c.in_ok-labels.labels; bars = c.in_ok-bars.bars; adjustments = c.in_ok-adjustments.adjustments; numbers = c.in_ok-numbers.numbers } in
-    let cut : AreCut c.args.world.now c.args.session c.day-day.result parts = record {
-      is_day = c.day-day.ensures.exact;
-      sessions = c.in_ok-sessions.ensures;
-      assets = c.in_ok-assets.ensures;
-      labels = simp to_z-of_z at c.in_ok-labels.ensures.rows;
-      texts = c.in_ok-labels.ensures.texts;
-      bars = c.in_ok-bars.ensures;
-      adjustments = simp to_z-of_z at c.in_ok-adjustments.ensures;
-      numbers = simp to_z-of_z at c.in_ok-numbers.ensures.rows;
-    } in
-    shows_same c.args.world.now c.args.session c.day-day.result parts cut c.parts_make_a_world.ensures
+    record {
+      known = is_known c.args.world.now c.args.session c.day-day.result parts cut c.parts_make_a_world.ensures;
+      made = is_owned c.args.world.now c.args.session c.day-day.result parts cut c.parts_make_a_world.ensures;
+      same = shows_same c.args.world.now c.args.session c.day-day.result parts cut c.parts_make_a_world.ensures;
+    }
