@@ -20,6 +20,7 @@ use Rattle.pl_pipeline.specs.Term.{Term}
 use Rattle.pl_pipeline.specs.Term.Term.{absent, column, node}
 use Rattle.pl_pipeline.specs.Value.{Meaning, part_of, number_of, operands_of, value}
 use Rattle.pl_pipeline.proofs.SameOperands.{SamePart, SameReads, passes_alike, step_alike}
+use Rattle.pl_spec.proofs.Each.{Each, each_known}
 use Rattle.pl_spec.proofs.Lists.{filter-filter}
 use Rattle.pl_spec.proofs.Windows.{before-less}
 
@@ -33,39 +34,28 @@ before_below s n d h = omega (arith, ints)
 
 -- ---- ascending lists
 
-AllAbove : ℕ → List ℕ → Type 0
-AllAbove x [] = Unit {0}
-AllAbove x (y ∷ ys) = (x < y) × AllAbove x ys
+abbrev AllAbove : ℕ → List ℕ → Type 0
+AllAbove x ys = Each (λ y. x < y) ys
 
 Rising : List ℕ → Type 0
-unfolding AllAbove
 Rising [] = Unit {0}
 Rising (x ∷ xs) = AllAbove x xs × Rising xs
 
 abbrev is_in : ℕ → List ℕ → Bool
 is_in a xs = list_any (λ x. x == a) xs
 
--- what stands in a rising list after x is above x
-above : (x a : ℕ) (ys : List ℕ) → AllAbove x ys → is_in a ys ≡ true → x < a
-unfolding AllAbove
-above x a [] all e = absurd (true≢false (sym e))
-above x a (y ∷ ys) all e = elim (or_cases (y == a) (is_in a ys) e) [
-  | inl here ↦ let same : y ≡ a = eqb-true y a here in let y_above : x < y = all.0 in omega arith
-  | inr there ↦ above x a ys all.1 there
-]
-
 in_front : (x : ℕ) (xs : List ℕ) → is_in x (x ∷ xs) ≡ true
 in_front x xs = or_left (x == x) (is_in x xs) (eq-eqb x x refl)
 
 not_behind : (x : ℕ) (xs : List ℕ) → AllAbove x xs → is_in x xs ≡ false
-not_behind x xs all = false_from_ne_true (is_in x xs) (λ e. let bad : x < x = above x x xs all e in omega arith)
+not_behind x xs all = false_from_ne_true (is_in x xs) (λ e. let bad : x < x = each_known (λ y. x < y) xs x all e in omega arith)
 
 same_front : (x y : ℕ) (xs ys : List ℕ) → AllAbove x xs → AllAbove y ys → ((a : ℕ) → is_in a (x ∷ xs) ≡ is_in a (y ∷ ys)) → x ≡ y
 same_front x y xs ys p q same = elim (or_cases (y == x) (is_in x ys) (sym (same x) ∙ in_front x xs)) [
   | inl e ↦ sym (eqb-true y x e)
   | inr e ↦ elim (or_cases (x == y) (is_in y xs) (same y ∙ in_front y ys)) [
     | inl f ↦ eqb-true x y f
-    | inr f ↦ let a : y < x = above y x ys q e in let b : x < y = above x y xs p f in absurd (omega arith)
+    | inr f ↦ let a : y < x = each_known (λ z. y < z) ys x q e in let b : x < y = each_known (λ z. x < z) xs y p f in absurd (omega arith)
   ]
 ]
 
@@ -94,7 +84,6 @@ rising_is_one (x ∷ xs) (y ∷ ys) p q same =
     ]
 
 sids_above : (x : ℕ) (rows : List AssetRow) → All (λ a. x < a.sid) rows → AllAbove x (map (λ a. a.sid) rows)
-unfolding AllAbove
 sids_above x [] h = tt
 sids_above x (a ∷ rows) h = (h 0 a (omega arith), sids_above x rows (λ k d l. h (suc k) d (omega arith)))
 

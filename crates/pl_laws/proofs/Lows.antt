@@ -82,7 +82,7 @@ part-rises (column c) f up size d e h = omega (arith, ints)
 part-rises (node k n x y z m g) f up size d e h = least-rises _ _ d e (windows-rise f up d e h size) h
 
 -- the reaches of a node's places
-abbrev reaches_of : List ℤ → Kind → ℕ → Term → Term → Term → Term → Term → ℤ → List ℤ
+abbrev pub reaches_of : List ℤ → Kind → ℕ → Term → Term → Term → Term → Term → ℤ → List ℤ
 reaches_of days k size x y z m g d =
     part_reach x (reach days x) size (reads_at days k d) ∷ part_reach y (reach days y) size (reads_at days k d) ∷ part_reach z (reach days z) size (reads_at days k d)
     ∷ part_reach m (reach days m) 1 d ∷ part_reach g (reach days g) 1 d ∷ []
@@ -143,21 +143,24 @@ among low f (j ∷ ks) all k e = elim (or_cases (j == k) (list_any (λ x. x == k
   | inr there ↦ among low f ks all.1 k there
 ]
 
--- a node reaches no later than what it reads
-module _ (days : List ℤ) (g : Graph) (ok : IsGraph g) (wide : (k : ℕ) (n : Node) → slice_get g k ≡ Some n → 1 ≤ n.window) where
-  places : (u : ℕ) (n : Node) (s low : ℤ) → slice_get g u ≡ Some n → low ≤ℤ reach days (term_at g u) s
-      → (low ≤ℤ s) × AllFrom low (reaches_of days n.kind n.window (input_tree (trees g) (slice_get n.inputs 0)) (input_tree (trees g) (slice_get n.inputs 1))
-      (input_tree (trees g) (slice_get n.inputs 2)) (number_tree (trees g) n.mask) (number_tree (trees g) n.group) s)
-  unfolding reach
-  places u n s low at h =
-      below_least low s (reaches_of days n.kind n.window (input_tree (trees g) (slice_get n.inputs 0)) (input_tree (trees g) (slice_get n.inputs 1))
-      (input_tree (trees g) (slice_get n.inputs 2)) (number_tree (trees g) n.mask) (number_tree (trees g) n.group) s) (rw (term_at-node g u n ok at) at h)
+-- those of a node of a graph
+abbrev pub reaches_at : List ℤ → Graph → Node → ℤ → List ℤ
+reaches_at days g n s =
+    reaches_of days n.kind n.window (input_tree (trees g) (slice_get n.inputs 0)) (input_tree (trees g) (slice_get n.inputs 1))
+    (input_tree (trees g) (slice_get n.inputs 2)) (number_tree (trees g) n.mask) (number_tree (trees g) n.group) s
 
+-- a node reaches no later than what it reads
+pub places : (days : List ℤ) (g : Graph) → IsGraph g → (u : ℕ) (n : Node) (s low : ℤ) → slice_get g u ≡ Some n → low ≤ℤ reach days (term_at g u) s
+    → (low ≤ℤ s) × AllFrom low (reaches_at days g n s)
+unfolding reach
+places days g ok u n s low at h = below_least low s (reaches_at days g n s) (rw (term_at-node g u n ok at) at h)
+
+module _ (days : List ℤ) (g : Graph) (ok : IsGraph g) (wide : (k : ℕ) (n : Node) → slice_get g k ≡ Some n → 1 ≤ n.window) where
   place : (u : ℕ) (n : Node) (s low : ℤ) → slice_get g u ≡ Some n → low ≤ℤ reach days (term_at g u) s → (i : ℕ) → i < 3
       → low ≤ℤ part_reach (input_tree (trees g) (slice_get n.inputs i)) (reach days (input_tree (trees g) (slice_get n.inputs i))) n.window (reads_at days n.kind s)
-  place u n s low at h zero l = (places u n s low at h).1.0
-  place u n s low at h (suc zero) l = (places u n s low at h).1.1.0
-  place u n s low at h (suc (suc zero)) l = (places u n s low at h).1.1.1.0
+  place u n s low at h zero l = (places days g ok u n s low at h).1.0
+  place u n s low at h (suc zero) l = (places days g ok u n s low at h).1.1.0
+  place u n s low at h (suc (suc zero)) l = (places days g ok u n s low at h).1.1.1.0
   place u n s low at h (suc (suc (suc i))) l = absurd (omega arith)
 
   node_over : (k : Kind) (m : ℕ) (x y z p q : Term) (size : ℕ) (s low : ℤ) → 1 ≤ size → low ≤ℤ part_reach (node k m x y z p q) (reach days (node k m x y z p q)) size s
@@ -185,13 +188,13 @@ module _ (days : List ℤ) (g : Graph) (ok : IsGraph g) (wide : (k : ℕ) (n : N
   read-later u t n s r low at (Reads.mask at_m) h =
       let lower : t < u = (ok.lower u n at).mask t at_m in
       let there : u < length g = slice_get_within g u n at in
-      let p = rw at_m at (places u n s low at h).1.1.1.1.0 in
+      let p = rw at_m at (places days g ok u n s low at h).1.1.1.1.0 in
       let q : low ≤ℤ reach days (term_at g t) (before s 0) = over t (omega arith) 1 s low (omega arith) p in
       rw (before-zero s) at q
   read-later u t n s r low at (Reads.group at_p) h =
       let lower : t < u = (ok.lower u n at).group t at_p in
       let there : u < length g = slice_get_within g u n at in
-      let p = rw at_p at (places u n s low at h).1.1.1.1.1.0 in
+      let p = rw at_p at (places days g ok u n s low at h).1.1.1.1.1.0 in
       let q : low ≤ℤ reach days (term_at g t) (before s 0) = over t (omega arith) 1 s low (omega arith) p in
       rw (before-zero s) at q
 
@@ -361,18 +364,13 @@ module _ (days : List ℤ) (rise : AllPairs (λ a b. a <ℤ b) days) (g : Graph)
             | inr other ↦ of_other u s low (h u refl).1 (r ∙ other ∙ ap (reach_of u) (before-zero s))
           ]
 
-      abbrev parts : List ℤ
-      parts =
-          reaches_of days n.kind n.window (input_tree (trees g) (slice_get n.inputs 0)) (input_tree (trees g) (slice_get n.inputs 1))
-          (input_tree (trees g) (slice_get n.inputs 2)) (number_tree (trees g) n.mask) (number_tree (trees g) n.group) s
-
-      reach-is : reach_of t s ≡ least_of parts s
+      reach-is : reach_of t s ≡ least_of (reaches_at days g n s) s
       unfolding reach
       reach-is = rw (term_at-node g t n ok at) refl
 
       node_met : Met (reach_of t s)
       unfolding Among
-      node_met = elim (least_among parts s) [
+      node_met = elim (least_among (reaches_at days g n s) s) [
         | inl e ↦ of_start (let l : s ≤ℤ reach_of t s = is_at_least (reach-is ∙ e) in let m : start ≤ℤ s = reads_at-within days n.kind s in omega (arith, ints, l, m))
         | inr (inl e) ↦ of_place 0 (slice_get n.inputs 0) refl (reach-is ∙ e)
         | inr (inr (inl e)) ↦ of_place 1 (slice_get n.inputs 1) refl (reach-is ∙ e)

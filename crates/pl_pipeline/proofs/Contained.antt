@@ -2,6 +2,7 @@
 use Rattle.std.proofs.Common.{◌≡◌, ◌≢◌, ℕ, zero, suc, ◌<◌, ◌==◌, ◌||◌, Bool, true, false, cond, List, [], ◌∷◌, ◌++◌, Some, Option, slice_get, option_to_list, filter_map, refl, sym, ◌∙◌, ap, arith, inl, inr}
 use Rattle.std.proofs.lemmas.Bool.{or_cases, or_left, or_right, eqb-true, eq-eqb, true≢false}
 use Rattle.std.proofs.lemmas.List.Folds.{list_any-append}
+use Rattle.std.proofs.Math.Bool.{or-false}
 use Rattle.pl_pipeline.specs.Term.{Input, Graph}
 use Rattle.pl_pipeline.specs.Term.Input.{BarColumn, TermInput}
 use Rattle.pl_pipeline.specs.Graph.{contains, input_number, mentions_at, used_below}
@@ -13,11 +14,7 @@ pub in-back : (xs ys : List ℕ) (k : ℕ) → contains ys k ≡ true → contai
 in-back xs ys k h = list_any-append (λ x. x == k) xs ys ∙ or_right (contains xs k) (contains ys k) h
 
 pub not-in-back : (xs ys : List ℕ) (k : ℕ) → contains ys k ≡ false → contains (xs ++ ys) k ≡ contains xs k
-not-in-back xs ys k h = list_any-append (λ x. x == k) xs ys ∙ ap (λ b. contains xs k || b) h ∙ or_false (contains xs k)
-  where
-    or_false : (b : Bool) → (b || false) ≡ b
-    or_false true = refl
-    or_false false = refl
+not-in-back xs ys k h = list_any-append (λ x. x == k) xs ys ∙ ap (λ b. contains xs k || b) h ∙ or-false (contains xs k)
 
 pub alone-in : (n : ℕ) → contains (n ∷ []) n ≡ true
 alone-in n = or_left (n == n) false (eq-eqb n n refl)

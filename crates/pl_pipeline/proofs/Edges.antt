@@ -22,11 +22,10 @@ use Rattle.pl_spec.proofs.Signed.{le-int_le}
 -- ---- edges
 
 -- the point r / n of the way from the value at place i to the next
-between : List ℤ → ℕ → ℕ → ℕ → ℤ
+abbrev pub between : List ℤ → ℕ → ℕ → ℕ → ℤ
 between vs n i r = (value_at vs i *ℤ pos (n - r)) +ℤ (value_at vs (i + 1) *ℤ pos r)
 
-edge-between : (vs : List ℤ) (n i r : ℕ) → r < n → edge vs (i * n + r) n ≡ between vs n i r
-unfolding between
+pub edge-between : (vs : List ℤ) (n i r : ℕ) → r < n → edge vs (i * n + r) n ≡ between vs n i r
 edge-between vs n i r h =
     let whole : (i * n + r) / n ≡ i = div-mul-add i n r h in
     let rest : (i * n + r) - (i * n + r) / n * n ≡ r = ap (λ k. (i * n + r) - k * n) whole ∙ omega arith in
@@ -50,7 +49,6 @@ le_same : (x y x' y' : ℤ) → x ≡ x' → y ≡ y' → x' ≤ℤ y' → x ≤
 le_same x y x' y' e f h = omega (arith, ints)
 
 edge-step : (vs : List ℤ) (n i r : ℕ) → r < n → value_at vs i ≤ℤ value_at vs (i + 1) → edge vs (i * n + r) n ≤ℤ edge vs (suc (i * n + r)) n
-unfolding between
 edge-step vs n i r h le = elim (cases_lt (suc r) n) [
   | inl lt ↦
       let same_place : suc (i * n + r) ≡ i * n + suc r = omega arith in
@@ -223,8 +221,7 @@ le-greatest vs x i h = by_lt_z (value_at vs (length vs - 1)) x
     (λ l. absurd (omega (arith, at_most-below (value_at vs (length vs - 1)) x vs l, (value_at-counted vs (length vs - 1) (omega arith)).many, below-fewer x vs i))) (λ l. l)
 
 -- the edge on the value at place i
-edge-on : (vs : List ℤ) (n i p : ℕ) → 0 < n → p ≡ i * n + 0 → edge vs p n ≡ value_at vs i *ℤ pos n
-unfolding between
+pub edge-on : (vs : List ℤ) (n i p : ℕ) → 0 < n → p ≡ i * n + 0 → edge vs p n ≡ value_at vs i *ℤ pos n
 edge-on vs n i p h e =
     let all : n - 0 ≡ n = omega arith in
     ap (λ q. edge vs q n) e ∙ edge-between vs n i 0 h ∙ on_one (value_at vs i) (value_at vs (i + 1)) n (n - 0) all

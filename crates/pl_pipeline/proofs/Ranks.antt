@@ -3,6 +3,7 @@ use Rattle.std.proofs.Common.{◌≡◌, ℕ, ◌+◌, ◌≤◌, Bool, true, fa
 use Rattle.std.specs.List.{Contains, list_any}
 use Rattle.std.specs.Int.RustNames.{int_lt}
 use Rattle.std.specs.Ordering.{int_eq}
+use Rattle.std.proofs.lemmas.Bool.{and_right}
 use Rattle.std.proofs.lemmas.Bool.Decides.{nat_tests}
 use Rattle.std.proofs.lemmas.Int.{ints}
 use Rattle.std.specs.Cmp.{first_so}
@@ -22,12 +23,8 @@ earlier-fewer a x list c =
     let self : nat_lt a a ≡ false = grind (arith, nat_tests) in
     let one : int_eq x x ≡ true = grind (arith, ints) in
     let fewer = count-fewer (λ (e : Entry). int_eq x e.1 && nat_lt e.0 a) (λ (e : Entry). int_eq x e.1) list (a, x) (contains-in list (a, x) c)
-    (both_false (int_eq x x) (nat_lt a a) self) one (λ e i. first_so (int_eq x e.1) (nat_lt e.0 a)) in
+    (and_right (int_eq x x) (nat_lt a a) self) one (λ e i. first_so (int_eq x e.1) (nat_lt e.0 a)) in
     omega (arith, fewer, count-map (int_eq x) (λ (e : Entry). e.1) list)
-  where
-    both_false : (b c : Bool) → c ≡ false → (b && c) ≡ false
-    both_false true c f = f
-    both_false false c f = refl
 
 cond-le : (b : Bool) (n m : ℕ) → n ≤ m → n ≤ cond b 1 0 + m
 cond-le true n m h = omega arith

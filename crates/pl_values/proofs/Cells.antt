@@ -1,5 +1,6 @@
 -- The cell of a term is what its kind gives where the asset is kept, and the empty one elsewhere.
 use Rattle.std.proofs.Common.{◌≡◌, ℕ, Bool, true, false, ◌&&◌, if◌then◌else◌, ℤ, pos, List, Option, Some, None, refl, sym, ◌∙◌, ap, slice_get}
+use Rattle.std.proofs.Math.Bool.{and-true}
 use Rattle.pl_spec.specs.World.{World, exists}
 use Rattle.pl_spec.specs.Cells.{is_true}
 use Rattle.pl_pipeline.specs.Term.{Node, input_tree, trees}
@@ -31,11 +32,7 @@ module _ (w : World) (p : Pipeline) (sids : List ℕ) (ok : IsChecked p) where
 
     passes_is : (mask : Option ℕ) → ((m : ℕ) → mask ≡ Some m → sort_at p.graph m ≡ Some Filters)
         → (exists w a (pos s) && passes (number_part w p.names p.graph mask) a (pos s)) ≡ is_kept w p sids mask i s
-    passes_is None h = and_true (exists w a (pos s))
-      where
-        and_true : (b : Bool) → (b && true) ≡ b
-        and_true true = refl
-        and_true false = refl
+    passes_is None h = and-true (exists w a (pos s))
     passes_is (Some m) h = ap (λ x. exists w a (pos s) && is_true x) (cell-number m (numbered-sort w p ok m Filters (h m refl) (λ e. let bad : Filters ≡ Labels = e in cc)) i s)
 
     pub keeps-is : (exists w a (pos s) && passes (number_part w p.names p.graph n.mask) a (pos s)) ≡ is_kept w p sids n.mask i s

@@ -1,5 +1,5 @@
 -- What a term reads may be asked for where the term may.
-use Rattle.std.proofs.Common.{◌≡◌, ℕ, zero, suc, ◌+◌, ◌-◌, ◌<◌, ◌≤◌, true, false, ℤ, pos, negsuc, ◌≤ℤ◌, List, [], ◌∷◌, map, length, Option, Some, None, option_map, slice_get, refl, sym, ◌∙◌, ap, subst, arith}
+use Rattle.std.proofs.Common.{◌≡◌, ℕ, zero, suc, ◌+◌, ◌-◌, ◌<◌, ◌≤◌, true, false, ℤ, pos, negsuc, ◌≤ℤ◌, List, map, length, Option, Some, None, option_map, slice_get, refl, sym, ◌∙◌, ap, subst, arith}
 use Rattle.std.proofs.lemmas.Int.{ints}
 use Rattle.std.proofs.lemmas.Bool.Decides.{nat_tests}
 use Rattle.std.proofs.lemmas.Option.{slice_get-map}
@@ -18,7 +18,7 @@ use Rattle.pl_terms.specs.declared.node.Input.TheVariants as input
 use Rattle.pl_terms.specs.declared.node.Node.{Node}
 use Rattle.pl_spec.specs.declared.Frequency.{Frequency}
 use Rattle.pl_spec.specs.Periods.{period_start}
-use Rattle.pl_laws.proofs.Lows.{reach-rises, reads_at-within}
+use Rattle.pl_laws.proofs.Lows.{places, reach-rises, reads_at-within}
 use Rattle.pl_laws.proofs.Reaches.{below_least, at_downward}
 use Rattle.pl_terms.specs.Kinds.{kind_of}
 use Rattle.pl_terms.specs.Nodes.{node_of, graph_of, input_of, number_of}
@@ -42,28 +42,16 @@ record Reaches (days : List ℤ) (g : Graph) (m : spec.Node) (s d : ℤ) : Type 
   mask : pos 0 ≤ℤ part_reach (number_tree (trees g) m.mask) (reach days (number_tree (trees g) m.mask)) 1 d
   group : pos 0 ≤ℤ part_reach (number_tree (trees g) m.group) (reach days (number_tree (trees g) m.group)) 1 d
 
-abbrev reach_list : List ℤ → Graph → spec.Node → ℤ → ℤ → List ℤ
-reach_list days g m s d =
-    part_reach (input_tree (trees g) (slice_get m.inputs 0)) (reach days (input_tree (trees g) (slice_get m.inputs 0))) m.window s
-    ∷ part_reach (input_tree (trees g) (slice_get m.inputs 1)) (reach days (input_tree (trees g) (slice_get m.inputs 1))) m.window s
-    ∷ part_reach (input_tree (trees g) (slice_get m.inputs 2)) (reach days (input_tree (trees g) (slice_get m.inputs 2))) m.window s
-    ∷ part_reach (number_tree (trees g) m.mask) (reach days (number_tree (trees g) m.mask)) 1 d
-    ∷ part_reach (number_tree (trees g) m.group) (reach days (number_tree (trees g) m.group)) 1 d
-    ∷ []
-
 reaches-of : (days : List ℤ) (g : Graph) (t : ℕ) (m : spec.Node) (d : ℤ) → IsGraph g → slice_get g t ≡ Some m → pos 0 ≤ℤ reach days (term_at g t) d → Reaches days g m (reads_at days m.kind d) d
-unfolding reach
 reaches-of days g t m d ok e h =
-    let tree = subst (λ x. pos 0 ≤ℤ reach days x d) (term_at-node g t m ok e) h in
-    let all = below_least (pos 0) d (reach_list days g m (reads_at days m.kind d) d) tree in
+    let all = places days g ok t m d (pos 0) e h in
     record { own = all.0; first = all.1.0; second = all.1.1.0; third = all.1.1.1.0; mask = all.1.1.1.1.0; group = all.1.1.1.1.1.0 }
 
 part-node : (g : Graph) (u size : ℕ) (m : spec.Node) (f : ℤ → ℤ) (d : ℤ) → IsGraph g → slice_get g u ≡ Some m → part_reach (term_at g u) f size d ≡ least_of (map (λ i. f (before d i)) (downward size)) d
 part-node g u size m f d ok e = rw (term_at-node g u m ok e) refl
 
 own-low : (days : List ℤ) (g : Graph) (u : ℕ) (m : spec.Node) (d : ℤ) → IsGraph g → slice_get g u ≡ Some m → pos 0 ≤ℤ reach days (term_at g u) d → pos 0 ≤ℤ d
-unfolding reach
-own-low days g u m d ok e h = (below_least (pos 0) d (reach_list days g m (reads_at days m.kind d) d) (subst (λ x. pos 0 ≤ℤ reach days x d) (term_at-node g u m ok e) h)).0
+own-low days g u m d ok e h = (places days g ok u m d (pos 0) e h).0
 
 pub inputs-at : (n : Node) (j : ℕ) → slice_get (node_of n).inputs j ≡ option_map input_of (slice_get n.inputs j)
 unfolding node_of
@@ -202,13 +190,6 @@ module _ (w : World) (c : Parts) (ok : IsChecked (pipeline_of c)) (t session : �
     pub group-asked : IsAskedOption w c n.group session
     unfolding node_of
     group-asked = option-asked n.group low-group reaches.group
-
-    pub mask-input-asked : IsAskedInput w c (as_input n.mask) 1 session
-    mask-input-asked = here n.mask mask-asked
-      where
-        here : (o : Option TermId) → IsAskedOption w c o session → IsAskedInput w c (as_input o) 1 session
-        here None h = tt
-        here (Some u) h = (omega arith, λ k l. let e : session - k ≡ session = omega arith in subst (λ i. IsAsked w c u.0 i) (sym e) h)
 
     -- what is mentioned has a lower number
     pub input-below : (j : ℕ) → above (slice_get n.inputs j) ≤ t

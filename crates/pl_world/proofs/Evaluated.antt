@@ -81,11 +81,6 @@ module _ (c : Parts) (ok : IsChecked (pipeline_of c)) (t : ℕ) (n : Node) (is :
       here (Some (input.Column k)) y e asked = omega (arith, asked)
       here (Some (input.Term u)) y e asked = asked.0
 
--- a mask's value decides
-pub mask-passed : (w : World) (c : Parts) (m : Option TermId) (o : Option Input) (x : ℤ) (b r : Bool) (a s : ℕ) → o ≡ as_input m → x ≡ input_cell_in w c o a s → r ≡ lets_pass o x → r ≡ b
-    → lets_pass (as_input m) (input_cell_in w c (as_input m) a s) ≡ b
-mask-passed w c m o x b r a s e f g h = ap (λ i. lets_pass i (input_cell_in w c i a s)) (sym e) ∙ ap (lets_pass o) (sym f) ∙ sym g ∙ h
-
 pub not-windowed : (k : Kind) → (is_label_test k ≡ true) ⊎ (is_point k ≡ true) ⊎ (is_section k ≡ true) → is_windowed k ≡ false
 not-windowed (kinds.Window f) (inl e) = absurd (let bad : false ≡ true = e in cc)
 not-windowed (kinds.Window f) (inr (inl e)) = absurd (let bad : false ≡ true = e in cc)

@@ -2,6 +2,7 @@
 use Rattle.std.proofs.Common.{◌≡◌, ℕ, suc, ◌+◌, ◌<◌, Bool, true, false, ◌&&◌, ℤ, pos, List, [], ◌∷◌, ◌++◌, map, filter, length, length-append, inl, inr, get_or, Option, Some, None, option_map, slice_get, All, IfSome, refl, sym, ◌∙◌, ap, subst, arith}
 use Rattle.std.specs.List.{AllPairs}
 use Rattle.std.proofs.lemmas.Bool.{cases_lt}
+use Rattle.std.proofs.Math.Bool.{and-true}
 use Rattle.std.proofs.Math.ListN.{get_or-append}
 use Rattle.std.proofs.Math.Seq.{get_or-append_seam}
 use Rattle.std.proofs.lemmas.List.{get_or-map, length-map, ext_get_or}
@@ -89,10 +90,6 @@ module _ (w : World) (c : Parts) (ok : IsChecked (pipeline_of c)) (assets : AreA
         let long : length row ≡ length w.assets.now = ap (λ (l : List ℤ). length l) e ∙ row-long u in
         subst IsCell (ap (λ r. get_or r i (pos 0)) e ∙ row-cell u i l) (cells i (pos 0) (omega (arith, l, long)));
   }
-
-  and-true : (b : Bool) → (b && true) ≡ b
-  and-true true = refl
-  and-true false = refl
 
   kept-same : (o : Option TermId) (i : ℕ) → i < length w.assets.now → (exists (world_of w) (sid_at w.assets.now i) (pos s) && lets_pass_at (optional_row_in w c o s) i)
       ≡ is_kept (world_of w) (pipeline_of c) (sids_of w.assets.now) (option_map number_of o) i s
