@@ -1,10 +1,11 @@
 -- Rows that are read are those of the records, and the fault is the first.
-use Rattle.std.proofs.Common.{◌≡◌, ◌≢◌, Bool, true, false, bytes_eq, ℕ, zero, suc, ◌+◌, ◌<◌, ◌≤◌, ◌↔◌, List, [], ◌∷◌, ◌++◌, length, take, drop, Option, Some, None, IfSome, Result, Ok, Err, refl, sym, ◌∙◌, ap, arith, append_assoc, length-append, inl, inr, add-one}
+use Rattle.std.proofs.Common.{◌≡◌, ◌≢◌, Bool, true, false, bytes_eq, ℕ, zero, suc, ◌+◌, ◌<◌, ◌≤◌, ◌↔◌, nat_le, List, [], ◌∷◌, ◌++◌, length, take, drop, Option, Some, None, IfSome, Result, Ok, Err, refl, sym, ◌∙◌, ap, arith, append_assoc, length-append, inl, inr, add-one}
 use Rattle.std.specs.List.{slice_get}
 use Rattle.std.specs.Bool.{Decides, if◌then◌else◌}
 use Rattle.std.proofs.lemmas.Slice.Eq.{bytes_eq-Decides}
 use lib.Pointwise.{pointwise, pointwise_decides}
 use Rattle.std.proofs.lemmas.Bool.{cases_lt}
+use Rattle.std.proofs.lemmas.Bool.Decides.{nat_tests}
 use Rattle.std.proofs.lemmas.List.{take-append-le, append-nil, take_all}
 use Rattle.std.proofs.lemmas.Option.{slice_get_within}
 use Rattle.std.proofs.Math.Seq.{take-append_seam}
@@ -267,6 +268,20 @@ under_ok {Row} {R} names bad says records rows e = here (has_header names record
         → (has_header names records ≡ true) × (rows_of 2 says (drop 1 records) ≡ Ok rows)
     here true t e = (t, e)
     here false t e = absurd (cc)
+
+-- one row more, where there is room
+pub few-more : {Row : Type 0} (most : ℕ) (before : List Row) (row : Row) → nat_le most (length before) ≡ false → length (before ++ row ∷ []) ≤ most
+few-more most before row t = let small : length before < most = grind (arith, nat_tests) in omega (arith, length-append before (row ∷ []))
+
+-- ---- what is made of rows that are read
+
+pub made-of : {A B E : Type 0} (f : A → B) (reading : Result A E) (y : B) → (reading >>= λ x. Ok (f x)) ≡ Ok y → (x : A) × (reading ≡ Ok x) × (f x ≡ y)
+made-of f (Ok x) y e = (x, refl, (let same : Ok (f x) ≡ Ok y = e in cc))
+made-of f (Err g) y e = absurd (let bad : Err g ≡ Ok y = e in cc)
+
+pub made-fault : {A B E : Type 0} (f : A → B) (reading : Result A E) (g : E) → ((reading >>= λ x. Ok (f x)) ≡ Err g) ↔ (reading ≡ Err g)
+made-fault f (Ok x) g = (λ e. absurd (let bad : Ok (f x) ≡ Err g = e in cc), λ e. absurd (let bad : Ok x ≡ Err g = e in cc))
+made-fault f (Err h) g = (λ e. (let same : Err h ≡ Err g = e in let it : h ≡ g = cc in ap Err it), λ e. (let same : Err h ≡ Err g = e in let it : h ≡ g = cc in ap Err it))
 
 -- ---- the exits of a judgement
 
