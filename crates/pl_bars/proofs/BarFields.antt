@@ -1,15 +1,14 @@
 -- The fields of a record, in plain words.
-use Rattle.std.proofs.Common.{◌≡◌, ◌↔◌, ℕ, zero, suc, ◌+◌, ◌==◌, ◌≤◌, ◌&&◌, not, nat_le, IsTrue, Bool, true, false, List, [], ◌∷◌, length, get_or, All, Option, Some, None, option_map, option_and_then, Result, Ok, Err, refl, ap, subst, sym, ◌∙◌, ℤ, pos, ◌<ℤ◌, arith, inl, inr}
+use Rattle.std.proofs.Common.{◌≡◌, ◌↔◌, ℕ, zero, suc, ◌+◌, ◌==◌, ◌≤◌, ◌&&◌, not, nat_le, IsTrue, Bool, true, false, List, [], ◌∷◌, length, get_or, All, Some, None, Result, Ok, Err, refl, ap, subst, sym, ◌∙◌, ℤ, pos, ◌<ℤ◌, arith, inl, inr, eq-eqb, eqb-true}
 use Rattle.std.specs.List.{list_any, slice_get}
 use Rattle.std.specs.Result.{result_ok}
 use Rattle.std.specs.Int.RustNames.{int_lt, int_le, unsigned_abs}
-use Rattle.std.specs.Bool.{if◌then◌else◌}
 use Rattle.std.proofs.lemmas.Int.{ints}
 use Rattle.std.proofs.lemmas.Bool.Decides.{nat_tests}
-use Rattle.std.proofs.lemmas.List.Folds.{list_any_at}
 use Rattle.std.proofs.lemmas.Option.{slice_get-get_or}
 use Rattle.pl_records.specs.Reading.{Record, field}
-use Rattle.pl_records.proofs.RuleTables.{and_then_some, map_some}
+use Rattle.pl_records.proofs.RuleTables.{when_some, and_then_some, map_some}
+use Rattle.pl_records.proofs.Sorts.{none-at}
 use Rattle.pl_spec.specs.Rounding.{MISSING, LIMIT, is_missing}
 use Rattle.pl_spec.specs.Dates.{date_in}
 use Rattle.pl_spec.specs.Decimals.{sid_in}
@@ -120,36 +119,28 @@ cells_in-AreCellTexts r (a ∷ b ∷ c ∷ d ∷ e ∷ f ∷ rest) n h = absurd 
 
 -- ---- all fields
 
-fields_said : Record → Option Fields
-fields_said r = option_and_then (λ sid. option_and_then (λ day. option_map (λ cells. record { sid = sid; day = day; cells = cells }) (cells_in r)) (date_in (field r 1))) (sid_in (field r 0))
-
 pub IsBarRecord-fields_in : (r : Record) (f : Fields) → fields_in r ≡ Some f → IsBarRecord r f
-unfolding fields_in fields_said
-IsBarRecord-fields_in r f e = here (length r == 7) refl e
-  where
-    here : (b : Bool) → (length r == 7) ≡ b → (if b then fields_said r else None) ≡ Some f → IsBarRecord r f
-    here false t e = absurd (let bad : None ≡ Some f = e in cc)
-    here true t e =
-        let s = and_then_some (sid_in (field r 0)) _ f e in
-        let d = and_then_some (date_in (field r 1)) _ f s.2 in
-        let c = map_some (cells_in r) (λ cells. record { sid = s.0; day = d.0; cells = cells }) f d.2 in
-        let n = decimal-sid_in (field r 0) s.0 s.1 in
-        let texts = AreCellTexts-cells_in r c.0 c.1 in
-        rw (← c.2) record {
-          seven = grind (arith, nat_tests);
-          small = n.0;
-          sid = n.1;
-          day = IsDate-date_in (field r 1) d.0 d.1;
-          five = texts.five;
-          cells = texts.each;
-        }
+unfolding fields_in
+IsBarRecord-fields_in r f e =
+    let it = when_some (length r == 7) _ f e in
+    let s = and_then_some (sid_in (field r 0)) _ f it.1 in
+    let d = and_then_some (date_in (field r 1)) _ f s.2 in
+    let c = map_some (cells_in r) (λ cells. record { sid = s.0; day = d.0; cells = cells }) f d.2 in
+    let n = decimal-sid_in (field r 0) s.0 s.1 in
+    let texts = AreCellTexts-cells_in r c.0 c.1 in
+    rw (← c.2) record {
+      seven = eqb-true (length r) 7 it.0;
+      small = n.0;
+      sid = n.1;
+      day = IsDate-date_in (field r 1) d.0 d.1;
+      five = texts.five;
+      cells = texts.each;
+    }
 
 pub fields_in-IsBarRecord : (r : Record) (f : Fields) → IsBarRecord r f → fields_in r ≡ Some f
 unfolding fields_in
 fields_in-IsBarRecord r f h =
-    let seven : length r ≡ 7 = h.seven in
-    let t : (length r == 7) ≡ true = grind (arith, nat_tests) in
-    rw (t, sid_in-decimal (field r 0) f.sid h.small h.sid, date_in-IsDate (field r 1) f.day h.day, cells_in-AreCellTexts r f.cells h.five h.cells) refl
+    rw (eq-eqb (length r) 7 h.seven, sid_in-decimal (field r 0) f.sid h.small h.sid, date_in-IsDate (field r 1) f.day h.day, cells_in-AreCellTexts r f.cells h.five h.cells) refl
 
 pub fields_form : (r : Record) (f : Fields) → (fields_in r ≡ Some f) ↔ IsBarRecord r f
 fields_form r f = (IsBarRecord-fields_in r f, fields_in-IsBarRecord r f)
@@ -159,11 +150,7 @@ pub fields-cells : (r : Record) (f : Fields) → fields_in r ≡ Some f → list
 fields-cells r f e t k d h =
     let it = IsBarRecord-fields_in r f e in
     let text = it.cells k (get_or f.cells k d) (slice_get-get_or f.cells k d h) in
-    IsCellText-bar_cell (field r (k + 2)) (get_or f.cells k d) text (not_one (is_negative (get_or f.cells k d)) refl)
-  where
-    not_one : (b : Bool) → is_negative (get_or f.cells k d) ≡ b → is_negative (get_or f.cells k d) ≡ false
-    not_one true u = absurd (let bad : true ≡ false = sym (list_any_at is_negative f.cells k d h u) ∙ t in cc)
-    not_one false u = u
+    IsCellText-bar_cell (field r (k + 2)) (get_or f.cells k d) text (none-at is_negative f.cells t k d h)
 
 -- ---- cells below 0
 

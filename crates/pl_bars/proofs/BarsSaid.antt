@@ -7,7 +7,6 @@ use Rattle.std.specs.Bool.{Decides}
 use Rattle.std.proofs.lemmas.Int.{ints}
 use Rattle.std.proofs.lemmas.Bool.{cases_lt}
 use Rattle.std.proofs.lemmas.Bool.Decides.{nat_tests}
-use Rattle.std.proofs.lemmas.List.Folds.{Any-from_list_any, list_any-from_Any}
 use Rattle.std.proofs.lemmas.List.Quantifiers.{position-Some}
 use Rattle.std.proofs.lemmas.List.Sorted.{All-permutation}
 use Rattle.std.proofs.lemmas.Option.{slice_get-get_or, slice_get_within, get_or_from_slice_get}
@@ -16,10 +15,10 @@ use Rattle.pl_records.specs.RuleTable.{IsFirstBroken, KeepsAll}
 use Rattle.pl_records.specs.Sorted.{sorted_by}
 use Rattle.pl_spec.specs.declared.AssetRow.{AssetRow}
 use Rattle.pl_spec.specs.declared.BarRow.{BarRow}
-use Rattle.pl_records.proofs.Readings.{under-are, under-fault}
-use Rattle.pl_records.proofs.RuleTables.{and_then_some, map_some, lacks-tells, has-tells, Judges-table}
+use Rattle.pl_records.proofs.Readings.{made-fault, under-are, under-fault}
+use Rattle.pl_records.proofs.RuleTables.{any-tells, and_then_some, map_some, lacks-tells, has-tells, Judges-table}
 use Rattle.pl_lifetimes.proofs.SidColumns.{sid_form}
-use Rattle.pl_records.proofs.Sorts.{sorted-are, sorted-fault}
+use Rattle.pl_records.proofs.Sorts.{sorted-are}
 use Rattle.pl_spec.proofs.Places.{nowhere}
 use Rattle.pl_spec.proofs.Signed.{int_eq-true, int_eq-itself}
 use Rattle.pl_calendar.specs.Days.{AreDays}
@@ -77,16 +76,11 @@ session_form days up f session = day_form days up f.day session
 -- ---- the tests of cells, and of the bars before
 
 negative_tells : (f : Fields) → Decides (list_any is_negative f.cells) (Any IsNegative f.cells)
-negative_tells f = (
-  λ e. (let it = Any-from_list_any is_negative f.cells e in (it.0, it.1, it.2, it.3, IsNegative-test it.1 it.4)),
-  λ any. list_any-from_Any is_negative f.cells (any.0, any.1, any.2, any.3, is_negative-test any.1 any.4),
-)
+negative_tells f = any-tells is_negative IsNegative (λ v. (IsNegative-test v, is_negative-test v)) f.cells
 
 place_tells : (before : List BarRow) (b : BarRow) → Decides (list_any (is_at b.col b.session) before) (Any (λ x. (x.col ≡ b.col) × (x.session ≡ b.session)) before)
-place_tells before b = (
-  λ e. (let it = Any-from_list_any (is_at b.col b.session) before e in (it.0, it.1, it.2, it.3, at_parts b.col b.session it.1 it.4)),
-  λ any. list_any-from_Any (is_at b.col b.session) before (any.0, any.1, any.2, any.3, at_true b.col b.session any.1 any.4.0 any.4.1),
-)
+place_tells before b =
+    any-tells (is_at b.col b.session) (λ x. (x.col ≡ b.col) × (x.session ≡ b.session)) (λ x. (at_parts b.col b.session x, λ h. at_true b.col b.session x h.0 h.1)) before
 
 -- ---- what is said
 
@@ -174,7 +168,7 @@ unfolding bars_of rows_in
 bars-fault days assets ud ua records fault = (λ e. under.0 (told.0 e), λ h. told.1 (under.1 h))
   where
     told : ((rows_in days assets records >>= λ rows. Ok (sorted_by key_of rows)) ≡ Err fault) ↔ (rows_in days assets records ≡ Err fault)
-    told = sorted-fault key_of (rows_in days assets records) fault
+    told = made-fault (sorted_by key_of) (rows_in days assets records) fault
 
     under : (rows_under header rules.BadHeader (bar_or_rule days assets) records ≡ Err fault) ↔ IsBarsFault days assets records fault
     under = under-fault header rules.BadHeader (IsBar days assets) (Told days assets) (bar_or_rule days assets) (bars_judged days assets ud ua) records fault
