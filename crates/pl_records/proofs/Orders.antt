@@ -1,13 +1,13 @@
 -- Records in another order are read as rows in another order.
-use Rattle.std.proofs.Common.{◌≡◌, ℕ, ◌+◌, ◌||◌, nat_le, Bool, true, false, List, [], ◌∷◌, ◌++◌, length, IsPermutation, Option, Some, None, Result, Ok, Err, refl, sym, ◌∙◌, ap, subst, append_assoc, length-append, inl, inr, ◌⊎◌}
+use Rattle.std.proofs.Common.{◌≡◌, ℕ, ◌||◌, nat_le, Bool, true, false, List, [], ◌∷◌, ◌++◌, length, IsPermutation, Option, Some, None, Result, Ok, refl, sym, ◌∙◌, ap, subst, append_assoc, length-append, inl, inr, ◌⊎◌}
 use Rattle.std.specs.List.{list_any}
 use Rattle.std.specs.Option.{ok_or}
 use Rattle.std.proofs.lemmas.List.Folds.{list_any-append}
 use Rattle.std.proofs.lemmas.List.Sorted.{IsPermutation-refl, IsPermutation-sym, IsPermutation-trans, IsPermutation-append, IsPermutation-append_left, length_permutation, list_any-IsPermutation}
-use Rattle.pl_records.specs.Reading.{Record, ◌>>=◌, at_line, rows_behind, rows_under, has_header}
+use Rattle.pl_records.specs.Reading.{Record, ◌>>=◌, rows_behind, rows_under, has_header}
 use Rattle.pl_records.specs.RuleTable.{first_broken, has}
 use Rattle.pl_records.specs.Sorted.{sorted_by, HasOwnKeys}
-use Rattle.pl_records.proofs.Readings.{under_ok}
+use Rattle.pl_records.proofs.Readings.{went_on, under_ok}
 use Rattle.pl_records.proofs.RuleTables.{NoneFound, told_ok, ok_or-Ok, none-broken}
 use Rattle.pl_records.proofs.Sorts.{sorted-are}
 use Rattle.pl_spec.proofs.Permuted.{permuted, flipped}
@@ -99,16 +99,6 @@ module _ {Row R : Type 0} (most : ℕ) (clash : Row → Row → Bool) (row_of : 
   unfolding rows_behind
   goes_on before r rs row e = rw e refl
 
-  went_on : (before : List Row) (r : Record) (rs : List Record) (rows : List Row) → rows_behind 2 says before (r ∷ rs) ≡ Ok rows
-      → (row : Row) × (says before r ≡ Ok row) × (rows_behind 2 says (before ++ row ∷ []) rs ≡ Ok rows)
-  unfolding rows_behind
-  went_on before r rs rows e = here (says before r) refl e
-    where
-      here : (x : Result Row R) → says before r ≡ x → (at_line (2 + length before) x >>= λ row. rows_behind 2 says (before ++ row ∷ []) rs) ≡ Ok rows
-          → (row : Row) × (says before r ≡ Ok row) × (rows_behind 2 says (before ++ row ∷ []) rs ≡ Ok rows)
-      here (Ok row) was f = (row, was, f)
-      here (Err rule) was f = absurd (cc)
-
   ended : (before rows : List Row) → rows_behind 2 says before [] ≡ Ok rows → before ≡ rows
   unfolding rows_behind
   ended before rows e = cc
@@ -125,7 +115,7 @@ module _ {Row R : Type 0} (most : ℕ) (clash : Row → Row → Bool) (row_of : 
   same : (records : List Record) → ReadsAlike records records
   same [] before earlier m rows e = let is : before ≡ rows = ended before rows e in (earlier, ends earlier, subst (λ l. IsPermutation l earlier) is m)
   same (r ∷ rs) before earlier m rows e =
-      let it = went_on before r rs rows e in
+      let it = went_on 2 says before r rs rows e in
       let rest = same rs (before ++ it.0 ∷ []) (earlier ++ it.0 ∷ []) (IsPermutation-append_left (it.0 ∷ []) before earlier m) rows it.2 in
       (rest.0, goes_on earlier r rs it.0 (moved before earlier m r it.0 it.1) ∙ rest.1, rest.2)
 
@@ -137,7 +127,7 @@ module _ {Row R : Type 0} (most : ℕ) (clash : Row → Row → Bool) (row_of : 
 
   under : (r : Record) (xs ys : List Record) → ReadsAlike xs ys → ReadsAlike (r ∷ xs) (r ∷ ys)
   under r xs ys f before earlier m rows e =
-      let it = went_on before r xs rows e in
+      let it = went_on 2 says before r xs rows e in
       let rest = f (before ++ it.0 ∷ []) (earlier ++ it.0 ∷ []) (IsPermutation-append_left (it.0 ∷ []) before earlier m) rows it.2 in
       (rest.0, goes_on earlier r ys it.0 (moved before earlier m r it.0 it.1) ∙ rest.1, rest.2)
 
@@ -148,8 +138,8 @@ module _ {Row R : Type 0} (most : ℕ) (clash : Row → Row → Bool) (row_of : 
 
   flip : (r q : Record) (xs : List Record) → ReadsAlike (r ∷ q ∷ xs) (q ∷ r ∷ xs)
   flip r q xs before earlier m rows e =
-      let one = went_on before r (q ∷ xs) rows e in
-      let two = went_on (before ++ one.0 ∷ []) q xs rows one.2 in
+      let one = went_on 2 says before r (q ∷ xs) rows e in
+      let two = went_on 2 says (before ++ one.0 ∷ []) q xs rows one.2 in
       let either = swapped before r q one.0 two.0 one.1 two.1 in
       let rest = same xs ((before ++ one.0 ∷ []) ++ two.0 ∷ []) ((earlier ++ two.0 ∷ []) ++ one.0 ∷ []) (last_two before earlier m one.0 two.0) rows two.2 in (
         rest.0,

@@ -8,6 +8,11 @@ use Rattle.std.proofs.lemmas.List.Folds.{Any-from_list_any, list_any-from_Any}
 use Rattle.pl_records.specs.Reading.{Record, Judges}
 use Rattle.pl_records.specs.RuleTable.{first_broken, IsFirstBroken, KeepsAll, lacks, has}
 
+-- a test that cannot pass fails
+pub not_true : (b : Bool) → (b ≡ true → ⊥) → b ≡ false
+not_true true f = absurd (f refl)
+not_true false f = refl
+
 module _ {R : Type 0} (broken : R → Bool) (Breaks : R → Type 0) (tells : (q : R) → Decides (broken q) (Breaks q)) where
   not_both : (b : Bool) → b ≡ true → b ≡ false → ⊥
   not_both b t f = let bad : true ≡ false = sym t ∙ f in cc
@@ -16,11 +21,7 @@ module _ {R : Type 0} (broken : R → Bool) (Breaks : R → Type 0) (tells : (q 
   kept q f b = not_both (broken q) ((tells q).1 b) f
 
   kept-false : (q : R) → ¬ Breaks q → broken q ≡ false
-  kept-false q keeps = here (broken q) refl
-    where
-      here : (b : Bool) → broken q ≡ b → broken q ≡ false
-      here true t = absurd (keeps ((tells q).0 t))
-      here false t = t
+  kept-false q keeps = not_true (broken q) (λ t. keeps ((tells q).0 t))
 
   pub all-kept : {A : Type 0} (rules : List R) (right : Result A R) → KeepsAll rules Breaks → first_broken rules broken right ≡ right
   all-kept [] right k = refl
