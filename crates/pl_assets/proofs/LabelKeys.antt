@@ -1,11 +1,12 @@
 -- The keys of rows of labels tell their names, columns and days.
-use Rattle.std.proofs.Common.{◌≡◌, ℕ, ◌<◌, ◌^◌, ◌==◌, Bool, true, false, ℤ, List, [], length, map, get_or, Some, None, FitsSigned, w32, refl, sym, ap, ◌∙◌, eq-eqb, eqb-true}
+use Rattle.std.proofs.Common.{◌≡◌, ℕ, ◌<◌, ◌^◌, ◌==◌, true, false, ℤ, List, [], length, map, get_or, Some, None, FitsSigned, w32, sym, ap, ◌∙◌, eq-eqb, eqb-true}
 use Rattle.std.specs.List.{list_any, position}
 use Rattle.std.specs.Str.{bytes_eq}
 use Rattle.std.proofs.lemmas.Bool.{true≢false}
 use Rattle.std.proofs.lemmas.List.Folds.{list_any_none}
 use Rattle.std.proofs.lemmas.List.Quantifiers.{position-Some}
 use Rattle.std.specs.Cmp.{both_ways}
+use Rattle.pl_records.proofs.RuleTables.{not_true}
 use Rattle.pl_spec.specs.Parts.{ColumnLabel}
 use Rattle.pl_spec.specs.World.{LabelRow}
 use Rattle.pl_spec.proofs.Places.{nowhere}
@@ -62,14 +63,13 @@ is_known t name number col day h e small fits =
 pub not_named : (t : LabelRows) (name : List ℕ) (col : ℕ) (day : ℤ) → AreNumbered t → position (bytes_eq name) t.names ≡ None → list_any (is_from name col day) (shown_rows t) ≡ false
 not_named t name col day h e =
     any-map (is_from name col day) (row_at t.names t.texts) t.places.items
-    ∙ list_any_none (λ p. is_from name col day (row_at t.names t.texts p)) t.places.items (λ k d l. other (get_or t.places.items k d) (h.places k d l) _ refl)
+    ∙ list_any_none (λ p. is_from name col day (row_at t.names t.texts p)) t.places.items (λ k d l. not_true _ (other (get_or t.places.items k d) (h.places k d l)))
   where
-    other : (p : Place) → IsPlace t.names t.texts p → (b : Bool) → is_from name col day (row_at t.names t.texts p) ≡ b → is_from name col day (row_at t.names t.texts p) ≡ false
-    other p q false u = u
-    other p q true u =
+    other : (p : Place) → IsPlace t.names t.texts p → is_from name col day (row_at t.names t.texts p) ≡ true → ⊥
+    other p q u =
         let parts = from_parts name col day (row_at t.names t.texts p) u in
         let none : bytes_eq name (get_or t.names p.name []) ≡ false = nowhere (bytes_eq name) t.names e p.name [] q.name in
-        absurd (true≢false (sym (ap (bytes_eq name) parts.0 ∙ equal_text name) ∙ none))
+        true≢false (sym (ap (bytes_eq name) parts.0 ∙ equal_text name) ∙ none)
 
 pub number_inside : (names : List (List ℕ)) (name : List ℕ) (number : ℕ) → position (bytes_eq name) names ≡ Some number → number < length names
 number_inside names name number e = (position-Some (bytes_eq name) names number [] e).0

@@ -1,11 +1,12 @@
 -- A row of labels after others.
-use Rattle.std.proofs.Common.{◌≡◌, ℕ, suc, ◌<◌, ◌≤◌, ◌^◌, Bool, true, false, if◌then◌else◌, List, [], ◌∷◌, ◌++◌, length, take, map, get_or, All, Option, Some, None, IfSome, Result, Ok, Err, OnErr, FitsSigned, w32, refl, sym, ap, ◌∙◌, arith}
+use Rattle.std.proofs.Common.{true≢false, ◌≡◌, ℕ, suc, ◌<◌, ◌≤◌, ◌^◌, Bool, true, false, if◌then◌else◌, List, [], ◌∷◌, ◌++◌, length, take, map, get_or, All, Option, Some, None, IfSome, Result, Ok, Err, OnErr, FitsSigned, w32, refl, sym, ap, ◌∙◌, arith}
 use Rattle.std.proofs.lemmas.List.{length-map, map-append, take_all}
 use Rattle.std.proofs.lemmas.List.Elements.{All-push}
-use Rattle.std.proofs.lemmas.List.Folds.{list_any_at}
 use Rattle.std.proofs.lemmas.List.Quantifiers.{all_pairs_push}
 use Rattle.std.specs.List.{list_any, position_or_len}
 use Rattle.std.specs.Str.{bytes_eq}
+use Rattle.pl_records.proofs.RuleTables.{not_true}
+use Rattle.pl_records.proofs.Sorts.{none-at}
 use Rattle.pl_spec.specs.Parts.{ColumnLabel}
 use Rattle.pl_assets.specs.Labels.{AreTexts, first_seen, is_text, names_of, with_text, with_label}
 use Rattle.pl_assets.specs.LabelPlaces.{AreNumbered, IsPlace, KeepsFront, shown_rows, row_at, text_in}
@@ -42,14 +43,8 @@ texts_more_codes : (texts : List (List ℕ)) (text : List ℕ) → AreTexts text
 texts_more_codes texts text h few = here (is_text text) refl few
   where
     behind : list_any (bytes_eq text) texts ≡ false → All (λ x. bytes_eq x text ≡ false) texts
-    behind none k d l = other (bytes_eq (get_or texts k d) text) refl
-      where
-        other : (b : Bool) → bytes_eq (get_or texts k d) text ≡ b → bytes_eq (get_or texts k d) text ≡ false
-        other false t = t
-        other true t =
-            let same : bytes_eq text (get_or texts k d) ≡ true = ap (bytes_eq text) (same_text (get_or texts k d) text t) ∙ equal_text text in
-            let there : list_any (bytes_eq text) texts ≡ true = list_any_at (bytes_eq text) texts k d l same in
-            absurd (let bad : true ≡ false = sym there ∙ none in cc)
+    behind none k d l =
+        not_true _ (λ t. true≢false (sym (ap (bytes_eq text) (same_text (get_or texts k d) text t) ∙ equal_text text) ∙ none-at (bytes_eq text) texts none k d l))
 
     added : (c : Bool) → list_any (bytes_eq text) texts ≡ c → is_text text ≡ true → length (if c then texts else texts ++ text ∷ []) ≤ 2 ^ 32 → AreTexts (if c then texts else texts ++ text ∷ [])
     added true u t few = h

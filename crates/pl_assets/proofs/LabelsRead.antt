@@ -1,5 +1,5 @@
--- Labels that are read: what each test tells, and what is kept of all rows.
-use Rattle.std.proofs.Common.{◌≡◌, ℕ, ◌==◌, ◌<◌, ◌≤◌, nat_le, nat_lt, false, List, [], ◌∷◌, ◌++◌, length, All, Some, option_map, Ok, sym, subst, ap, ◌∙◌, position, arith}
+-- What is kept of all labels that are read.
+use Rattle.std.proofs.Common.{◌≡◌, ℕ, ◌==◌, ◌<◌, ◌≤◌, nat_lt, false, List, [], ◌∷◌, ◌++◌, length, All, Some, option_map, Ok, subst, arith}
 use Rattle.std.specs.List.{list_any, AllPairs}
 use Rattle.std.specs.Option.{ok_or}
 use Rattle.std.proofs.lemmas.Bool.Decides.{nat_tests}
@@ -7,7 +7,6 @@ use Rattle.std.proofs.lemmas.List.Quantifiers.{position-Some}
 use Rattle.std.proofs.lemmas.List.Elements.{All-push}
 use Rattle.pl_records.specs.Reading.{Record}
 use Rattle.pl_spec.specs.Parts.{ColumnLabel}
-use Rattle.pl_spec.specs.World.{LabelRow}
 use Rattle.pl_spec.specs.declared.AssetRow.{AssetRow}
 use Rattle.pl_records.proofs.Readings.{few-more, rows-keep, under_ok}
 use Rattle.pl_records.proofs.RuleTables.{and_then_some, map_some, told_ok, ok_or-Ok}
@@ -20,38 +19,6 @@ use Rattle.pl_assets.proofs.LabelFields.{IsLabelRecord-label_in, printable-bytes
 use Rattle.pl_assets.proofs.Dated.{once-more}
 use Rattle.pl_assets.proofs.LabelKeys.{labels}
 
--- ---- what the tests were where a record says its row
-
-pub record Says (assets : List AssetRow) (before : List ColumnLabel) (r : Record) (row : ColumnLabel) : Type 0 where
-  pub few : nat_le most_labels (length before) ≡ false
-  pub label : LabelRow
-  pub written : label_in r ≡ Some label
-  pub short : nat_lt most_label_bytes (length label.text) ≡ false
-  pub col : position (λ a. sid_of a == label.sid) assets ≡ Some row.col
-  pub own : list_any (is_from label.name row.col label.start) before ≡ false
-  pub same : in_column label row.col ≡ row
-
-pub label_or_rule-ok : (assets : List AssetRow) (before : List ColumnLabel) (r : Record) (row : ColumnLabel) → label_or_rule assets before r ≡ Ok row → Says assets before r row
-unfolding label_or_rule
-label_or_rule-ok assets before r row e =
-    let k = told_ok rules.rules (breaks assets before r) (ok_or (row_of assets r) rules.BadField) row e in
-    let at : row_of assets r ≡ Some row = ok_or-Ok (row_of assets r) rules.BadField row k.1 in
-    let l = and_then_some (label_in r) (λ l. option_map (in_column l) (col_in assets l)) row at in
-    let c = map_some (col_in assets l.0) (in_column l.0) row l.2 in
-    let in_col : c.0 ≡ row.col = ap (λ (x : ColumnLabel). x.col) c.2 in
-    let own : list_any (is_from row.name row.col row.start) before ≡ false = rw at at k.0.1.1.1.1.0 in
-    record {
-      few = k.0.0;
-      label = l.0;
-      written = l.1;
-      short = rw l.1 at k.0.1.1.0;
-      col = c.1 ∙ ap (λ x. Some x) in_col;
-      own = ap (λ (x : ColumnLabel). list_any (is_from x.name row.col x.start) before) c.2 ∙ own;
-      same = ap (in_column l.0) (sym in_col) ∙ c.2;
-    }
-
--- ---- what is kept of all rows
-
 -- labels as they are kept, in columns of assets
 pub record AreRead (assets : List AssetRow) (rows : List ColumnLabel) : Type 0 where
   pub right : All IsLabelRow rows
@@ -60,16 +27,22 @@ pub record AreRead (assets : List AssetRow) (rows : List ColumnLabel) : Type 0 w
   pub cols : All (λ r. r.col < length assets) rows
 
 read-more : (assets : List AssetRow) (before : List ColumnLabel) (r : Record) (row : ColumnLabel) → AreRead assets before → label_or_rule assets before r ≡ Ok row → AreRead assets (before ++ row ∷ [])
+unfolding label_or_rule
 read-more assets before r row h s =
-    let ok = label_or_rule-ok assets before r row s in
-    let w = IsLabelRecord-label_in r ok.label ok.written in
-    let at = position-Some (λ a. sid_of a == ok.label.sid) assets row.col no_asset ok.col in
-    let right : IsLabelRow (in_column ok.label row.col) = record { name = w.right_name; printable = printable-bytes ok.label.text w.printable; short = fits (length ok.label.text) ok.short } in
+    let k = told_ok rules.rules (breaks assets before r) (ok_or (row_of assets r) rules.BadField) row s in
+    let at : row_of assets r ≡ Some row = ok_or-Ok (row_of assets r) rules.BadField row k.1 in
+    let l = and_then_some (label_in r) (λ l. option_map (in_column l) (col_in assets l)) row at in
+    let c = map_some (col_in assets l.0) (in_column l.0) row l.2 in
+    let col = position-Some (λ a. sid_of a == l.0.sid) assets c.0 no_asset c.1 in
+    let w = IsLabelRecord-label_in r l.0 l.1 in
+    let short : nat_lt most_label_bytes (length l.0.text) ≡ false = rw l.1 at k.0.1.1.0 in
+    let own : list_any (is_from row.name row.col row.start) before ≡ false = rw at at k.0.1.1.1.1.0 in
+    let right : IsLabelRow (in_column l.0 c.0) = record { name = w.right_name; printable = printable-bytes l.0.text w.printable; short = fits (length l.0.text) short } in
     record {
-      right = All-push IsLabelRow before row h.right (subst IsLabelRow ok.same right);
-      once = once-more labels before row h.once (ap (λ (x : ColumnLabel). list_any (is_from x.name row.col x.start) before) (sym ok.same) ∙ ok.own);
-      few = few-more most_labels before row ok.few;
-      cols = All-push (λ (x : ColumnLabel). x.col < length assets) before row h.cols at.0;
+      right = All-push IsLabelRow before row h.right (subst IsLabelRow c.2 right);
+      once = once-more labels before row h.once own;
+      few = few-more most_labels before row k.0.0;
+      cols = All-push (λ (x : ColumnLabel). x.col < length assets) before row h.cols (subst (λ (x : ColumnLabel). x.col < length assets) c.2 col.0);
     }
   where
     fits : (n : ℕ) → nat_lt most_label_bytes n ≡ false → n ≤ most_label_bytes

@@ -7,7 +7,7 @@ use Rattle.std.proofs.lemmas.Int.{ints}
 use Rattle.std.proofs.lemmas.Bool.Decides.{nat_tests}
 use Rattle.std.proofs.lemmas.Option.{slice_get-get_or}
 use Rattle.pl_records.specs.Reading.{Record, field}
-use Rattle.pl_records.proofs.RuleTables.{when_some, and_then_some, map_some}
+use Rattle.pl_records.proofs.RuleTables.{not_true, when_some, and_then_some, map_some}
 use Rattle.pl_records.proofs.Sorts.{none-at}
 use Rattle.pl_spec.specs.Rounding.{MISSING, LIMIT, is_missing}
 use Rattle.pl_spec.specs.Dates.{date_in}
@@ -58,9 +58,8 @@ small-is v t h =
 pub IsCellText-bar_cell : (text : List ℕ) (v : ℤ) → IsCellText text v → is_negative v ≡ false → IsTrue (is_bar_cell v)
 IsCellText-bar_cell text v h t = here (is_missing v) refl
   where
-    at_least : (b : Bool) → int_lt v (pos 0) ≡ b → is_missing v ≡ false → int_lt v (pos 0) ≡ false
-    at_least true u m = absurd (let bad : true ≡ false = rw (u, m) at t in cc)
-    at_least false u m = u
+    at_least : is_missing v ≡ false → int_lt v (pos 0) ≡ false
+    at_least m = not_true _ (λ u. let bad : true ≡ false = rw (u, m) at t in cc)
 
     small : is_missing v ≡ false → IsCellText text v → unsigned_abs v ≤ LIMIT
     small m (inl e) = absurd (let bad : true ≡ false = sym (missing-is v e.1) ∙ m in cc)
@@ -68,7 +67,7 @@ IsCellText-bar_cell text v h t = here (is_missing v) refl
 
     here : (b : Bool) → is_missing v ≡ b → IsTrue (is_bar_cell v)
     here true m = rw m refl
-    here false m = rw (m, small-is v (at_least (int_lt v (pos 0)) refl m) (small m h)) refl
+    here false m = rw (m, small-is v (at_least m) (small m h)) refl
 
 -- ---- five cells
 
@@ -174,14 +173,10 @@ IsNegative-test v t = here (is_missing v) refl
         (λ e. absurd (let bad : true ≡ false = sym (missing-is v e) ∙ m in cc), below (first (int_lt v (pos 0)) (not (is_missing v)) t))
 
 pub is_negative-test : (v : ℤ) → IsNegative v → is_negative v ≡ true
-is_negative-test v h = rw (below h.1, present (is_missing v) refl) refl
+is_negative-test v h = rw (below h.1, not_true (is_missing v) (λ m. h.0 (value m))) refl
   where
     below : v <ℤ pos 0 → int_lt v (pos 0) ≡ true
     below l = grind (arith, ints)
 
     value : is_missing v ≡ true → v ≡ MISSING
     value m = grind (arith, ints)
-
-    present : (b : Bool) → is_missing v ≡ b → is_missing v ≡ false
-    present true m = absurd (h.0 (value m))
-    present false m = m

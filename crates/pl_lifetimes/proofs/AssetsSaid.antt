@@ -9,35 +9,18 @@ use Rattle.std.proofs.lemmas.Bool.Decides.{nat_tests}
 use Rattle.pl_records.specs.Reading.{Record, Fault, field, ◌>>=◌, rows_under, AreRowsUnder, Judges}
 use Rattle.pl_records.specs.RuleTable.{IsFirstBroken}
 use Rattle.pl_records.specs.Sorted.{sorted_by}
-use Rattle.pl_spec.specs.Dates.{date_in}
-use Rattle.pl_spec.specs.Decimals.{sid_in}
 use Rattle.pl_spec.specs.declared.AssetRow.{AssetRow}
 use Rattle.pl_records.proofs.Readings.{made-fault, under-are, under-fault}
-use Rattle.pl_records.proofs.RuleTables.{when_some, any-tells, and_then_some, map_some, lacks-tells, has-tells, Judges-table}
+use Rattle.pl_records.proofs.RuleTables.{any-tells, lacks-tells, has-tells, Judges-table}
 use Rattle.pl_records.proofs.Sorts.{sorted-are}
-use Rattle.pl_spec.proofs.DatesRead.{date_in-IsDate, IsDate-date_in}
-use Rattle.pl_spec.proofs.SidsRead.{sid_in-decimal, decimal-sid_in}
+use Rattle.pl_spec.proofs.DatesRead.{date_in-IsDate}
+use Rattle.pl_spec.proofs.SidsRead.{sid_in-decimal}
 use Rattle.pl_lifetimes.specs.Assets.{Rule, breaks, asset_in, asset_or_rule, rows_in, assets_of, sid_of, header}
 use Rattle.pl_lifetimes.specs.Assets as rules
 use Rattle.pl_lifetimes.specs.Rules.{IsAssetRecord, IsAsset, Breaks, AreAssetsOf, IsAssetsFault}
-use Rattle.pl_lifetimes.proofs.AssetsRead.{OwnSids-read}
+use Rattle.pl_lifetimes.proofs.AssetsRead.{IsAssetRecord-asset_in, OwnSids-read}
 
 -- ---- the fields
-
-pub IsAssetRecord-asset_in : (r : Record) (a : AssetRow) → asset_in r ≡ Some a → IsAssetRecord r a
-IsAssetRecord-asset_in r a e =
-    let it = when_some (length r == 3) _ a e in
-    let s = and_then_some (sid_in (field r 0)) _ a it.1 in
-    let d = and_then_some (date_in (field r 1)) _ a s.2 in
-    let f = map_some (date_in (field r 2)) (λ end. record { sid = s.0; start = d.0; end = end }) a d.2 in
-    let n = decimal-sid_in (field r 0) s.0 s.1 in
-    rw (← f.2) record {
-      three = eqb-true (length r) 3 it.0;
-      small = n.0;
-      sid = n.1;
-      start = IsDate-date_in (field r 1) d.0 d.1;
-      end = IsDate-date_in (field r 2) f.0 f.1;
-    }
 
 asset_in-IsAssetRecord : (r : Record) (a : AssetRow) → IsAssetRecord r a → asset_in r ≡ Some a
 asset_in-IsAssetRecord r a h =
