@@ -6,6 +6,7 @@ use Rattle.std.proofs.lemmas.Bool.Decides.{nat_tests}
 use Rattle.std.proofs.lemmas.List.{length-map, get_or-map}
 use Rattle.std.proofs.lemmas.List.Elements.{All-map}
 use Rattle.std.proofs.lemmas.List.Sorted.{All-permutation, IsPermutation-map}
+use Rattle.pl_records.proofs.RuleTables.{not_true}
 use Rattle.pl_records.specs.Sorted.{HasOwnKeys, insert_by, sorted_by}
 use Rattle.pl_records.proofs.Sorts.{sorted-rises, sorted-permutes, length-sorted_by}
 use Rattle.pl_spec.proofs.Counts.{count-cons}
@@ -153,16 +154,14 @@ told_apart t names all differ i j d lt l =
     let inside : j < length t.places.items = omega (arith, l, length-map t.places.items (row_at t.names)) in
     let before : i < length t.places.items = omega arith in
     rw (get_or-map (row_at t.names) t.places.items i blank d before, get_or-map (row_at t.names) t.places.items j blank d inside)
-    (here (get_or t.places.items i blank) (get_or t.places.items j blank) (all i blank before) (all j blank inside) (differ i j blank lt inside) _ refl)
+    (here (get_or t.places.items i blank) (get_or t.places.items j blank) (all i blank before) (all j blank inside) (differ i j blank lt inside))
   where
-    here : (p q : Place) → IsPlace t.names p → IsPlace t.names q → key_of p ≢ key_of q → (b : Bool) → is_from (row_at t.names p).name (row_at t.names p).col (row_at t.names p).known (row_at t.names q) ≡ b
-        → is_from (row_at t.names p).name (row_at t.names p).col (row_at t.names p).known (row_at t.names q) ≡ false
-    here p q hp hq ne false e = e
-    here p q hp hq ne true e =
+    here : (p q : Place) → IsPlace t.names p → IsPlace t.names q → key_of p ≢ key_of q → is_from (row_at t.names p).name (row_at t.names p).col (row_at t.names p).known (row_at t.names q) ≡ false
+    here p q hp hq ne = not_true _ (λ e.
         let parts = from_parts (row_at t.names p).name (row_at t.names p).col (row_at t.names p).known (row_at t.names q) e in
         let n : q.name ≡ p.name = one_place t.names q.name p.name names hq.name hp.name parts.0 in
         let same : key_of q ≡ key_of p = ap (λ m. key m q.col q.known) n ∙ ap (λ c. key p.name c q.known) parts.1 ∙ ap (key p.name p.col) parts.2 in
-        absurd (ne (sym same))
+        ne (sym same))
 
 pub are_numbers : (t : NumberRows) → IsTable t → AreNumbers (table_in t)
 are_numbers t h =

@@ -1,5 +1,5 @@
--- Numbers that are read: what each test tells, and what is kept of all rows.
-use Rattle.std.proofs.Common.{◌≡◌, ◌==◌, ◌<◌, ◌≤◌, nat_le, false, List, [], ◌∷◌, ◌++◌, length, All, Some, option_map, Ok, sym, subst, ap, ◌∙◌, position, arith}
+-- What is kept of all numbers that are read.
+use Rattle.std.proofs.Common.{◌≡◌, ◌==◌, ◌<◌, ◌≤◌, false, List, [], ◌∷◌, ◌++◌, length, All, Some, option_map, Ok, subst, arith}
 use Rattle.std.specs.List.{list_any, AllPairs}
 use Rattle.std.specs.Option.{ok_or}
 use Rattle.std.proofs.lemmas.List.Quantifiers.{position-Some}
@@ -7,7 +7,6 @@ use Rattle.std.proofs.lemmas.List.Elements.{All-push}
 use Rattle.pl_records.specs.Reading.{Record}
 use Rattle.pl_spec.specs.Dates.{IsDay}
 use Rattle.pl_spec.specs.Limits.{most_numbers}
-use Rattle.pl_spec.specs.Numbers.{NumberRow}
 use Rattle.pl_spec.specs.Rounding.{IsCell}
 use Rattle.pl_spec.specs.declared.AssetRow.{AssetRow}
 use Rattle.pl_spec.proofs.Columns.{no_asset}
@@ -21,36 +20,6 @@ use Rattle.pl_numbers.proofs.NumberFields.{number_cell, number_day}
 use Rattle.pl_assets.proofs.Dated.{once-more}
 use Rattle.pl_numbers.proofs.NumberKeys.{numbers}
 
--- ---- what the tests were where a record says its row
-
-pub record Says (assets : List AssetRow) (before : List ColumnNumber) (r : Record) (row : ColumnNumber) : Type 0 where
-  pub few : nat_le most_numbers (length before) ≡ false
-  pub number : NumberRow
-  pub written : number_in r ≡ Some number
-  pub col : position (λ a. sid_of a == number.sid) assets ≡ Some row.col
-  pub own : list_any (is_from number.name row.col number.known) before ≡ false
-  pub same : in_column number row.col ≡ row
-
-pub number_or_rule-ok : (assets : List AssetRow) (before : List ColumnNumber) (r : Record) (row : ColumnNumber) → number_or_rule assets before r ≡ Ok row → Says assets before r row
-unfolding number_or_rule
-number_or_rule-ok assets before r row e =
-    let k = told_ok rules.rules (breaks assets before r) (ok_or (row_of assets r) rules.BadField) row e in
-    let at : row_of assets r ≡ Some row = ok_or-Ok (row_of assets r) rules.BadField row k.1 in
-    let n = and_then_some (number_in r) (λ n. option_map (in_column n) (col_in assets n)) row at in
-    let c = map_some (col_in assets n.0) (in_column n.0) row n.2 in
-    let in_col : c.0 ≡ row.col = ap (λ (x : ColumnNumber). x.col) c.2 in
-    let own : list_any (is_from row.name row.col row.known) before ≡ false = rw at at k.0.1.1.1.0 in
-    record {
-      few = k.0.0;
-      number = n.0;
-      written = n.1;
-      col = c.1 ∙ ap (λ x. Some x) in_col;
-      own = ap (λ (x : ColumnNumber). list_any (is_from x.name row.col x.known) before) c.2 ∙ own;
-      same = ap (in_column n.0) (sym in_col) ∙ c.2;
-    }
-
--- ---- what is kept of all rows
-
 -- numbers as they are kept, in columns of assets
 pub record AreRead (assets : List AssetRow) (rows : List ColumnNumber) : Type 0 where
   pub once : AllPairs (λ r q. is_from r.name r.col r.known q ≡ false) rows
@@ -60,16 +29,20 @@ pub record AreRead (assets : List AssetRow) (rows : List ColumnNumber) : Type 0 
   pub cols : All (λ r. r.col < length assets) rows
 
 read-more : (assets : List AssetRow) (before : List ColumnNumber) (r : Record) (row : ColumnNumber) → AreRead assets before → number_or_rule assets before r ≡ Ok row → AreRead assets (before ++ row ∷ [])
+unfolding number_or_rule
 read-more assets before r row h s =
-    let ok = number_or_rule-ok assets before r row s in
-    let at = position-Some (λ a. sid_of a == ok.number.sid) assets row.col no_asset ok.col in
-    let own : list_any (is_from row.name row.col row.known) before ≡ false = ap (λ (x : ColumnNumber). list_any (is_from x.name row.col x.known) before) (sym ok.same) ∙ ok.own in
+    let k = told_ok rules.rules (breaks assets before r) (ok_or (row_of assets r) rules.BadField) row s in
+    let at : row_of assets r ≡ Some row = ok_or-Ok (row_of assets r) rules.BadField row k.1 in
+    let n = and_then_some (number_in r) (λ n. option_map (in_column n) (col_in assets n)) row at in
+    let c = map_some (col_in assets n.0) (in_column n.0) row n.2 in
+    let col = position-Some (λ a. sid_of a == n.0.sid) assets c.0 no_asset c.1 in
+    let own : list_any (is_from row.name row.col row.known) before ≡ false = rw at at k.0.1.1.1.0 in
     record {
       once = once-more numbers before row h.once own;
-      few = few-more most_numbers before row ok.few;
-      cells = All-push (λ (x : ColumnNumber). IsCell x.value) before row h.cells (subst (λ (x : ColumnNumber). IsCell x.value) ok.same (number_cell r ok.number ok.written));
-      days = All-push (λ (x : ColumnNumber). IsDay x.known) before row h.days (subst (λ (x : ColumnNumber). IsDay x.known) ok.same (number_day r ok.number ok.written));
-      cols = All-push (λ (x : ColumnNumber). x.col < length assets) before row h.cols at.0;
+      few = few-more most_numbers before row k.0.0;
+      cells = All-push (λ (x : ColumnNumber). IsCell x.value) before row h.cells (subst (λ (x : ColumnNumber). IsCell x.value) c.2 (number_cell r n.0 n.1));
+      days = All-push (λ (x : ColumnNumber). IsDay x.known) before row h.days (subst (λ (x : ColumnNumber). IsDay x.known) c.2 (number_day r n.0 n.1));
+      cols = All-push (λ (x : ColumnNumber). x.col < length assets) before row h.cols (subst (λ (x : ColumnNumber). x.col < length assets) c.2 col.0);
     }
 
 read-none : (assets : List AssetRow) → AreRead assets []
