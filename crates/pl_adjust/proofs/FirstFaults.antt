@@ -5,6 +5,7 @@ use Rattle.std.specs.Option.{option_or}
 use Rattle.std.proofs.lemmas.Bool.{and_parts}
 use Rattle.std.proofs.lemmas.Bool.Decides.{nat_tests}
 use Rattle.std.proofs.lemmas.Int.{ints}
+use Rattle.pl_records.proofs.RuleTables.{not_true}
 use Rattle.pl_spec.specs.declared.AssetRow.{AssetRow}
 use Rattle.pl_spec.specs.declared.RawAdjust.{RawAdjust}
 use Rattle.pl_spec.specs.Order.{adjustments_of}
@@ -117,19 +118,11 @@ module _ (n : ℕ) (r : TableRow) where
   fault_is (BadEffective table id) h =
       let room : n < most_adjustments = h.0 in
       let t : nat_le most_adjustments n ≡ false = grind (arith, nat_tests) in
-      rw (t, other (is_effective r.row.effective) refl) (ap (λ x. Some (BadEffective x r.row.id)) (sym h.2) ∙ ap (λ i. Some (BadEffective table i)) (sym h.3))
-    where
-      other : (b : Bool) → is_effective r.row.effective ≡ b → is_effective r.row.effective ≡ false
-      other true e = absurd (h.1 (effective_if r.row.effective e))
-      other false e = e
+      rw (t, not_true (is_effective r.row.effective) (λ e. h.1 (effective_if r.row.effective e))) (ap (λ x. Some (BadEffective x r.row.id)) (sym h.2) ∙ ap (λ i. Some (BadEffective table i)) (sym h.3))
   fault_is (BadRatio table id) h =
       let room : n < most_adjustments = h.0 in
       let t : nat_le most_adjustments n ≡ false = grind (arith, nat_tests) in
-      rw (t, effective_from r.row.effective h.1, other (is_part r.row.num && is_part r.row.den) refl) (ap (λ x. Some (BadRatio x r.row.id)) (sym h.3) ∙ ap (λ i. Some (BadRatio table i)) (sym h.4))
-    where
-      other : (b : Bool) → (is_part r.row.num && is_part r.row.den) ≡ b → (is_part r.row.num && is_part r.row.den) ≡ false
-      other true e = absurd (h.2 (ratio_if r.row e))
-      other false e = e
+      rw (t, effective_from r.row.effective h.1, not_true (is_part r.row.num && is_part r.row.den) (λ e. h.2 (ratio_if r.row e))) (ap (λ x. Some (BadRatio x r.row.id)) (sym h.3) ∙ ap (λ i. Some (BadRatio table i)) (sym h.4))
 
 -- ---- the rows of a walk
 

@@ -1,5 +1,5 @@
 -- Which sids are those of assets.
-use Rattle.std.proofs.Common.{◌≡◌, ℕ, ◌<◌, ◌^◌, ◌==◌, nat_lt, Bool, true, false, ℤ, pos, negsuc, List, length, get_or, All, Option, Some, None, IfSome, IfNone, refl, sym, ◌∙◌, ap, arith}
+use Rattle.std.proofs.Common.{◌≡◌, ℕ, ◌<◌, ◌^◌, ◌==◌, Bool, true, false, ℤ, pos, negsuc, List, get_or, All, Option, Some, None, IfSome, IfNone, refl, sym, ◌∙◌, ap, arith}
 use Rattle.std.specs.List.{list_any, position, position_or_len}
 use Rattle.std.specs.Ordering.{int_eq}
 use Rattle.std.specs.Int.{FitsUnsignedBits}
@@ -9,7 +9,8 @@ use Rattle.std.proofs.lemmas.Int.{ints}
 use Rattle.std.proofs.lemmas.List.Folds.{list_any_at, list_any_none}
 use Rattle.std.proofs.lemmas.List.Quantifiers.{position-Some}
 use Rattle.pl_spec.specs.declared.AssetRow.{AssetRow}
-use Rattle.pl_spec.proofs.Places.{nowhere}
+use Rattle.pl_spec.proofs.Columns.{no_asset}
+use Rattle.pl_spec.proofs.Places.{first_at, nowhere}
 use Rattle.pl_lifetimes.proofs.Filters.{any-same}
 
 -- an asset has the number as its sid
@@ -39,11 +40,9 @@ unknown assets z small out = list_any_none (λ a. int_eq (pos a.sid) z) assets (
     other n false e h = e
 
 pub place_found : (assets : List AssetRow) (sid i : ℕ) → position (λ a. a.sid == sid) assets ≡ Some i → i ≡ position_or_len (λ a. a.sid == sid) assets
-place_found assets sid i e = here (nat_lt (position_or_len (λ a. a.sid == sid) assets) (length assets)) refl
-  where
-    here : (b : Bool) → nat_lt (position_or_len (λ a. a.sid == sid) assets) (length assets) ≡ b → i ≡ position_or_len (λ a. a.sid == sid) assets
-    here true t = let same : Some (position_or_len (λ a. a.sid == sid) assets) ≡ Some i = rw t at e in cc
-    here false t = let bad : None ≡ Some i = rw t at e in absurd (cc)
+place_found assets sid i e =
+    let it = position-Some (λ a. a.sid == sid) assets i no_asset e in
+    sym (first_at (λ a. a.sid == sid) assets i no_asset it.0 it.1 it.2)
 
 -- ---- what a look-up finds
 

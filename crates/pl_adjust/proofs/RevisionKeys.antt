@@ -1,5 +1,6 @@
 -- The keys of revisions tell their sids, days and columns.
-use Rattle.std.proofs.Common.{◌≡◌, ℕ, ◌+◌, ◌-◌, ◌*◌, ◌<◌, ◌^◌, ◌==◌, ◌&&◌, ◌||◌, nat_eq, cond, Bool, true, false, ℤ, pos, ◌+ℤ◌, ◌≤ℤ◌, List, [], ◌∷◌, ◌++◌, get_or, All, FitsSigned, w32, refl, sym, ap, ◌∙◌, arith, eq-eqb, eqb-true}
+use Rattle.std.proofs.Common.{◌≡◌, ℕ, ◌+◌, ◌-◌, ◌*◌, ◌<◌, ◌^◌, ◌==◌, ◌&&◌, nat_eq, cond, Bool, true, ℤ, pos, ◌+ℤ◌, ◌≤ℤ◌, List, [], ◌∷◌, ◌++◌, get_or, All, FitsSigned, w32, ap, ◌∙◌, arith, eq-eqb, eqb-true}
+use Rattle.std.specs.Cmp.{both_ways}
 use Rattle.std.specs.List.{list_any}
 use Rattle.std.specs.HashSet.{HashSet, contains}
 use Rattle.std.specs.Ordering.{int_eq}
@@ -8,8 +9,8 @@ use Rattle.std.proofs.lemmas.List.Elements.{All-push}
 use Rattle.pl_spec.specs.declared.Column.{Column}
 use Rattle.pl_spec.specs.declared.Column.TheVariants.{OpenPrice, High, Low, Close, Volume}
 use Rattle.pl_spec.specs.World.{column_number}
-use Rattle.pl_spec.proofs.Signed.{pos-unsigned_abs, from_first, to_last}
-use Rattle.pl_spec.proofs.Lists.{any-push}
+use Rattle.pl_spec.proofs.Signed.{int_eq-true, eq-int_eq, pos-unsigned_abs, from_first, to_last}
+use Rattle.pl_records.proofs.Sorts.{AreKeys-more}
 use Rattle.pl_lifetimes.proofs.Filters.{any-same}
 use Rattle.pl_bars.proofs.BarSets.{same_place}
 use Rattle.pl_adjust.specs.declared.revisions.Revision.{Revision}
@@ -25,15 +26,10 @@ pub day_small : (d : ℤ) → FitsSigned w32 d → day_at d < 2 ^ 32
 day_small d h = let e : pos (day_at d) ≡ d +ℤ pos (2 ^ 31) = day_is d h in let l : (d +ℤ pos (2 ^ 31)) ≤ℤ pos (2 ^ 32 - 1) = to_last d h in omega (arith, ints)
 
 same_days : (m n : ℕ) (x y : ℤ) → pos m ≡ x +ℤ pos (2 ^ 31) → pos n ≡ y +ℤ pos (2 ^ 31) → (m == n) ≡ int_eq x y
-same_days m n x y e f = here (int_eq x y) refl
-  where
-    here : (b : Bool) → int_eq x y ≡ b → (m == n) ≡ b
-    here true t = let same : x ≡ y = grind (arith, ints) in let it : m ≡ n = omega (arith, ints) in eq-eqb m n it
-    here false t = not_true (m == n) (λ u. let it : m ≡ n = eqb-true m n u in let same : x ≡ y = omega (arith, ints) in absurd (grind (arith, ints)))
-      where
-        not_true : (b : Bool) → (b ≡ true → ⊥) → b ≡ false
-        not_true true f = absurd (f refl)
-        not_true false f = refl
+same_days m n x y e f =
+    both_ways _ _
+    (λ t. let it : m ≡ n = eqb-true m n t in let same : x ≡ y = omega (arith, ints) in eq-int_eq x y same)
+    (λ t. let same : x ≡ y = int_eq-true x y t in let it : m ≡ n = omega (arith, ints) in eq-eqb m n it)
 
 days_tell : (x y : ℤ) → FitsSigned w32 x → FitsSigned w32 y → (day_at x == day_at y) ≡ int_eq x y
 days_tell x y f g = same_days (day_at x) (day_at y) x y (day_is x f) (day_is y g)
@@ -72,11 +68,5 @@ found_by_key rows x all h = any-same (λ y. key_of y == key_of x) (is_same x) ro
 
 pub found-more : {S : Type 0} (old new : HashSet ℕ S) (rows : List Revision) (x : Revision) (k : ℕ) → k ≡ key_of x → HasDays x → AreFound old rows
     → ((j : ℕ) → contains nat_eq new j ≡ cond (nat_eq k j) true (contains nat_eq old j)) → AreFound new (rows ++ x ∷ [])
-found-more old new rows x k same days h e = record {
-  each = λ j. e j ∙ either (nat_eq k j) (contains nat_eq old j) ∙ ap (λ b. nat_eq k j || b) (h.each j) ∙ ap (λ i. nat_eq i j || list_any (λ y. key_of y == j) rows) same ∙ sym (any-push (λ y. key_of y == j) rows x);
-  days = All-push HasDays rows x h.days days;
-}
-  where
-    either : (b c : Bool) → cond b true c ≡ (b || c)
-    either true c = refl
-    either false c = refl
+found-more old new rows x k same days h e =
+    record { each = AreKeys-more key_of old new rows x k same h.each e; days = All-push HasDays rows x h.days days }

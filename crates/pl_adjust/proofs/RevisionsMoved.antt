@@ -1,15 +1,13 @@
 -- Records of revisions in another order are read as the same revisions in some order, and no cell is changed
 -- otherwise.
-use Rattle.std.proofs.Common.{◌≡◌, ℕ, ◌<◌, ◌≤◌, ◌==◌, ◌&&◌, ◌↔◌, nat_le, Bool, true, false, cond, if◌then◌else◌, ℤ, List, [], ◌∷◌, ◌++◌, map, filter, filter_map, length, get_or, All, AllPairs, IsPermutation, Option, Some, None, Result, Ok, Err, refl, sym, ◌∙◌, ap, arith}
-use Rattle.std.specs.List.{list_any}
+use Rattle.std.proofs.Common.{◌≡◌, ℕ, ◌<◌, ◌≤◌, ◌==◌, ◌&&◌, Bool, true, false, cond, if◌then◌else◌, ℤ, List, [], ◌∷◌, ◌++◌, map, filter, filter_map, length, All, AllPairs, IsPermutation, Option, Some, None, Result, Ok, Err, refl, sym, ◌∙◌, ap, arith, inl, inr}
+use Rattle.std.specs.Cmp.{both_ways}
 use Rattle.std.specs.List.Sorted.{ties}
 use Rattle.std.specs.Option.{is_some}
 use Rattle.std.specs.Ordering.{int_eq}
 use Rattle.std.proofs.lemmas.Bool.{and_parts, true≢false}
-use Rattle.std.proofs.lemmas.Bool.Decides.{nat_tests}
 use Rattle.std.proofs.lemmas.List.{length-map}
 use Rattle.std.proofs.lemmas.List.Elements.{All-filter, filter-append, filter_passes}
-use Rattle.std.proofs.lemmas.List.Folds.{list_any_at}
 use Rattle.std.proofs.lemmas.List.Kept.{AllPairs-filter}
 use Rattle.std.proofs.lemmas.List.Quantifiers.{all_pairs_push}
 use Rattle.std.proofs.lemmas.List.Sorted.{IsPermutation-map}
@@ -24,19 +22,18 @@ use Rattle.pl_spec.specs.World.{Event}
 use Rattle.pl_spec.proofs.Signed.{int_eq-true}
 use Rattle.pl_spec.proofs.Permuted.{filter-permuted, one-permuted}
 use Rattle.pl_records.specs.Reading.{Record, Fault, ◌>>=◌}
-use Rattle.pl_records.specs.RuleTable.{lacks}
-use Rattle.pl_records.proofs.Orders.{Fits, under-permuted}
+use Rattle.pl_records.proofs.Orders.{Looks, under-permuted}
 use Rattle.pl_records.proofs.Readings.{rows-keep, under_ok}
 use Rattle.pl_records.proofs.RuleTables.{told_ok, ok_or-Ok}
+use Rattle.pl_records.proofs.Sorts.{none-at}
 use Rattle.std.specs.Option.{ok_or}
 use Rattle.pl_calendar.specs.Days.{AreDays}
 use Rattle.pl_lifetimes.specs.Assets.{AreAssets}
 use Rattle.pl_spec.proofs.Lists.{filter-map, filter-swap}
-use Rattle.pl_bars.specs.Bars.{is_negative}
 use Rattle.pl_adjust.specs.declared.revisions.Revision.{Revision}
 use Rattle.pl_adjust.specs.Columns.{StandByDay, by_place, in_column}
 use Rattle.pl_adjust.specs.Revised.{AreKnown, ChangeAlike, IsKnown, revised, revised_by, revised_columns, revised_in}
-use Rattle.pl_adjust.specs.Revisions.{Rule, breaks, col_in, session_in, revision_in, header, is_same, is_soon, revision_or_rule, revisions_of}
+use Rattle.pl_adjust.specs.Revisions.{Rule, breaks, revision_in, header, is_same, revision_or_rule, revisions_of}
 use Rattle.pl_adjust.specs.Revisions as rules
 use Rattle.pl_adjust.proofs.ByColumn.{by_place-ties, rises-by_place, tied}
 use Rattle.pl_adjust.proofs.Kept.{in_front, front_order}
@@ -48,104 +45,41 @@ use Rattle.pl_adjust.proofs.Sids.{sid_of_col}
 -- ---- the rows of records in another order
 
 flips : (x y : Revision) → is_same x y ≡ is_same y x
-flips x y = here (is_same x y) (is_same y x) refl refl
+flips x y = both_ways _ _ (turned x y) (turned y x)
   where
     turned : (a b : Revision) → is_same a b ≡ true → is_same b a ≡ true
     turned a b t =
         let p = parts a b t in
         whole b a (record { sid = sym p.sid; session = sym p.session; column = sym p.column; known = sym p.known })
 
-    here : (b c : Bool) → is_same x y ≡ b → is_same y x ≡ c → b ≡ c
-    here true true e f = refl
-    here true false e f = sym (turned x y e) ∙ f
-    here false true e f = sym e ∙ turned y x f
-    here false false e f = refl
-
-none-at : {A : Type 0} (p : A → Bool) (xs : List A) → list_any p xs ≡ false → All (λ x. p x ≡ false) xs
-none-at p xs none k d l = here (p (get_or xs k d)) refl
-  where
-    here : (b : Bool) → p (get_or xs k d) ≡ b → p (get_or xs k d) ≡ false
-    here true e = absurd (true≢false (sym (list_any_at p xs k d l e) ∙ none))
-    here false e = e
-
--- that no rule is broken
-record Keeps (days : List ℤ) (assets : List AssetRow) (before : List Revision) (r : Record) (x : Revision) : Type 0 where
-  pub few : nat_le most_revisions (length before) ≡ false
-  pub written : revision_in r ≡ Some x
-  pub session : lacks (session_in days x) ≡ false
-  pub asset : lacks (col_in assets x) ≡ false
-  pub cell : is_negative x.value ≡ false
-  pub later : is_soon x ≡ false
-  pub own : list_any (is_same x) before ≡ false
-
 module _ (days : List ℤ) (assets : List AssetRow) where
-  keeps-said : (before : List Revision) (r : Record) (x : Revision) → revision_or_rule days assets before r ≡ Ok x → Keeps days assets before r x
-  unfolding revision_or_rule
-  keeps-said before r x e =
-      let k = told_ok rules.rules (breaks days assets before r) (ok_or (revision_in r) rules.BadField) x e in
-      let at : revision_in r ≡ Some x = ok_or-Ok (revision_in r) rules.BadField x k.1 in
-      record {
-        few = k.0.0;
-        written = at;
-        session = rw at at k.0.1.1.0;
-        asset = rw at at k.0.1.1.1.0;
-        cell = rw at at k.0.1.1.1.1.0;
-        later = rw at at k.0.1.1.1.1.1.0;
-        own = rw at at k.0.1.1.1.1.1.1.0;
-      }
-
-  said-keeps : (before : List Revision) (r : Record) (x : Revision) → Keeps days assets before r x → revision_or_rule days assets before r ≡ Ok x
-  unfolding revision_or_rule
-  said-keeps before r x h = rw (h.few, h.written, h.session, h.asset, h.cell, h.later, h.own) refl
-
-  -- the record is this revision, whatever the others are
-  abbrev IsOne : Record → Revision → Type 0
-  IsOne r x = Keeps days assets [] r x
-
-  tells : (before : List Revision) (r : Record) (x : Revision) → (revision_or_rule days assets before r ≡ Ok x) ↔ Fits most_revisions IsOne is_same before r x
-  tells before r x = (there, back)
-    where
-      room : (n : ℕ) → nat_le most_revisions n ≡ false → n < most_revisions
-      room n t = grind (arith, nat_tests)
-
-      some : (n : ℕ) → n < most_revisions → nat_le most_revisions n ≡ false
-      some n h = grind (arith, nat_tests)
-
-      there : revision_or_rule days assets before r ≡ Ok x → Fits most_revisions IsOne is_same before r x
-      there e =
-          let k = keeps-said before r x e in
-          record {
-            few = room (length before) k.few;
-            is = record { few = refl; written = k.written; session = k.session; asset = k.asset; cell = k.cell; later = k.later; own = refl };
-            own = k.own;
-          }
-
-      back : Fits most_revisions IsOne is_same before r x → revision_or_rule days assets before r ≡ Ok x
-      back h =
-          let k = h.is in
-          said-keeps before r x (record {
-            few = some (length before) h.few;
-            written = k.written;
-            session = k.session;
-            asset = k.asset;
-            cell = k.cell;
-            later = k.later;
-            own = h.own;
-          })
+  looks : (q : Rule) → Looks most_revisions is_same revision_in (breaks days assets) q
+  looks rules.BadHeader = inr (inr (λ before r. refl))
+  looks rules.TooMany = inl (λ before r. refl)
+  looks rules.BadField = inr (inr (λ before r. refl))
+  looks rules.NotSession = inr (inr (λ before r. refl))
+  looks rules.UnknownSid = inr (inr (λ before r. refl))
+  looks rules.Negative = inr (inr (λ before r. refl))
+  looks rules.TooSoon = inr (inr (λ before r. refl))
+  looks rules.Duplicate = inr (inl (λ before r. refl))
 
   pub revisions-moved : (first : Record) (records others : List Record) → IsPermutation records others → (rows : List Revision) → revisions_of days assets (first ∷ records) ≡ Ok rows
       → (found : List Revision) × (revisions_of days assets (first ∷ others) ≡ Ok found) × IsPermutation rows found
-  unfolding revisions_of
+  unfolding revisions_of revision_or_rule
   revisions-moved first records others m rows e =
-      under-permuted (revision_or_rule days assets) most_revisions IsOne is_same flips tells header rules.BadHeader first records others m rows e
+      under-permuted most_revisions is_same revision_in (breaks days assets) rules.rules rules.BadField (revision_or_rule days assets) (λ before r. refl) flips looks
+      header rules.BadHeader first records others m rows e
 
   -- no two of them are of one cell and known from one day on
   abbrev Apart : List Revision → Type 0
   Apart rows = AllPairs (λ x y. is_same y x ≡ false) rows
 
   apart-more : (before : List Revision) (r : Record) (x : Revision) → Apart before → revision_or_rule days assets before r ≡ Ok x → Apart (before ++ x ∷ [])
+  unfolding revision_or_rule
   apart-more before r x h e =
-      all_pairs_push (λ x y. is_same y x ≡ false) before x h (none-at (is_same x) before (keeps-said before r x e).own)
+      let k = told_ok rules.rules (breaks days assets before r) (ok_or (revision_in r) rules.BadField) x e in
+      let at : revision_in r ≡ Some x = ok_or-Ok (revision_in r) rules.BadField x k.1 in
+      all_pairs_push (λ x y. is_same y x ≡ false) before x h (none-at (is_same x) before (rw at at k.0.1.1.1.1.1.1.0))
 
   rows-apart : (records : List Record) (rows : List Revision) → revisions_of days assets records ≡ Ok rows → Apart rows
   unfolding revisions_of

@@ -1,5 +1,5 @@
 -- Revisions that are read: what is kept of all rows, and what a file says, in plain words.
-use Rattle.std.proofs.Common.{◌≡◌, ◌↔◌, ℕ, ◌<◌, ◌≤◌, ◌==◌, ◌&&◌, nat_le, true, false, List, [], ◌∷◌, ◌++◌, length, length-append, Option, Some, None, position, Ok, Err, refl, ap, ℤ, ◌<ℤ◌, ◌≤ℤ◌, arith, Any, eq-eqb, eqb-true}
+use Rattle.std.proofs.Common.{◌≡◌, ◌↔◌, ◌≤◌, ◌==◌, ◌&&◌, true, false, List, [], ◌∷◌, ◌++◌, Some, position, Ok, Err, refl, ap, ℤ, ◌<ℤ◌, ◌≤ℤ◌, arith, Any, eq-eqb, eqb-true}
 use Rattle.std.specs.Prelude.{Contains}
 use Rattle.std.specs.List.{list_any, slice_get}
 use Rattle.std.specs.Int.RustNames.{int_le}
@@ -10,21 +10,20 @@ use Rattle.std.proofs.lemmas.Int.{ints}
 use Rattle.std.proofs.lemmas.Bool.{and_parts}
 use Rattle.std.proofs.lemmas.Bool.Decides.{nat_tests}
 use Rattle.std.proofs.lemmas.List.Elements.{All-push, Contains-get_or}
-use Rattle.std.proofs.lemmas.List.Folds.{Any-from_list_any, list_any-from_Any}
 use Rattle.std.proofs.lemmas.Option.{slice_get_within, get_or_from_slice_get}
 use Rattle.pl_records.specs.Reading.{Record, Fault, field, Judges}
 use Rattle.pl_records.specs.RuleTable.{IsFirstBroken, lacks}
-use Rattle.pl_records.proofs.Readings.{rows-keep, under_ok, under-are, under-fault}
-use Rattle.pl_records.proofs.RuleTables.{told_ok, ok_or-Ok, lacks-tells, has-tells, Judges-table}
+use Rattle.pl_records.proofs.Readings.{few-more, rows-keep, under_ok, under-are, under-fault}
+use Rattle.pl_records.proofs.RuleTables.{any-tells, lacks-none, told_ok, ok_or-Ok, lacks-tells, has-tells, Judges-table}
 use Rattle.pl_spec.specs.declared.AssetRow.{AssetRow}
 use Rattle.pl_spec.specs.declared.Column.{Column}
 use Rattle.pl_spec.specs.World.{column_number}
 use Rattle.pl_spec.specs.Window.{same_column}
 use Rattle.pl_spec.proofs.DatesWritten.{IsDay-IsDate}
 use Rattle.pl_calendar.specs.Days.{AreDays}
-use Rattle.pl_lifetimes.specs.Assets.{AreAssets, sid_of}
+use Rattle.pl_lifetimes.specs.Assets.{AreAssets}
 use Rattle.pl_lifetimes.specs.Assets.{HasSid}
-use Rattle.pl_lifetimes.proofs.SidColumns.{sid_form}
+use Rattle.pl_lifetimes.proofs.SidColumns.{sid_form, sid_known}
 use Rattle.pl_bars.proofs.BarFields.{IsCellText-bar_cell, IsNegative-test, is_negative-test}
 use Rattle.pl_bars.proofs.BarsSaid.{day_form}
 use Rattle.pl_adjust.specs.declared.revisions.Revision.{Revision}
@@ -63,10 +62,7 @@ whole x y h =
     rw (sid, day, column, known) refl
 
 same_tells : (before : List Revision) (x : Revision) → Decides (list_any (is_same x) before) (Any (AreOfOne x) before)
-same_tells before x = (
-  λ e. (let it = Any-from_list_any (is_same x) before e in (it.0, it.1, it.2, it.3, parts x it.1 it.4)),
-  λ any. list_any-from_Any (is_same x) before (any.0, any.1, any.2, any.3, whole x any.1 any.4),
-)
+same_tells before x = any-tells (is_same x) (AreOfOne x) (λ y. (parts x y, whole x y)) before
 
 module _ (days : List ℤ) (assets : List AssetRow) (ud : AreDays days) (ua : AreAssets assets) where
   tells : (before : List Revision) (r : Record) (q : Rule) → Decides (breaks days assets before r q) (Breaks days assets before r q)
@@ -102,24 +98,11 @@ module _ (days : List ℤ) (assets : List AssetRow) (ud : AreDays days) (ua : Ar
 
   -- ---- what is kept of all rows
 
-  few_more : (before : List Revision) (x : Revision) → nat_le most_revisions (length before) ≡ false → length (before ++ x ∷ []) ≤ most_revisions
-  few_more before x n = let small : length before < most_revisions = grind (arith, nat_tests) in omega (arith, length-append before (x ∷ []))
-
-  known : (sid : ℕ) → lacks (position (λ a. sid_of a == sid) assets) ≡ false → (col : ℕ) × HasSid assets col sid
-  known sid t = here (position (λ a. sid_of a == sid) assets) refl t
-    where
-      here : (o : Option ℕ) → position (λ a. sid_of a == sid) assets ≡ o → lacks o ≡ false → (col : ℕ) × HasSid assets col sid
-      here None e t = absurd (let bad : true ≡ false = t in cc)
-      here (Some col) e t = (col, (sid_form assets ua sid col).0 e)
-
   dated : (day : ℤ) → lacks (position (λ d. int_eq d day) days) ≡ false → Contains days day
-  dated day t = here (position (λ d. int_eq d day) days) refl t
-    where
-      here : (o : Option ℕ) → position (λ d. int_eq d day) days ≡ o → lacks o ≡ false → Contains days day
-      here None e t = absurd (let bad : true ≡ false = t in cc)
-      here (Some s) e t =
-          let at : slice_get days s ≡ Some day = (day_form days ud day s).0 e in
-          rw (← get_or_from_slice_get days s day day at) (Contains-get_or days s day (slice_get_within days s day at))
+  dated day t =
+      let it = lacks-none (position (λ d. int_eq d day) days) t in
+      let at : slice_get days it.0 ≡ Some day = (day_form days ud day it.0).0 it.1 in
+      rw (← get_or_from_slice_get days it.0 day day at) (Contains-get_or days it.0 day (slice_get_within days it.0 day at))
 
   later : (a b : ℤ) → int_le a b ≡ false → b <ℤ a
   later a b t = grind (arith, ints)
@@ -131,9 +114,9 @@ module _ (days : List ℤ) (assets : List AssetRow) (ud : AreDays days) (ua : Ar
       let at : revision_in r ≡ Some x = ok_or-Ok (revision_in r) rules.BadField x k.1 in
       let it = (revision_form r x).0 at in
       record {
-        few = few_more before x k.0.0;
+        few = few-more most_revisions before x k.0.0;
         each = All-push (IsRevision days assets) before x h.each (record {
-          asset = known x.sid (rw at at k.0.1.1.1.0);
+          asset = sid_known assets ua x.sid (rw at at k.0.1.1.1.0);
           session = dated x.bar_day (rw at at k.0.1.1.0);
           later = later x.known x.bar_day (rw at at k.0.1.1.1.1.1.0);
           date = IsDay-IsDate (field r 4) x.known it.known;

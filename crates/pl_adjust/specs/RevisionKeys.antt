@@ -1,9 +1,9 @@
 -- The keys of revisions, by which one is found.
-use Rattle.std.specs.Prelude.{◌≡◌, ℕ, ◌+◌, ◌*◌, ◌^◌, ◌==◌, nat_eq, ℤ, pos, ◌+ℤ◌, List, All, FitsSigned}
+use Rattle.std.specs.Prelude.{ℕ, ◌+◌, ◌*◌, ◌^◌, ℤ, pos, ◌+ℤ◌, List, All, FitsSigned}
 use Rattle.std.specs.Int.{w32}
 use Rattle.std.specs.Int.RustNames.{unsigned_abs}
-use Rattle.std.specs.List.{list_any}
-use Rattle.std.specs.HashSet.{HashSet, contains}
+use Rattle.std.specs.HashSet.{HashSet}
+use Rattle.pl_records.specs.Sorted.{AreKeys}
 use Rattle.pl_spec.specs.World.{column_number}
 use Rattle.pl_adjust.specs.declared.revisions.Revision.{Revision}
 
@@ -21,5 +21,5 @@ pub record HasDays (x : Revision) : Type 0 where
 
 -- the set has the keys of the revisions
 pub record AreFound {S : Type 0} (keys : HashSet ℕ S) (rows : List Revision) : Type 0 where
-  pub each : (k : ℕ) → contains nat_eq keys k ≡ list_any (λ x. key_of x == k) rows
+  pub each : AreKeys key_of keys rows
   pub days : All HasDays rows

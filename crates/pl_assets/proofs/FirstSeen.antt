@@ -11,6 +11,7 @@ use Rattle.std.proofs.lemmas.Slice.Eq.{bytes_eq-Decides}
 use Rattle.std.proofs.lemmas.Bool.{cases_lt, true≢false}
 use Rattle.std.specs.List.{position, position_or_len, list_any}
 use Rattle.std.specs.Str.{bytes_eq}
+use Rattle.pl_records.proofs.RuleTables.{not_true}
 use Rattle.pl_spec.proofs.Places.{is_at, nowhere, past_all}
 use Rattle.pl_spec.specs.Parts.{ColumnLabel}
 use Rattle.pl_assets.specs.Labels.{first_seen, is_text, names_of, texts_of}
@@ -115,24 +116,22 @@ one_place xs i j once h l e = elim (cases_lt i j) [
     differ i j p l e = true≢false (sym (ap (bytes_eq (get_or xs i [])) (sym e) ∙ equal_text (get_or xs i [])) ∙ once i j [] p l)
 
 pub place_of_text : (xs : List (List ℕ)) (i : ℕ) → Once xs → i < length xs → position (bytes_eq (get_or xs i [])) xs ≡ Some i
-place_of_text xs i once h = is_at (bytes_eq (get_or xs i [])) xs i [] h (equal_text (get_or xs i [])) (λ k l. other_text k l (bytes_eq (get_or xs i []) (get_or xs k [])) refl)
+place_of_text xs i once h = is_at (bytes_eq (get_or xs i [])) xs i [] h (equal_text (get_or xs i [])) (λ k l. not_true _ (other_text k l))
   where
-    other_text : (k : ℕ) → k < i → (b : Bool) → bytes_eq (get_or xs i []) (get_or xs k []) ≡ b → bytes_eq (get_or xs i []) (get_or xs k []) ≡ false
-    other_text k l false t = t
-    other_text k l true t = absurd (let same : i ≡ k = one_place xs i k once h (omega arith) (same_text _ _ t) in omega arith)
+    other_text : (k : ℕ) → k < i → bytes_eq (get_or xs i []) (get_or xs k []) ≡ true → ⊥
+    other_text k l t = let same : i ≡ k = one_place xs i k once h (omega arith) (same_text _ _ t) in omega arith
 
 -- texts that stand once, one after the other
 pub front_more : (xs : List (List ℕ)) (i : ℕ) → Once xs → i < length xs → with_text (take i xs) (get_or xs i []) ≡ take (i + 1) xs
 front_more xs i once h = rw none (sym (take_more xs i [] h))
   where
-    other_text : (k : ℕ) (d : List ℕ) → k < i → (b : Bool) → bytes_eq (get_or xs i []) (get_or (take i xs) k d) ≡ b → bytes_eq (get_or xs i []) (get_or (take i xs) k d) ≡ false
-    other_text k d l false t = t
-    other_text k d l true t =
+    other_text : (k : ℕ) (d : List ℕ) → k < i → bytes_eq (get_or xs i []) (get_or (take i xs) k d) ≡ true → ⊥
+    other_text k d l t =
         let there : get_or (take i xs) k d ≡ get_or xs k [] = get_or-take i xs k d l ∙ get_or_default xs k d [] (omega arith) in
-        absurd (let same : i ≡ k = one_place xs i k once h (omega arith) (same_text _ _ t ∙ there) in omega arith)
+        let same : i ≡ k = one_place xs i k once h (omega arith) (same_text _ _ t ∙ there) in omega arith
 
     none : list_any (bytes_eq (get_or xs i [])) (take i xs) ≡ false
-    none = list_any_none (bytes_eq (get_or xs i [])) (take i xs) (λ k d l. other_text k d (omega (arith, length-take i xs)) _ refl)
+    none = list_any_none (bytes_eq (get_or xs i [])) (take i xs) (λ k d l. not_true _ (other_text k d (omega (arith, length-take i xs))))
 
 -- ---- a text more among texts
 

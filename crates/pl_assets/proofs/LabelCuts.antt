@@ -3,6 +3,7 @@ use Rattle.std.proofs.Common.{◌≡◌, ℕ, ◌+◌, ◌<◌, ◌≤◌, not, 
 use Rattle.std.specs.List.{list_any}
 use Rattle.std.specs.Str.{bytes_eq}
 use Rattle.std.specs.Int.RustNames.{int_le}
+use Rattle.std.proofs.lemmas.Bool.{not-false, not-true}
 use Rattle.std.proofs.lemmas.List.{append-nil, map-append, take_all, take_more}
 use Rattle.std.proofs.lemmas.List.Elements.{All-filter, filter-append}
 use Rattle.std.proofs.lemmas.List.Folds.{list_any_at}
@@ -36,18 +37,10 @@ text_known names texts p h = here p.code h.code
 -- ---- row by row
 
 pub started : (day : ℤ) (r : ColumnLabel) (rows : List ColumnLabel) → not (int_le r.start day) ≡ false → rows ++ r ∷ [] ≡ rows ++ labels_by day (r ∷ [])
-started day r rows e = here (int_le r.start day) refl e
-  where
-    here : (b : Bool) → int_le r.start day ≡ b → not b ≡ false → rows ++ r ∷ [] ≡ rows ++ labels_by day (r ∷ [])
-    here true t e = rw t refl
-    here false t e = absurd (cc)
+started day r rows e = rw (not-false (int_le r.start day) e) refl
 
 pub starts_later : (day : ℤ) (r : ColumnLabel) (rows : List ColumnLabel) → not (int_le r.start day) ≡ true → rows ≡ rows ++ labels_by day (r ∷ [])
-starts_later day r rows e = here (int_le r.start day) refl e
-  where
-    here : (b : Bool) → int_le r.start day ≡ b → not b ≡ true → rows ≡ rows ++ labels_by day (r ∷ [])
-    here true t e = absurd (cc)
-    here false t e = rw t (sym (append-nil rows))
+starts_later day r rows e = rw (not-true (int_le r.start day) e) (sym (append-nil rows))
 
 -- the next row after those before it
 pub row_cut : (day : ℤ) (t : LabelRows) (i : ℕ) (d : Place) (rows new : List ColumnLabel) → i < length t.places.items

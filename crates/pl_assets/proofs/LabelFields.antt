@@ -1,9 +1,9 @@
 -- The fields of a record of a label.
-use Rattle.std.proofs.Common.{◌≡◌, ◌↔◌, ℕ, zero, suc, ◌≤◌, ◌==◌, ◌&&◌, nat_le, Bool, true, false, if◌then◌else◌, ℤ, List, [], ◌∷◌, length, All, Option, Some, None, option_map, option_and_then, refl, arith}
+use Rattle.std.proofs.Common.{◌≡◌, ◌↔◌, ℕ, zero, suc, ◌≤◌, ◌==◌, ◌&&◌, nat_le, true, List, [], ◌∷◌, length, All, Some, refl, arith, eq-eqb, eqb-true}
 use Rattle.std.proofs.lemmas.Bool.{and_parts}
 use Rattle.std.proofs.lemmas.Bool.Decides.{nat_tests}
 use Rattle.pl_records.specs.Reading.{Record, field}
-use Rattle.pl_records.proofs.RuleTables.{and_then_some, map_some}
+use Rattle.pl_records.proofs.RuleTables.{when_some, and_then_some, map_some}
 use Rattle.pl_spec.specs.Dates.{date_in}
 use Rattle.pl_spec.specs.Decimals.{sid_in}
 use Rattle.pl_spec.specs.Names.{is_name}
@@ -40,46 +40,31 @@ printable-bytes (b ∷ bs) all =
 
 -- ---- the record
 
-made : Record → ℕ → ℤ → LabelRow
-made r sid start = record { name = field r 0; sid = sid; start = start; text = field r 3 }
-
-fields_said : Record → Option LabelRow
-unfolding made
-fields_said r = option_and_then (λ sid. option_map (λ start. made r sid start) (date_in (field r 2))) (sid_in (field r 1))
-
 pub IsLabelRecord-label_in : (r : Record) (l : LabelRow) → label_in r ≡ Some l → IsLabelRecord r l
-unfolding label_in fields_said made
-IsLabelRecord-label_in r l e = here (length r == 4 && (is_name (field r 0) && is_printable (field r 3))) refl e
-  where
-    here : (b : Bool) → (length r == 4 && (is_name (field r 0) && is_printable (field r 3))) ≡ b → (if b then fields_said r else None) ≡ Some l → IsLabelRecord r l
-    here false t e = absurd (let bad : None ≡ Some l = e in cc)
-    here true t e =
-        let p = and_parts (length r == 4) (is_name (field r 0) && is_printable (field r 3)) t in
-        let q = and_parts (is_name (field r 0)) (is_printable (field r 3)) p.1 in
-        let s = and_then_some (sid_in (field r 1)) _ l e in
-        let d = map_some (date_in (field r 2)) (λ start. made r s.0 start) l s.2 in
-        let n = decimal-sid_in (field r 1) s.0 s.1 in
-        rw (← d.2) record {
-          four = same_length p.0;
-          name = refl;
-          right_name = q.0;
-          small = n.0;
-          sid = n.1;
-          start = IsDate-date_in (field r 2) d.0 d.1;
-          text = refl;
-          printable = bytes-printable (field r 3) q.1;
-        }
-      where
-        same_length : (length r == 4) ≡ true → length r ≡ 4
-        same_length t = grind (arith, nat_tests)
+unfolding label_in
+IsLabelRecord-label_in r l e =
+    let it = when_some (length r == 4 && (is_name (field r 0) && is_printable (field r 3))) _ l e in
+    let p = and_parts (length r == 4) (is_name (field r 0) && is_printable (field r 3)) it.0 in
+    let q = and_parts (is_name (field r 0)) (is_printable (field r 3)) p.1 in
+    let s = and_then_some (sid_in (field r 1)) _ l it.1 in
+    let d = map_some (date_in (field r 2)) (λ start. record { name = field r 0; sid = s.0; start = start; text = field r 3 }) l s.2 in
+    let n = decimal-sid_in (field r 1) s.0 s.1 in
+    rw (← d.2) record {
+      four = eqb-true (length r) 4 p.0;
+      name = refl;
+      right_name = q.0;
+      small = n.0;
+      sid = n.1;
+      start = IsDate-date_in (field r 2) d.0 d.1;
+      text = refl;
+      printable = bytes-printable (field r 3) q.1;
+    }
 
 label_in-IsLabelRecord : (r : Record) (l : LabelRow) → IsLabelRecord r l → label_in r ≡ Some l
 unfolding label_in
 label_in-IsLabelRecord r l h =
-    let four : length r ≡ 4 = h.four in
-    let t : (length r == 4) ≡ true = grind (arith, nat_tests) in
     let n : is_name l.name ≡ true = h.right_name in
-    rw (t, h.name, h.text, n, printable-bytes l.text h.printable, sid_in-decimal (field r 1) l.sid h.small h.sid, date_in-IsDate (field r 2) l.start h.start) refl
+    rw (eq-eqb (length r) 4 h.four, h.name, h.text, n, printable-bytes l.text h.printable, sid_in-decimal (field r 1) l.sid h.small h.sid, date_in-IsDate (field r 2) l.start h.start) refl
 
 pub label_form : (r : Record) (l : LabelRow) → (label_in r ≡ Some l) ↔ IsLabelRecord r l
 label_form r l = (IsLabelRecord-label_in r l, label_in-IsLabelRecord r l)

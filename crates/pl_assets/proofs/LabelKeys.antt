@@ -1,34 +1,37 @@
 -- The keys of rows of labels tell their names, columns and days.
-use Rattle.std.proofs.Common.{◌≡◌, ℕ, ◌<◌, ◌^◌, ◌==◌, ◌&&◌, ◌||◌, nat_eq, cond, Bool, true, false, ℤ, List, [], ◌∷◌, ◌++◌, length, map, get_or, Some, None, FitsSigned, w32, refl, sym, ap, ◌∙◌, eq-eqb, eqb-true}
+use Rattle.std.proofs.Common.{◌≡◌, ℕ, ◌<◌, ◌^◌, ◌==◌, true, false, ℤ, List, [], length, map, get_or, Some, None, FitsSigned, w32, sym, ap, ◌∙◌, eq-eqb, eqb-true}
 use Rattle.std.specs.List.{list_any, position}
-use Rattle.std.specs.HashSet.{HashSet, contains}
 use Rattle.std.specs.Str.{bytes_eq}
-use Rattle.std.specs.Ordering.{int_eq}
-use Rattle.std.proofs.lemmas.Bool.{and_parts, true≢false}
+use Rattle.std.proofs.lemmas.Bool.{true≢false}
 use Rattle.std.proofs.lemmas.List.Folds.{list_any_none}
 use Rattle.std.proofs.lemmas.List.Quantifiers.{position-Some}
 use Rattle.std.specs.Cmp.{both_ways}
+use Rattle.pl_records.proofs.RuleTables.{not_true}
 use Rattle.pl_spec.specs.Parts.{ColumnLabel}
+use Rattle.pl_spec.specs.World.{LabelRow}
 use Rattle.pl_spec.proofs.Places.{nowhere}
-use Rattle.pl_spec.proofs.Signed.{int_eq-true, eq-int_eq}
-use Rattle.pl_spec.proofs.Lists.{any-push}
 use Rattle.pl_assets.specs.Labels.{is_from}
-use Rattle.pl_assets.specs.LabelPlaces.{AreKeys, AreNumbered, IsPlace, key, key_of, row_at, shown_rows}
+use Rattle.pl_assets.specs.LabelPlaces.{AreNumbered, IsPlace, key, key_of, row_at, shown_rows}
 use Rattle.pl_assets.specs.declared.labels.rows.Place.{Place}
 use Rattle.pl_assets.specs.declared.labels.rows.LabelRows.{LabelRows}
 use Rattle.pl_lifetimes.proofs.Filters.{any-same}
 use Rattle.pl_assets.proofs.TextLists.{any-map}
+use Rattle.pl_assets.proofs.Dated.{Dated}
+use Rattle.pl_assets.proofs.Dated as dated
 use Rattle.pl_assets.proofs.FirstSeen.{Once, seen-once, one_place, same_text, equal_text}
 use Rattle.pl_assets.proofs.LabelOrder.{same_key}
 
+abbrev pub labels : Dated ColumnLabel
+labels = record { name = λ r. r.name; col = λ r. r.col; day = λ r. r.start }
+
+abbrev pub labels_said : Dated LabelRow
+labels_said = record { name = λ l. l.name; col = λ l. l.sid; day = λ l. l.start }
+
 pub from_parts : (name : List ℕ) (col : ℕ) (day : ℤ) (r : ColumnLabel) → is_from name col day r ≡ true → (r.name ≡ name) × (r.col ≡ col) × (r.start ≡ day)
-from_parts name col day r t =
-    let front = and_parts (bytes_eq r.name name) (r.col == col && int_eq r.start day) t in
-    let back = and_parts (r.col == col) (int_eq r.start day) front.1 in
-    (same_text r.name name front.0, eqb-true r.col col back.0, int_eq-true r.start day back.1)
+from_parts = dated.from_parts labels
 
 pub parts_from : (name : List ℕ) (col : ℕ) (day : ℤ) (r : ColumnLabel) → r.name ≡ name → r.col ≡ col → r.start ≡ day → is_from name col day r ≡ true
-parts_from name col day r e f g = rw (e, f, g, equal_text name, eq-eqb col col refl, eq-int_eq day day refl) refl
+parts_from = dated.parts_from labels
 
 pub once_named : (t : LabelRows) → AreNumbered t → Once t.names
 once_named t h = rw h.names (seen-once (map (λ (r : ColumnLabel). r.name) (shown_rows t)))
@@ -60,28 +63,13 @@ is_known t name number col day h e small fits =
 pub not_named : (t : LabelRows) (name : List ℕ) (col : ℕ) (day : ℤ) → AreNumbered t → position (bytes_eq name) t.names ≡ None → list_any (is_from name col day) (shown_rows t) ≡ false
 not_named t name col day h e =
     any-map (is_from name col day) (row_at t.names t.texts) t.places.items
-    ∙ list_any_none (λ p. is_from name col day (row_at t.names t.texts p)) t.places.items (λ k d l. other (get_or t.places.items k d) (h.places k d l) _ refl)
+    ∙ list_any_none (λ p. is_from name col day (row_at t.names t.texts p)) t.places.items (λ k d l. not_true _ (other (get_or t.places.items k d) (h.places k d l)))
   where
-    other : (p : Place) → IsPlace t.names t.texts p → (b : Bool) → is_from name col day (row_at t.names t.texts p) ≡ b → is_from name col day (row_at t.names t.texts p) ≡ false
-    other p q false u = u
-    other p q true u =
+    other : (p : Place) → IsPlace t.names t.texts p → is_from name col day (row_at t.names t.texts p) ≡ true → ⊥
+    other p q u =
         let parts = from_parts name col day (row_at t.names t.texts p) u in
         let none : bytes_eq name (get_or t.names p.name []) ≡ false = nowhere (bytes_eq name) t.names e p.name [] q.name in
-        absurd (true≢false (sym (ap (bytes_eq name) parts.0 ∙ equal_text name) ∙ none))
-
--- ---- the set of keys
-
-pub AreKeys-more : {S : Type 0} (old new : HashSet ℕ S) (places : List Place) (p : Place) (k : ℕ) → k ≡ key_of p → AreKeys old places
-    → ((j : ℕ) → contains nat_eq new j ≡ cond (nat_eq k j) true (contains nat_eq old j)) → AreKeys new (places ++ p ∷ [])
-AreKeys-more old new places p k same h e =
-    record { each = λ j. e j ∙ either (nat_eq k j) (contains nat_eq old j) ∙ ap (λ b. nat_eq k j || b) (h.each j) ∙ ap (λ i. nat_eq i j || list_any (λ q. key_of q == j) places) same ∙ sym (any-push (λ q. key_of q == j) places p) }
-  where
-    either : (b c : Bool) → cond b true c ≡ (b || c)
-    either true c = refl
-    either false c = refl
-
-pub AreKeys-none : {S : Type 0} (keys : HashSet ℕ S) (places : List Place) → places ≡ [] → ((k : ℕ) → contains nat_eq keys k ≡ false) → AreKeys keys places
-AreKeys-none keys places e none = rw e record { each = none }
+        true≢false (sym (ap (bytes_eq name) parts.0 ∙ equal_text name) ∙ none)
 
 pub number_inside : (names : List (List ℕ)) (name : List ℕ) (number : ℕ) → position (bytes_eq name) names ≡ Some number → number < length names
 number_inside names name number e = (position-Some (bytes_eq name) names number [] e).0

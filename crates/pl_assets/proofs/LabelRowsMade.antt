@@ -1,11 +1,12 @@
 -- A row of labels after others.
-use Rattle.std.proofs.Common.{◌≡◌, ℕ, zero, suc, ◌<◌, ◌≤◌, ◌^◌, Bool, true, false, if◌then◌else◌, List, [], ◌∷◌, ◌++◌, length, take, map, get_or, All, Option, Some, None, IfSome, Result, Ok, Err, OnErr, FitsSigned, w32, refl, sym, ap, ◌∙◌, arith}
+use Rattle.std.proofs.Common.{true≢false, ◌≡◌, ℕ, suc, ◌<◌, ◌≤◌, ◌^◌, Bool, true, false, if◌then◌else◌, List, [], ◌∷◌, ◌++◌, length, take, map, get_or, All, Option, Some, None, IfSome, Result, Ok, Err, OnErr, FitsSigned, w32, refl, sym, ap, ◌∙◌, arith}
 use Rattle.std.proofs.lemmas.List.{length-map, map-append, take_all}
-use Rattle.std.proofs.lemmas.List.Elements.{All-append}
-use Rattle.std.proofs.lemmas.List.Folds.{list_any_at}
+use Rattle.std.proofs.lemmas.List.Elements.{All-push}
 use Rattle.std.proofs.lemmas.List.Quantifiers.{all_pairs_push}
 use Rattle.std.specs.List.{list_any, position_or_len}
 use Rattle.std.specs.Str.{bytes_eq}
+use Rattle.pl_records.proofs.RuleTables.{not_true}
+use Rattle.pl_records.proofs.Sorts.{none-at}
 use Rattle.pl_spec.specs.Parts.{ColumnLabel}
 use Rattle.pl_assets.specs.Labels.{AreTexts, first_seen, is_text, names_of, with_text, with_label}
 use Rattle.pl_assets.specs.LabelPlaces.{AreNumbered, IsPlace, KeepsFront, shown_rows, row_at, text_in}
@@ -42,27 +43,17 @@ texts_more_codes : (texts : List (List ℕ)) (text : List ℕ) → AreTexts text
 texts_more_codes texts text h few = here (is_text text) refl few
   where
     behind : list_any (bytes_eq text) texts ≡ false → All (λ x. bytes_eq x text ≡ false) texts
-    behind none k d l = other (bytes_eq (get_or texts k d) text) refl
-      where
-        other : (b : Bool) → bytes_eq (get_or texts k d) text ≡ b → bytes_eq (get_or texts k d) text ≡ false
-        other false t = t
-        other true t =
-            let same : bytes_eq text (get_or texts k d) ≡ true = ap (bytes_eq text) (same_text (get_or texts k d) text t) ∙ equal_text text in
-            let there : list_any (bytes_eq text) texts ≡ true = list_any_at (bytes_eq text) texts k d l same in
-            absurd (let bad : true ≡ false = sym there ∙ none in cc)
+    behind none k d l =
+        not_true _ (λ t. true≢false (sym (ap (bytes_eq text) (same_text (get_or texts k d) text t) ∙ equal_text text) ∙ none-at (bytes_eq text) texts none k d l))
 
     added : (c : Bool) → list_any (bytes_eq text) texts ≡ c → is_text text ≡ true → length (if c then texts else texts ++ text ∷ []) ≤ 2 ^ 32 → AreTexts (if c then texts else texts ++ text ∷ [])
     added true u t few = h
     added false u t few =
         record {
           once = all_pairs_push (λ x y. bytes_eq x y ≡ false) texts text h.once (behind u);
-          full = All-append (λ x. is_text x ≡ true) texts (text ∷ []) h.full (alone t);
+          full = All-push (λ x. is_text x ≡ true) texts text h.full t;
           few = few;
         }
-      where
-        alone : is_text text ≡ true → All (λ x. is_text x ≡ true) (text ∷ [])
-        alone t zero d l = t
-        alone t (suc k) d l = absurd (omega arith)
 
     here : (b : Bool) → is_text text ≡ b → length (if b then with_text texts text else texts) ≤ 2 ^ 32 → AreTexts (if b then with_text texts text else texts)
     here true t few = added (list_any (bytes_eq text) texts) refl t few
@@ -132,15 +123,14 @@ pub numbered_more : (old new : LabelRows) (name text : List ℕ) (p : Place) →
 numbered_more old new name text p h n t e next few =
     let rows : shown_rows new ≡ shown_rows old ++ row_of name text p ∷ [] = rows_more old new name text p h n t e next in
     record {
-      places = rw (n, t, e) (All-append (IsPlace (with_text old.names name) (with_label old.texts text)) old.places.items (p ∷ []) (places_kept old.names old.texts name text old.places.items h.places) (alone next));
+      places = rw (n, t, e) (All-push (IsPlace (with_text old.names name) (with_label old.texts text)) old.places.items p (places_kept old.names old.texts name text old.places.items h.places) alone);
       names = n ∙ ap (λ l. with_text l name) h.names ∙ sym (ap names_of rows ∙ names_more (shown_rows old) (row_of name text p));
       texts = rw t (texts_more_codes old.texts text h.texts (rw t at few));
     }
   where
-    alone : IsNext old.names old.texts name text p → All (IsPlace (with_text old.names name) (with_label old.texts text)) (p ∷ [])
-    alone next zero d l =
+    alone : IsPlace (with_text old.names name) (with_label old.texts text) p
+    alone =
         record { name = (let small : position_or_len (bytes_eq name) old.names < length (with_text old.names name) = (text_placed old.names name).0 in rw next.number small); code = next.known; col = next.col; day = next.day }
-    alone next (suc k) d l = absurd (omega arith)
 
 -- ---- how many
 

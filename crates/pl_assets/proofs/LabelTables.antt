@@ -1,12 +1,12 @@
 -- Tables of labels: their order, with one row more, and of a file.
-use Rattle.std.proofs.Common.{◌≡◌, ◌≢◌, ℕ, zero, suc, ◌+◌, ◌-◌, ◌<◌, ◌≤◌, ◌^◌, nat_le, Bool, true, false, if◌then◌else◌, List, [], ◌∷◌, ◌++◌, length, length-append, map, get_or, All, AllPairs, None, sym, ap, ◌∙◌, arith, inl, inr, pos}
+use Rattle.std.proofs.Common.{◌≡◌, ◌≢◌, ℕ, ◌+◌, ◌-◌, ◌<◌, ◌≤◌, ◌^◌, nat_le, Bool, true, false, if◌then◌else◌, List, [], ◌∷◌, ◌++◌, length, length-append, map, get_or, All, AllPairs, None, sym, ap, ◌∙◌, arith, inl, inr, pos}
 use Rattle.std.specs.Prelude.{Contains}
 use Rattle.std.specs.List.{insert, list_any}
 use Rattle.std.specs.Str.{bytes_eq}
 use Rattle.std.proofs.lemmas.Bool.{cases_lt, true≢false}
 use Rattle.std.proofs.lemmas.Bool.Decides.{nat_tests}
 use Rattle.std.proofs.lemmas.List.{length-map, get_or-map, get_or_append_left, get_or_default}
-use Rattle.std.proofs.lemmas.List.Elements.{All-append, All-filter, All-map}
+use Rattle.std.proofs.lemmas.List.Elements.{All-filter, All-map, All-push}
 use Rattle.std.proofs.lemmas.List.Edits.{length-insert, get_or-insert_at, get_or-insert_below, get_or-insert_above}
 use Rattle.pl_spec.specs.Parts.{ColumnLabel}
 use Rattle.pl_spec.specs.Limits.{most_labels}
@@ -15,11 +15,11 @@ use Rattle.pl_assets.specs.LabelPlaces.{AreNumbered, IsOrder, IsTable, KeyPoint,
 use Rattle.pl_assets.specs.declared.labels.rows.Place.{Place}
 use Rattle.pl_assets.specs.declared.labels.rows.LabelRows.{LabelRows}
 use Rattle.pl_assets.proofs.FirstSeen.{texts_more, seen-all}
-use Rattle.pl_assets.proofs.LabelKeys.{parts_from}
+use Rattle.pl_assets.proofs.LabelKeys.{labels, parts_from}
 use Rattle.pl_assets.proofs.LabelOrder.{key_there, same_key}
 use Rattle.pl_assets.proofs.LabelRowsMade.{no_numbers, no_rows}
 use Rattle.pl_assets.proofs.LabelSearch.{rows_coded}
-use Rattle.pl_assets.proofs.LabelsRead.{once-more, right-more}
+use Rattle.pl_assets.proofs.Dated.{once-more}
 
 blank : Place
 blank = record { name = 0; col = 0; start = pos 0; code = None }
@@ -150,13 +150,9 @@ order_none places e = rw e record { ascend = λ i j d h l. absurd (omega arith);
 right_text_more : (texts : List (List ℕ)) (text : List ℕ) → All IsLabelText texts → IsLabelText text → All IsLabelText (with_label texts text)
 right_text_more texts text h one = here (is_text text) (list_any (bytes_eq text) texts)
   where
-    alone : All IsLabelText (text ∷ [])
-    alone zero d l = one
-    alone (suc k) d l = absurd (omega arith)
-
     here : (b c : Bool) → All IsLabelText (if b then (if c then texts else texts ++ text ∷ []) else texts)
     here true true = h
-    here true false = All-append IsLabelText texts (text ∷ []) h alone
+    here true false = All-push IsLabelText texts text h one
     here false c = h
 
 no_labels_right : AreLabels no_labels
@@ -183,7 +179,7 @@ kept_labels t numbered rows once few right = record { rows = rows; once = once; 
 pub labels_more : (old new : LabelRows) (r : ColumnLabel) → AreLabels (table_in old) → AreNumbered new → MayFollow (shown_rows old) r → shown_rows new ≡ shown_rows old ++ r ∷ [] → new.texts ≡ with_label old.texts r.text
     → AreLabels (table_in new)
 labels_more old new r h numbered may e t =
-    kept_labels new numbered (rw e (right-more (shown_rows old) r h.rows may.row)) (rw e (once-more (shown_rows old) r h.once may.own_start))
+    kept_labels new numbered (rw e (All-push IsLabelRow (shown_rows old) r h.rows may.row)) (rw e (once-more labels (shown_rows old) r h.once may.own_start))
     (rw e (let room : length (shown_rows old) < most_labels = may.room in omega (arith, length-append (shown_rows old) (r ∷ []))))
     (rw t (right_text_more old.texts r.text h.right (record { printable = may.row.printable; short = may.row.short })))
 

@@ -1,16 +1,14 @@
--- Labels that are read: what each test tells, and what is kept of all rows.
-use Rattle.std.proofs.Common.{◌≡◌, ℕ, zero, suc, ◌==◌, ◌<◌, ◌≤◌, nat_le, nat_lt, Bool, true, false, List, [], ◌∷◌, ◌++◌, length, get_or, length-append, All, Some, option_map, Ok, refl, sym, subst, ap, ◌∙◌, position, arith}
+-- What is kept of all labels that are read.
+use Rattle.std.proofs.Common.{◌≡◌, ℕ, ◌==◌, ◌<◌, ◌≤◌, nat_lt, false, List, [], ◌∷◌, ◌++◌, length, All, Some, option_map, Ok, subst, arith}
 use Rattle.std.specs.List.{list_any, AllPairs}
 use Rattle.std.specs.Option.{ok_or}
 use Rattle.std.proofs.lemmas.Bool.Decides.{nat_tests}
-use Rattle.std.proofs.lemmas.List.Quantifiers.{position-Some, all_pairs_push}
-use Rattle.std.proofs.lemmas.List.Elements.{All-append}
-use Rattle.std.proofs.lemmas.List.Folds.{list_any_at}
+use Rattle.std.proofs.lemmas.List.Quantifiers.{position-Some}
+use Rattle.std.proofs.lemmas.List.Elements.{All-push}
 use Rattle.pl_records.specs.Reading.{Record}
 use Rattle.pl_spec.specs.Parts.{ColumnLabel}
-use Rattle.pl_spec.specs.World.{LabelRow}
 use Rattle.pl_spec.specs.declared.AssetRow.{AssetRow}
-use Rattle.pl_records.proofs.Readings.{rows-keep, under_ok}
+use Rattle.pl_records.proofs.Readings.{few-more, rows-keep, under_ok}
 use Rattle.pl_records.proofs.RuleTables.{and_then_some, map_some, told_ok, ok_or-Ok}
 use Rattle.pl_lifetimes.specs.Assets.{sid_of}
 use Rattle.pl_assets.specs.Labels.{breaks, col_in, in_column, row_of, header, label_in, is_from, label_or_rule, label_rows_in, IsLabelRow}
@@ -18,39 +16,8 @@ use Rattle.pl_assets.specs.Labels as rules
 use Rattle.pl_spec.specs.Limits.{most_labels, most_label_bytes}
 use Rattle.pl_spec.proofs.Columns.{no_asset}
 use Rattle.pl_assets.proofs.LabelFields.{IsLabelRecord-label_in, printable-bytes}
-use Rattle.pl_assets.proofs.LabelKeys.{from_parts, parts_from}
-
--- ---- what the tests were where a record says its row
-
-pub record Says (assets : List AssetRow) (before : List ColumnLabel) (r : Record) (row : ColumnLabel) : Type 0 where
-  pub few : nat_le most_labels (length before) ≡ false
-  pub label : LabelRow
-  pub written : label_in r ≡ Some label
-  pub short : nat_lt most_label_bytes (length label.text) ≡ false
-  pub col : position (λ a. sid_of a == label.sid) assets ≡ Some row.col
-  pub own : list_any (is_from label.name row.col label.start) before ≡ false
-  pub same : in_column label row.col ≡ row
-
-pub label_or_rule-ok : (assets : List AssetRow) (before : List ColumnLabel) (r : Record) (row : ColumnLabel) → label_or_rule assets before r ≡ Ok row → Says assets before r row
-unfolding label_or_rule
-label_or_rule-ok assets before r row e =
-    let k = told_ok rules.rules (breaks assets before r) (ok_or (row_of assets r) rules.BadField) row e in
-    let at : row_of assets r ≡ Some row = ok_or-Ok (row_of assets r) rules.BadField row k.1 in
-    let l = and_then_some (label_in r) (λ l. option_map (in_column l) (col_in assets l)) row at in
-    let c = map_some (col_in assets l.0) (in_column l.0) row l.2 in
-    let in_col : c.0 ≡ row.col = ap (λ (x : ColumnLabel). x.col) c.2 in
-    let own : list_any (is_from row.name row.col row.start) before ≡ false = rw at at k.0.1.1.1.1.0 in
-    record {
-      few = k.0.0;
-      label = l.0;
-      written = l.1;
-      short = rw l.1 at k.0.1.1.0;
-      col = c.1 ∙ ap (λ x. Some x) in_col;
-      own = ap (λ (x : ColumnLabel). list_any (is_from x.name row.col x.start) before) c.2 ∙ own;
-      same = ap (in_column l.0) (sym in_col) ∙ c.2;
-    }
-
--- ---- what is kept of all rows
+use Rattle.pl_assets.proofs.Dated.{once-more}
+use Rattle.pl_assets.proofs.LabelKeys.{labels}
 
 -- labels as they are kept, in columns of assets
 pub record AreRead (assets : List AssetRow) (rows : List ColumnLabel) : Type 0 where
@@ -59,47 +26,25 @@ pub record AreRead (assets : List AssetRow) (rows : List ColumnLabel) : Type 0 w
   pub few : length rows ≤ most_labels
   pub cols : All (λ r. r.col < length assets) rows
 
-one_row : (P : ColumnLabel → Type 0) (r : ColumnLabel) → P r → All P (r ∷ [])
-one_row P r p zero d h = p
-one_row P r p (suc k) d h = absurd (omega arith)
-
--- a row from whose start none before is, is not from theirs
-pub others-before : (rows : List ColumnLabel) (r : ColumnLabel) → list_any (is_from r.name r.col r.start) rows ≡ false → All (λ q. is_from q.name q.col q.start r ≡ false) rows
-others-before rows r e k d h = here (is_from (get_or rows k d).name (get_or rows k d).col (get_or rows k d).start r) refl
-  where
-    here : (b : Bool) → is_from (get_or rows k d).name (get_or rows k d).col (get_or rows k d).start r ≡ b → is_from (get_or rows k d).name (get_or rows k d).col (get_or rows k d).start r ≡ false
-    here false t = t
-    here true t =
-        let q : ColumnLabel = get_or rows k d in
-        let p = from_parts q.name q.col q.start r t in
-        let back : is_from r.name r.col r.start q ≡ true = parts_from r.name r.col r.start q (sym p.0) (sym p.1) (sym p.2) in
-        let there : list_any (is_from r.name r.col r.start) rows ≡ true = list_any_at (is_from r.name r.col r.start) rows k d h back in
-        absurd (let bad : true ≡ false = sym there ∙ e in cc)
-
-pub once-more : (rows : List ColumnLabel) (r : ColumnLabel) → AllPairs (λ r q. is_from r.name r.col r.start q ≡ false) rows → list_any (is_from r.name r.col r.start) rows ≡ false
-    → AllPairs (λ r q. is_from r.name r.col r.start q ≡ false) (rows ++ r ∷ [])
-once-more rows r once e = all_pairs_push (λ r q. is_from r.name r.col r.start q ≡ false) rows r once (others-before rows r e)
-
-pub right-more : (rows : List ColumnLabel) (r : ColumnLabel) → All IsLabelRow rows → IsLabelRow r → All IsLabelRow (rows ++ r ∷ [])
-right-more rows r all h = All-append IsLabelRow rows (r ∷ []) all (one_row IsLabelRow r h)
-
 read-more : (assets : List AssetRow) (before : List ColumnLabel) (r : Record) (row : ColumnLabel) → AreRead assets before → label_or_rule assets before r ≡ Ok row → AreRead assets (before ++ row ∷ [])
+unfolding label_or_rule
 read-more assets before r row h s =
-    let ok = label_or_rule-ok assets before r row s in
-    let w = IsLabelRecord-label_in r ok.label ok.written in
-    let at = position-Some (λ a. sid_of a == ok.label.sid) assets row.col no_asset ok.col in
-    let room : length before < most_labels = room_left (length before) ok.few in
-    let right : IsLabelRow (in_column ok.label row.col) = record { name = w.right_name; printable = printable-bytes ok.label.text w.printable; short = fits (length ok.label.text) ok.short } in
+    let k = told_ok rules.rules (breaks assets before r) (ok_or (row_of assets r) rules.BadField) row s in
+    let at : row_of assets r ≡ Some row = ok_or-Ok (row_of assets r) rules.BadField row k.1 in
+    let l = and_then_some (label_in r) (λ l. option_map (in_column l) (col_in assets l)) row at in
+    let c = map_some (col_in assets l.0) (in_column l.0) row l.2 in
+    let col = position-Some (λ a. sid_of a == l.0.sid) assets c.0 no_asset c.1 in
+    let w = IsLabelRecord-label_in r l.0 l.1 in
+    let short : nat_lt most_label_bytes (length l.0.text) ≡ false = rw l.1 at k.0.1.1.0 in
+    let own : list_any (is_from row.name row.col row.start) before ≡ false = rw at at k.0.1.1.1.1.0 in
+    let right : IsLabelRow (in_column l.0 c.0) = record { name = w.right_name; printable = printable-bytes l.0.text w.printable; short = fits (length l.0.text) short } in
     record {
-      right = right-more before row h.right (subst IsLabelRow ok.same right);
-      once = once-more before row h.once (ap (λ (x : ColumnLabel). list_any (is_from x.name row.col x.start) before) (sym ok.same) ∙ ok.own);
-      few = omega (arith, length-append before (row ∷ []));
-      cols = All-append (λ (x : ColumnLabel). x.col < length assets) before (row ∷ []) h.cols (one_row (λ x. x.col < length assets) row at.0);
+      right = All-push IsLabelRow before row h.right (subst IsLabelRow c.2 right);
+      once = once-more labels before row h.once own;
+      few = few-more most_labels before row k.0.0;
+      cols = All-push (λ (x : ColumnLabel). x.col < length assets) before row h.cols (subst (λ (x : ColumnLabel). x.col < length assets) c.2 col.0);
     }
   where
-    room_left : (n : ℕ) → nat_le most_labels n ≡ false → n < most_labels
-    room_left n t = grind (arith, nat_tests)
-
     fits : (n : ℕ) → nat_lt most_label_bytes n ≡ false → n ≤ most_label_bytes
     fits n t = grind (arith, nat_tests)
 

@@ -1,15 +1,14 @@
 -- What a record says of its label, in plain words.
-use Rattle.std.proofs.Common.{◌≡◌, ℕ, ◌<◌, ◌↔◌, nat_lt, true, false, ℤ, List, length, Some, option_map, Any, Result, Ok, Err, refl, sym, ◌∙◌, ap, arith}
+use Rattle.std.proofs.Common.{◌≡◌, ℕ, ◌<◌, ◌↔◌, nat_lt, true, false, List, length, Some, option_map, Any, Ok, Err, refl, sym, ◌∙◌, ap, arith}
 use Rattle.std.specs.List.{list_any}
 use Rattle.std.specs.Bool.{Decides}
 use Rattle.std.proofs.lemmas.Bool.Decides.{nat_tests}
-use Rattle.std.proofs.lemmas.List.Folds.{list_any_at, Any-from_list_any}
 use Rattle.pl_records.specs.Reading.{Record, Fault, ◌>>=◌, AreRowsUnder, Judges}
 use Rattle.pl_records.specs.RuleTable.{IsFirstBroken, KeepsAll}
 use Rattle.pl_spec.specs.Parts.{ColumnLabel}
 use Rattle.pl_spec.specs.World.{LabelRow}
 use Rattle.pl_spec.specs.declared.AssetRow.{AssetRow}
-use Rattle.pl_records.proofs.Readings.{under-are, under-fault}
+use Rattle.pl_records.proofs.Readings.{made-of, made-fault, under-are, under-fault}
 use Rattle.pl_records.proofs.RuleTables.{and_then_some, map_some, lacks-tells, has-tells, Judges-table}
 use Rattle.pl_lifetimes.specs.Assets.{AreAssets}
 use Rattle.pl_assets.specs.Labels.{Rule, LabelTable, breaks, col_in, in_column, row_of, header, label_in, is_from, label_or_rule, label_rows_in, labels_of, table_of}
@@ -17,18 +16,15 @@ use Rattle.pl_assets.specs.Labels as rules
 use Rattle.pl_lifetimes.specs.Assets.{HasSid}
 use Rattle.pl_assets.specs.LabelRules.{IsLabelRecord, IsRowRecord, StartWith, IsLabel, Breaks, AreLabelsOf, IsLabelsFault}
 use Rattle.pl_spec.specs.Limits.{most_label_bytes}
-use Rattle.pl_assets.proofs.LabelKeys.{from_parts, parts_from}
+use Rattle.pl_assets.proofs.Dated.{clash-tells}
+use Rattle.pl_assets.proofs.LabelKeys.{labels}
 use Rattle.pl_assets.proofs.LabelFields.{label_form}
 use Rattle.pl_lifetimes.proofs.SidColumns.{sid_form}
 
 -- ---- the rows before
 
 start_tells : (before : List ColumnLabel) (row : ColumnLabel) → Decides (list_any (is_from row.name row.col row.start) before) (Any (StartWith row) before)
-start_tells before row = (
-  λ e. (let it = Any-from_list_any (is_from row.name row.col row.start) before e in (it.0, it.1, it.2, it.3, from_parts row.name row.col row.start it.1 it.4)),
-  λ h. list_any_at (is_from row.name row.col row.start) before h.0 h.1 h.2
-      (rw h.3 (parts_from row.name row.col row.start h.1 h.4.0 h.4.1 h.4.2)),
-)
+start_tells = clash-tells labels
 
 -- ---- what is said
 
@@ -49,14 +45,9 @@ row_form assets up r row = (there, back)
           same = record { name = refl; in_col = refl; start = refl; text = refl };
         }
 
-    joined : (a b : List ℕ) (c : ℕ) (e f : ℤ) (u v : List ℕ) → a ≡ b → e ≡ f → u ≡ v
-        → (let x : ColumnLabel = record { name = a; col = c; start = e; text = u } in x) ≡ record { name = b; col = c; start = f; text = v }
-    joined a b c e f u v p s t = rw (p, s, t) refl
-
     back : IsRowRecord assets r row → row_of assets r ≡ Some row
     back h =
-        rw ((label_form r h.label).1 h.written, (col_form assets up h.label row.col).1 h.asset)
-        (ap (λ x. Some x) (joined h.label.name row.name row.col h.label.start row.start h.label.text row.text (sym h.same.name) (sym h.same.start) (sym h.same.text)))
+        rw ((label_form r h.label).1 h.written, (col_form assets up h.label row.col).1 h.asset, ← h.same.name, ← h.same.start, ← h.same.text) refl
 
 abbrev Told : List AssetRow → List ColumnLabel → Record → Rule → Type 0
 Told assets before r rule = IsFirstBroken rules.rules (Breaks assets before r) rule
@@ -85,16 +76,13 @@ labels_judged assets up = Judges-table (row_of assets) (IsRowRecord assets) (row
 
 pub labels-are : (assets : List AssetRow) → AreAssets assets → (records : List Record) (table : LabelTable) → (labels_of assets records ≡ Ok table) ↔ AreLabelsOf assets records table
 unfolding labels_of label_rows_in
-labels-are assets up records table = (forth (label_rows_in assets records) refl, back)
+labels-are assets up records table = (there, back)
   where
     under : (rows : List ColumnLabel) → (label_rows_in assets records ≡ Ok rows) ↔ AreRowsUnder header (IsLabel assets) records rows
     under rows = under-are header rules.BadHeader (IsLabel assets) (Told assets) (label_or_rule assets) (labels_judged assets up) records rows
 
-    forth : (x : Result (List ColumnLabel) (Fault Rule)) → label_rows_in assets records ≡ x → (x >>= λ rows. Ok (table_of rows)) ≡ Ok table → AreLabelsOf assets records table
-    forth (Ok rows) was e =
-        let same : table_of rows ≡ table = cc in
-        rw (← same) record { read = (under rows).0 was; texts = refl }
-    forth (Err f) was e = absurd (let bad : Err f ≡ Ok table = e in cc)
+    there : (label_rows_in assets records >>= λ rows. Ok (table_of rows)) ≡ Ok table → AreLabelsOf assets records table
+    there e = let it = made-of table_of (label_rows_in assets records) table e in rw (← it.2) record { read = (under it.0).0 it.1; texts = refl }
 
     made : (t : LabelTable) → t.texts ≡ (table_of t.rows).texts → table_of t.rows ≡ t
     made t e = ap (λ (l : List (List ℕ)). record { rows = t.rows; texts = l }) (sym e)
@@ -104,14 +92,10 @@ labels-are assets up records table = (forth (label_rows_in assets records) refl,
 
 pub labels-fault : (assets : List AssetRow) → AreAssets assets → (records : List Record) (fault : Fault Rule) → (labels_of assets records ≡ Err fault) ↔ IsLabelsFault assets records fault
 unfolding labels_of label_rows_in
-labels-fault assets up records fault = (λ e. under.0 (forth (label_rows_in assets records) refl e), λ h. back (under.1 h))
+labels-fault assets up records fault = (λ e. under.0 (made.0 e), λ h. made.1 (under.1 h))
   where
     under : (label_rows_in assets records ≡ Err fault) ↔ IsLabelsFault assets records fault
     under = under-fault header rules.BadHeader (IsLabel assets) (Told assets) (label_or_rule assets) (labels_judged assets up) records fault
 
-    forth : (x : Result (List ColumnLabel) (Fault Rule)) → label_rows_in assets records ≡ x → (x >>= λ rows. Ok (table_of rows)) ≡ Err fault → label_rows_in assets records ≡ Err fault
-    forth (Ok rows) was e = absurd (let bad : Ok (table_of rows) ≡ Err fault = e in cc)
-    forth (Err f) was e = let same : f ≡ fault = cc in was ∙ ap Err same
-
-    back : label_rows_in assets records ≡ Err fault → (label_rows_in assets records >>= λ rows. Ok (table_of rows)) ≡ Err fault
-    back e = rw e refl
+    made : ((label_rows_in assets records >>= λ rows. Ok (table_of rows)) ≡ Err fault) ↔ (label_rows_in assets records ≡ Err fault)
+    made = made-fault table_of (label_rows_in assets records) fault

@@ -1,5 +1,6 @@
 pub mod TextLists
 pub mod FirstSeen
+pub mod Dated
 pub mod LabelRowsMade
 pub mod LabelOrder
 pub mod LabelKeys

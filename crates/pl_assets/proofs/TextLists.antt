@@ -1,14 +1,12 @@
 -- Lists of distinct texts.
-use Rattle.std.proofs.Common.{◌≡◌, ℕ, ◌+◌, ◌<◌, ◌||◌, not, nat_lt, Bool, true, false, cond, if◌then◌else◌, List, [], ◌∷◌, ◌++◌, length, take, map, get_or, Some, None, refl, sym, ap, ◌∙◌, arith, inl, inr}
+use Rattle.std.proofs.Common.{◌≡◌, ℕ, ◌+◌, ◌<◌, ◌||◌, not, Bool, true, false, cond, if◌then◌else◌, List, [], ◌∷◌, ◌++◌, length, take, map, get_or, Some, None, refl, sym, ap, ◌∙◌, arith}
 use Rattle.std.proofs.lemmas.List.{length-map, map-append, take-append-le, take_all, get_or-map}
 use Rattle.std.proofs.lemmas.List.Folds.{list_any_at, list_any_none}
 use Rattle.std.proofs.lemmas.List.Quantifiers.{position-Some}
-use Rattle.std.proofs.lemmas.Bool.{cases_lt}
-use Rattle.std.proofs.lemmas.Bool.Decides.{nat_tests}
 use Rattle.std.specs.List.{prefix_len, position, position_or_len, list_any}
 use Rattle.std.specs.Str.{bytes_eq}
 use Rattle.indexmap.specs.IndexSet.{insert_key}
-use Rattle.pl_spec.proofs.Places.{nowhere}
+use Rattle.pl_spec.proofs.Places.{first_at, nowhere}
 use Rattle.pl_assets.specs.Labels.{with_text}
 
 -- ---- tests on a list that is read through a function
@@ -41,12 +39,8 @@ pub none_there : {A : Type 0} (p : A → Bool) (xs : List A) → position p xs �
 none_there p xs e = list_any_none p xs (λ k d h. nowhere p xs e k d h)
 
 pub place_there : {A : Type 0} (p : A → Bool) (xs : List A) (n : ℕ) → position p xs ≡ Some n → n ≡ position_or_len p xs
-place_there p xs n e = elim (cases_lt (position_or_len p xs) (length xs)) [
-  | inl l ↦ (let t : nat_lt (position_or_len p xs) (length xs) ≡ true = grind (arith, nat_tests) in
-      let same : Some (position_or_len p xs) ≡ Some n = rw t at e in (let q : position_or_len p xs ≡ n = cc in sym q))
-  | inr g ↦ (let t : nat_lt (position_or_len p xs) (length xs) ≡ false = grind (arith, nat_tests) in
-      let bad : None ≡ Some n = rw t at e in absurd (cc))
-]
+place_there p [] n e = absurd (let bad : None ≡ Some n = e in cc)
+place_there p (x ∷ xs) n e = let it = position-Some p (x ∷ xs) n x e in sym (first_at p (x ∷ xs) n x it.0 it.1 it.2)
 
 -- a text that has a place is not new
 pub not_new : (texts : List (List ℕ)) (text : List ℕ) (n : ℕ) → position (bytes_eq text) texts ≡ Some n → texts ≡ with_text texts text

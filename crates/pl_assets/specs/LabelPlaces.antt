@@ -1,11 +1,9 @@
 -- Rows of labels as they are kept: numbers for their names, codes for their texts, and an order in which they
 -- are found.
-use Rattle.std.specs.Prelude.{◌≡◌, ◌≢◌, ℕ, zero, suc, ◌+◌, ◌*◌, ◌^◌, ◌==◌, ◌<◌, nat_eq, nat_le, true, false, ℤ, pos, ◌+ℤ◌, ◌≤ℤ◌, List, [], ◌∷◌, ◌++◌, length, map, take, slice_get, slice_index_or, All, AllPairs, Contains, Option, Some, None, IfSome, option_map, unwrap_or, FitsSigned}
+use Rattle.std.specs.Prelude.{◌≡◌, ◌≢◌, ℕ, zero, suc, ◌+◌, ◌*◌, ◌^◌, ◌<◌, nat_le, true, false, ℤ, pos, ◌+ℤ◌, ◌≤ℤ◌, List, [], ◌∷◌, ◌++◌, length, map, take, slice_get, slice_index_or, All, AllPairs, Contains, Option, Some, None, IfSome, option_map, unwrap_or, FitsSigned}
 use Rattle.std.specs.Int.{w32}
 use Rattle.std.specs.Int.RustNames.{unsigned_abs}
-use Rattle.std.specs.List.{list_any}
 use Rattle.std.specs.List.Sorted.{IsPartitionPoint}
-use Rattle.std.specs.HashSet.{HashSet, contains}
 use Rattle.pl_spec.specs.Parts.{ColumnLabel}
 use Rattle.pl_assets.specs.Labels.{LabelTable, AreLabels, AreTexts, names_of}
 use Rattle.pl_assets.specs.declared.labels.rows.Place.{Place}
@@ -61,10 +59,6 @@ key_of p = key p.name p.col p.start
 -- the key of row i, 0 where there is none
 unfoldable pub key_at : List Place → ℕ → ℕ
 key_at places i = unwrap_or (option_map key_of (slice_get places i)) 0
-
--- the set has the keys of the rows
-pub record AreKeys {S : Type 0} (keys : HashSet ℕ S) (places : List Place) : Type 0 where
-  pub each : (k : ℕ) → contains nat_eq keys k ≡ list_any (λ p. key_of p == k) places
 
 -- no two rows have one key
 abbrev pub OwnKeys : List Place → Type 0

@@ -1,15 +1,14 @@
 -- The fields of a record, in plain words.
-use Rattle.std.proofs.Common.{◌≡◌, ◌↔◌, ℕ, zero, suc, ◌+◌, ◌==◌, ◌≤◌, ◌&&◌, not, nat_le, IsTrue, Bool, true, false, List, [], ◌∷◌, length, get_or, All, Option, Some, None, option_map, option_and_then, Result, Ok, Err, refl, ap, subst, sym, ◌∙◌, ℤ, pos, ◌<ℤ◌, arith, inl, inr}
+use Rattle.std.proofs.Common.{◌≡◌, ◌↔◌, ℕ, zero, suc, ◌+◌, ◌==◌, ◌≤◌, ◌&&◌, not, nat_le, IsTrue, Bool, true, false, List, [], ◌∷◌, length, get_or, All, Some, None, Result, Ok, Err, refl, ap, subst, sym, ◌∙◌, ℤ, pos, ◌<ℤ◌, arith, inl, inr, eq-eqb, eqb-true}
 use Rattle.std.specs.List.{list_any, slice_get}
 use Rattle.std.specs.Result.{result_ok}
 use Rattle.std.specs.Int.RustNames.{int_lt, int_le, unsigned_abs}
-use Rattle.std.specs.Bool.{if◌then◌else◌}
 use Rattle.std.proofs.lemmas.Int.{ints}
 use Rattle.std.proofs.lemmas.Bool.Decides.{nat_tests}
-use Rattle.std.proofs.lemmas.List.Folds.{list_any_at}
 use Rattle.std.proofs.lemmas.Option.{slice_get-get_or}
 use Rattle.pl_records.specs.Reading.{Record, field}
-use Rattle.pl_records.proofs.RuleTables.{and_then_some, map_some}
+use Rattle.pl_records.proofs.RuleTables.{not_true, when_some, and_then_some, map_some}
+use Rattle.pl_records.proofs.Sorts.{none-at}
 use Rattle.pl_spec.specs.Rounding.{MISSING, LIMIT, is_missing}
 use Rattle.pl_spec.specs.Dates.{date_in}
 use Rattle.pl_spec.specs.Decimals.{sid_in}
@@ -59,9 +58,8 @@ small-is v t h =
 pub IsCellText-bar_cell : (text : List ℕ) (v : ℤ) → IsCellText text v → is_negative v ≡ false → IsTrue (is_bar_cell v)
 IsCellText-bar_cell text v h t = here (is_missing v) refl
   where
-    at_least : (b : Bool) → int_lt v (pos 0) ≡ b → is_missing v ≡ false → int_lt v (pos 0) ≡ false
-    at_least true u m = absurd (let bad : true ≡ false = rw (u, m) at t in cc)
-    at_least false u m = u
+    at_least : is_missing v ≡ false → int_lt v (pos 0) ≡ false
+    at_least m = not_true _ (λ u. let bad : true ≡ false = rw (u, m) at t in cc)
 
     small : is_missing v ≡ false → IsCellText text v → unsigned_abs v ≤ LIMIT
     small m (inl e) = absurd (let bad : true ≡ false = sym (missing-is v e.1) ∙ m in cc)
@@ -69,7 +67,7 @@ IsCellText-bar_cell text v h t = here (is_missing v) refl
 
     here : (b : Bool) → is_missing v ≡ b → IsTrue (is_bar_cell v)
     here true m = rw m refl
-    here false m = rw (m, small-is v (at_least (int_lt v (pos 0)) refl m) (small m h)) refl
+    here false m = rw (m, small-is v (at_least m) (small m h)) refl
 
 -- ---- five cells
 
@@ -120,36 +118,28 @@ cells_in-AreCellTexts r (a ∷ b ∷ c ∷ d ∷ e ∷ f ∷ rest) n h = absurd 
 
 -- ---- all fields
 
-fields_said : Record → Option Fields
-fields_said r = option_and_then (λ sid. option_and_then (λ day. option_map (λ cells. record { sid = sid; day = day; cells = cells }) (cells_in r)) (date_in (field r 1))) (sid_in (field r 0))
-
 pub IsBarRecord-fields_in : (r : Record) (f : Fields) → fields_in r ≡ Some f → IsBarRecord r f
-unfolding fields_in fields_said
-IsBarRecord-fields_in r f e = here (length r == 7) refl e
-  where
-    here : (b : Bool) → (length r == 7) ≡ b → (if b then fields_said r else None) ≡ Some f → IsBarRecord r f
-    here false t e = absurd (let bad : None ≡ Some f = e in cc)
-    here true t e =
-        let s = and_then_some (sid_in (field r 0)) _ f e in
-        let d = and_then_some (date_in (field r 1)) _ f s.2 in
-        let c = map_some (cells_in r) (λ cells. record { sid = s.0; day = d.0; cells = cells }) f d.2 in
-        let n = decimal-sid_in (field r 0) s.0 s.1 in
-        let texts = AreCellTexts-cells_in r c.0 c.1 in
-        rw (← c.2) record {
-          seven = grind (arith, nat_tests);
-          small = n.0;
-          sid = n.1;
-          day = IsDate-date_in (field r 1) d.0 d.1;
-          five = texts.five;
-          cells = texts.each;
-        }
+unfolding fields_in
+IsBarRecord-fields_in r f e =
+    let it = when_some (length r == 7) _ f e in
+    let s = and_then_some (sid_in (field r 0)) _ f it.1 in
+    let d = and_then_some (date_in (field r 1)) _ f s.2 in
+    let c = map_some (cells_in r) (λ cells. record { sid = s.0; day = d.0; cells = cells }) f d.2 in
+    let n = decimal-sid_in (field r 0) s.0 s.1 in
+    let texts = AreCellTexts-cells_in r c.0 c.1 in
+    rw (← c.2) record {
+      seven = eqb-true (length r) 7 it.0;
+      small = n.0;
+      sid = n.1;
+      day = IsDate-date_in (field r 1) d.0 d.1;
+      five = texts.five;
+      cells = texts.each;
+    }
 
 pub fields_in-IsBarRecord : (r : Record) (f : Fields) → IsBarRecord r f → fields_in r ≡ Some f
 unfolding fields_in
 fields_in-IsBarRecord r f h =
-    let seven : length r ≡ 7 = h.seven in
-    let t : (length r == 7) ≡ true = grind (arith, nat_tests) in
-    rw (t, sid_in-decimal (field r 0) f.sid h.small h.sid, date_in-IsDate (field r 1) f.day h.day, cells_in-AreCellTexts r f.cells h.five h.cells) refl
+    rw (eq-eqb (length r) 7 h.seven, sid_in-decimal (field r 0) f.sid h.small h.sid, date_in-IsDate (field r 1) f.day h.day, cells_in-AreCellTexts r f.cells h.five h.cells) refl
 
 pub fields_form : (r : Record) (f : Fields) → (fields_in r ≡ Some f) ↔ IsBarRecord r f
 fields_form r f = (IsBarRecord-fields_in r f, fields_in-IsBarRecord r f)
@@ -159,11 +149,7 @@ pub fields-cells : (r : Record) (f : Fields) → fields_in r ≡ Some f → list
 fields-cells r f e t k d h =
     let it = IsBarRecord-fields_in r f e in
     let text = it.cells k (get_or f.cells k d) (slice_get-get_or f.cells k d h) in
-    IsCellText-bar_cell (field r (k + 2)) (get_or f.cells k d) text (not_one (is_negative (get_or f.cells k d)) refl)
-  where
-    not_one : (b : Bool) → is_negative (get_or f.cells k d) ≡ b → is_negative (get_or f.cells k d) ≡ false
-    not_one true u = absurd (let bad : true ≡ false = sym (list_any_at is_negative f.cells k d h u) ∙ t in cc)
-    not_one false u = u
+    IsCellText-bar_cell (field r (k + 2)) (get_or f.cells k d) text (none-at is_negative f.cells t k d h)
 
 -- ---- cells below 0
 
@@ -187,14 +173,10 @@ IsNegative-test v t = here (is_missing v) refl
         (λ e. absurd (let bad : true ≡ false = sym (missing-is v e) ∙ m in cc), below (first (int_lt v (pos 0)) (not (is_missing v)) t))
 
 pub is_negative-test : (v : ℤ) → IsNegative v → is_negative v ≡ true
-is_negative-test v h = rw (below h.1, present (is_missing v) refl) refl
+is_negative-test v h = rw (below h.1, not_true (is_missing v) (λ m. h.0 (value m))) refl
   where
     below : v <ℤ pos 0 → int_lt v (pos 0) ≡ true
     below l = grind (arith, ints)
 
     value : is_missing v ≡ true → v ≡ MISSING
     value m = grind (arith, ints)
-
-    present : (b : Bool) → is_missing v ≡ b → is_missing v ≡ false
-    present true m = absurd (h.0 (value m))
-    present false m = m

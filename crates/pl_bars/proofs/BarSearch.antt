@@ -1,17 +1,19 @@
 -- Places among bars that stand by column and session, and the cells there.
-use Rattle.std.proofs.Common.{◌≡◌, ◌⊎◌, ℕ, zero, suc, ◌+◌, ◌<◌, ◌≤◌, ◌==◌, ◌&&◌, ◌||◌, nat_le, IsTrue, Bool, true, false, ℤ, pos, List, [], ◌∷◌, length, get_or, All, Option, Some, None, find, position, option_map, unwrap_or, refl, sym, ◌∙◌, ap, arith, inl, inr, FitsSigned, w64, to_z, of_z}
+use Rattle.std.proofs.Common.{◌≡◌, ◌⊎◌, ℕ, suc, ◌+◌, ◌<◌, ◌≤◌, ◌==◌, ◌&&◌, ◌||◌, nat_le, IsTrue, Bool, true, false, ℤ, pos, List, [], ◌∷◌, length, get_or, slice_get, All, Option, Some, None, find, position, option_map, unwrap_or, refl, sym, ◌∙◌, ap, arith, inl, inr, FitsSigned, w64, to_z, of_z}
 use Rattle.std.specs.List.Sorted.{IsPartitionedBy}
 use Rattle.std.specs.Int.RustNames.{int_le, unsigned_abs}
 use Rattle.std.proofs.lemmas.Int.{ints, to_z-of_z}
 use Rattle.std.proofs.lemmas.Bool.{cases_lt, and_parts}
 use Rattle.std.proofs.lemmas.Bool.Decides.{nat_tests}
+use Rattle.std.proofs.lemmas.List.Folds.{find_at}
 use Rattle.std.proofs.lemmas.List.Quantifiers.{position-Some}
+use Rattle.std.proofs.lemmas.Option.{slice_get-get_or}
 use Rattle.std.proofs.lemmas.List.{get_or_default, get_or_past}
 use Rattle.pl_spec.specs.Rounding.{MISSING, LIMIT, IsCell, is_missing}
 use Rattle.pl_spec.specs.declared.BarRow.{BarRow}
 use Rattle.pl_spec.specs.declared.Column.{Column}
 use Rattle.pl_spec.specs.declared.Column.TheVariants.{OpenPrice, High, Low, Close, Volume}
-use Rattle.pl_spec.proofs.Places.{is_at as place_is, is_nowhere, nowhere}
+use Rattle.pl_spec.proofs.Places.{first_at, is_at as place_is, is_nowhere, nowhere}
 use Rattle.pl_spec.specs.World.{column_number}
 use Rattle.pl_bars.specs.Bars.{is_at, is_before, is_bar_cell, AreBars, cell_at, cell_of, cells_at}
 use Rattle.pl_bars.specs.BarPoint.{BarPoint}
@@ -133,13 +135,10 @@ point_passed col session rows n d up point other = (before, after)
 
 -- ---- cells
 
-find-first : {A : Type 0} (p : A → Bool) (xs : List A) (i : ℕ) (d : A) → i < length xs → p (get_or xs i d) ≡ true → ((k : ℕ) → k < i → p (get_or xs k d) ≡ false) → find p xs ≡ Some (get_or xs i d)
-find-first p [] i d h t f = absurd (omega arith)
-find-first p (x ∷ xs) zero d h t f = rw t refl
-find-first p (x ∷ xs) (suc i) d h t f = let no_match : p x ≡ false = f 0 (omega arith) in rw no_match (find-first p xs i d (omega arith) t (λ k l. f (suc k) (omega arith)))
-
 find-at : {A : Type 0} (p : A → Bool) (xs : List A) (i : ℕ) (d : A) → position p xs ≡ Some i → find p xs ≡ Some (get_or xs i d)
-find-at p xs i d e = let q = position-Some p xs i d e in find-first p xs i d q.0 q.1 q.2
+find-at p xs i d e =
+    let q = position-Some p xs i d e in
+    find_at p xs ∙ ap (slice_get xs) (first_at p xs i d q.0 q.1 q.2) ∙ slice_get-get_or xs i d q.0
 
 find-nothing : {A : Type 0} (p : A → Bool) (xs : List A) → ((k : ℕ) (d : A) → k < length xs → p (get_or xs k d) ≡ false) → find p xs ≡ None
 find-nothing p [] f = refl

@@ -1,15 +1,14 @@
 -- Records of bars in another order are read as the same bars.
-use Rattle.std.proofs.Common.{◌≡◌, ℕ, ◌<◌, ◌≤◌, ◌==◌, ◌&&◌, ◌↔◌, nat_le, Bool, false, ℤ, List, [], ◌∷◌, length, IsPermutation, Ok, refl, sym, ◌∙◌, ap, arith}
-use Rattle.std.specs.List.{list_any}
+use Rattle.std.proofs.Common.{◌≡◌, ℕ, ◌≤◌, ◌==◌, ◌&&◌, Bool, ℤ, List, ◌∷◌, length, IsPermutation, Ok, refl, arith, inl, inr}
 use Rattle.std.proofs.lemmas.Bool.Decides.{nat_tests}
 use Rattle.pl_spec.specs.Limits.{most_bars, most_sessions}
 use Rattle.pl_spec.specs.declared.AssetRow.{AssetRow}
 use Rattle.pl_spec.specs.declared.BarRow.{BarRow}
 use Rattle.pl_records.specs.Reading.{Record}
-use Rattle.pl_records.proofs.Orders.{Fits, under-sorted}
-use Rattle.pl_bars.specs.Bars.{is_at, is_negative, bar_or_rule, key_of, rows_in, bars_of, header}
+use Rattle.pl_records.proofs.Orders.{Looks, under-sorted}
+use Rattle.pl_bars.specs.Bars.{Rule, breaks, is_at, bar_of, bar_or_rule, key_of, rows_in, bars_of, header}
 use Rattle.pl_bars.specs.Bars as rules
-use Rattle.pl_bars.proofs.BarsRead.{Says, bar_or_rule-ok, bar, AreKept-read}
+use Rattle.pl_bars.proofs.BarsRead.{AreKept-read}
 
 abbrev clash : BarRow → BarRow → Bool
 clash b x = is_at b.col b.session x
@@ -21,34 +20,18 @@ flips a b = either b.col b.session a.col a.session
     either m n i j = grind (arith, nat_tests)
 
 module _ (days : List ℤ) (assets : List AssetRow) where
-  -- the record is this bar, whatever the others are
-  abbrev IsOne : Record → BarRow → Type 0
-  IsOne r b = Says days assets [] r b
-
-  tells : (before : List BarRow) (r : Record) (b : BarRow) → (bar_or_rule days assets before r ≡ Ok b) ↔ Fits most_bars IsOne clash before r b
-  tells before r b = (there, back)
-    where
-      room : (n : ℕ) → nat_le most_bars n ≡ false → n < most_bars
-      room n t = grind (arith, nat_tests)
-
-      there : bar_or_rule days assets before r ≡ Ok b → Fits most_bars IsOne clash before r b
-      there e =
-          let says = bar_or_rule-ok days assets before r b e in
-          record {
-            few = room (length before) says.few;
-            is = record { few = refl; fields = says.fields; written = says.written; session = says.session; col = says.col; cells = says.cells; not_negative = says.not_negative; own_place = refl };
-            own = says.own_place;
-          }
-
-      back : Fits most_bars IsOne clash before r b → bar_or_rule days assets before r ≡ Ok b
-      back h =
-          let is = h.is in
-          let present : list_any is_negative is.fields.cells ≡ false = ap (list_any is_negative) (sym is.cells) ∙ is.not_negative in
-          bar days assets before r is.fields h.few is.written b.session is.session b.col is.col present h.own
-          ∙ ap (λ cells. Ok (record { col = b.col; session = b.session; cells = cells })) (sym is.cells)
+  looks : (q : Rule) → Looks most_bars clash (bar_of days assets) (breaks days assets) q
+  looks rules.BadHeader = inr (inr (λ before r. refl))
+  looks rules.TooMany = inl (λ before r. refl)
+  looks rules.BadField = inr (inr (λ before r. refl))
+  looks rules.NotSession = inr (inr (λ before r. refl))
+  looks rules.UnknownSid = inr (inr (λ before r. refl))
+  looks rules.Negative = inr (inr (λ before r. refl))
+  looks rules.Duplicate = inr (inl (λ before r. refl))
 
   pub bars-moved : length days ≤ most_sessions → (first : Record) (records others : List Record) → IsPermutation records others → (bars : List BarRow)
       → bars_of days assets (first ∷ records) ≡ Ok bars → bars_of days assets (first ∷ others) ≡ Ok bars
-  unfolding bars_of rows_in
+  unfolding bars_of rows_in bar_or_rule
   bars-moved few first records others m bars e =
-      under-sorted (bar_or_rule days assets) most_bars IsOne clash flips tells key_of header rules.BadHeader (λ rs rows was. (AreKept-read days assets rs rows few was).own) first records others m bars e
+      under-sorted most_bars clash (bar_of days assets) (breaks days assets) rules.rules rules.BadField (bar_or_rule days assets) (λ before r. refl) flips looks
+      key_of header rules.BadHeader (λ rs rows was. (AreKept-read days assets rs rows few was).own) first records others m bars e

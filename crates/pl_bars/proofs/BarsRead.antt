@@ -1,24 +1,24 @@
 -- Bars that are read: what each test tells, and what is kept of all rows.
-use Rattle.std.proofs.Common.{◌≡◌, ℕ, zero, suc, ◌^◌, ◌==◌, ◌<◌, ◌≤◌, nat_le, IsTrue, true, false, List, [], ◌∷◌, ◌++◌, length, get_or, length-append, All, Option, Some, None, option_map, option_and_then, Result, Ok, Err, refl, sym, ap, ◌∙◌, ℤ, pos, position, arith}
+use Rattle.std.proofs.Common.{◌≡◌, ℕ, ◌^◌, ◌==◌, ◌<◌, ◌≤◌, nat_le, IsTrue, true, false, List, [], ◌∷◌, ◌++◌, length, get_or, All, Option, Some, None, option_map, option_and_then, Ok, Err, refl, sym, ap, ◌∙◌, ℤ, pos, position, arith}
 use Rattle.std.specs.List.{list_any, AllPairs}
 use Rattle.std.specs.Ordering.{int_eq}
 use Rattle.std.specs.Option.{ok_or}
 use Rattle.std.proofs.lemmas.Bool.Decides.{nat_tests}
 use Rattle.std.proofs.lemmas.List.Quantifiers.{position-Some}
-use Rattle.std.proofs.lemmas.List.Elements.{All-append}
+use Rattle.std.proofs.lemmas.List.Elements.{All-push}
 use Rattle.std.proofs.lemmas.List.Sorted.{All-permutation}
-use Rattle.std.proofs.lemmas.Bool.{or_parts}
-use Rattle.pl_records.specs.Reading.{Record, Fault, ◌>>=◌}
+use Rattle.pl_records.specs.Reading.{Record}
 use Rattle.pl_records.specs.Sorted.{sorted_by, HasOwnKeys}
 use Rattle.pl_spec.specs.declared.AssetRow.{AssetRow}
 use Rattle.pl_spec.specs.declared.BarRow.{BarRow}
-use Rattle.pl_records.proofs.Readings.{guard_on, guard_err, rows-keep, under_ok}
+use Rattle.pl_records.proofs.Readings.{few-more, made-of, guard_on, guard_err, rows-keep, under_ok}
 use Rattle.pl_records.specs.RuleTable.{first_broken, lacks, has}
 use Rattle.pl_records.proofs.RuleTables.{and_then_some, map_some, told_ok, ok_or-Ok}
 use Rattle.pl_records.proofs.Sorts.{OwnKeys-none, OwnKeys-more, sorted-rises, sorted-permutes, length-sorted_by}
 use Rattle.pl_lifetimes.specs.Assets.{sid_of}
+use Rattle.pl_lifetimes.proofs.Filters.{any-same}
 use Rattle.pl_bars.specs.declared.fields.Fields.{Fields}
-use Rattle.pl_bars.specs.Bars.{Rule, breaks, session_in, col_in, placed_at, bar_of, header, fields_in, is_negative, is_at, bar_or_rule, key_of, rows_in, bars_of, is_before, is_bar_cell, AreBars}
+use Rattle.pl_bars.specs.Bars.{breaks, session_in, col_in, placed_at, bar_of, header, fields_in, is_negative, is_at, bar_or_rule, key_of, rows_in, bars_of, is_before, is_bar_cell, AreBars}
 use Rattle.pl_bars.specs.Bars as rules
 use Rattle.pl_spec.specs.Limits.{most_bars}
 use Rattle.pl_spec.specs.Limits.{most_sessions}
@@ -108,11 +108,8 @@ bar_or_rule-ok days assets before r b e =
 -- ---- what is kept of all rows
 
 other_keys : (xs : List BarRow) (y : BarRow) → All (λ x. x.session < 2 ^ 32) xs → y.session < 2 ^ 32 → list_any (is_at y.col y.session) xs ≡ false → list_any (λ x. key_of x == key_of y) xs ≡ false
-other_keys [] y s h e = refl
-other_keys (x ∷ xs) y s h e =
-    let p = or_parts (is_at y.col y.session x) (list_any (is_at y.col y.session) xs) e in
-    let first : (key_of x == key_of y) ≡ false = same_place (2 ^ 32) x.col x.session y.col y.session (s 0 x (omega arith)) h ∙ p.0 in
-    rw first (other_keys xs y (λ k d l. s (suc k) d (omega arith)) h p.1)
+other_keys xs y s h e =
+    any-same (λ x. key_of x == key_of y) (is_at y.col y.session) xs (λ k d l. same_place (2 ^ 32) (get_or xs k d).col (get_or xs k d).session y.col y.session (s k d l) h) ∙ e
 
 pub record AreKept (rows : List BarRow) : Type 0 where
   pub own : HasOwnKeys key_of rows
@@ -120,22 +117,16 @@ pub record AreKept (rows : List BarRow) : Type 0 where
   pub few : length rows ≤ most_bars
   pub cells : All (λ b. All (λ v. IsTrue (is_bar_cell v)) b.cells) rows
 
-one_row : (P : BarRow → Type 0) (b : BarRow) → P b → All P (b ∷ [])
-one_row P b p zero d h = p
-one_row P b p (suc k) d h = absurd (omega arith)
-
 kept-more : (days : List ℤ) (assets : List AssetRow) → length days ≤ most_sessions → (before : List BarRow) (r : Record) (b : BarRow) → AreKept before → bar_or_rule days assets before r ≡ Ok b → AreKept (before ++ b ∷ [])
 kept-more days assets n before r b h s =
     let ok = bar_or_rule-ok days assets before r b s in
     let at = position-Some (λ d. int_eq d ok.fields.day) days b.session (pos 0) ok.session in
     let small : b.session < 2 ^ 32 = omega (arith, at.0) in
-    let room : length before < most_bars = (let t = ok.few in grind (arith, nat_tests)) in
     record {
       own = OwnKeys-more key_of before b h.own (other_keys before b h.small small ok.own_place);
-      small = All-append (λ (x : BarRow). x.session < 2 ^ 32) before (b ∷ []) h.small (one_row (λ x. x.session < 2 ^ 32) b small);
-      few = omega (arith, length-append before (b ∷ []));
-      cells = All-append (λ (x : BarRow). All (λ v. IsTrue (is_bar_cell v)) x.cells) before (b ∷ []) h.cells
-          (one_row (λ x. All (λ v. IsTrue (is_bar_cell v)) x.cells) b (rw ok.cells (fields-cells r ok.fields ok.written (rw ok.cells at ok.not_negative))));
+      small = All-push (λ (x : BarRow). x.session < 2 ^ 32) before b h.small small;
+      few = few-more most_bars before b ok.few;
+      cells = All-push (λ (x : BarRow). All (λ v. IsTrue (is_bar_cell v)) x.cells) before b h.cells (rw ok.cells (fields-cells r ok.fields ok.written (rw ok.cells at ok.not_negative)));
     }
 
 kept-none : AreKept []
@@ -154,16 +145,6 @@ before_by_key a b h l lt = grind (arith, nat_tests)
 pub key_by_before : (a b : BarRow) → a.session < 2 ^ 32 → b.session < 2 ^ 32 → IsTrue (is_before b.col b.session a) → key_of a < key_of b
 key_by_before a b h l t = grind (arith, nat_tests)
 
-pub sorted_from : (days : List ℤ) (assets : List AssetRow) (records : List Record) (bars : List BarRow) → bars_of days assets records ≡ Ok bars
-    → (rows : List BarRow) × (rows_in days assets records ≡ Ok rows) × (sorted_by key_of rows ≡ bars)
-unfolding bars_of
-sorted_from days assets records bars e = here (rows_in days assets records) refl e
-  where
-    here : (x : Result (List BarRow) (Fault Rule)) → rows_in days assets records ≡ x → (x >>= λ rs. Ok (sorted_by key_of rs)) ≡ Ok bars
-        → (rows : List BarRow) × (rows_in days assets records ≡ Ok rows) × (sorted_by key_of rows ≡ bars)
-    here (Ok rs) was e = (rs, was, (let same : Ok (sorted_by key_of rs) ≡ Ok bars = e in cc))
-    here (Err f) was e = absurd (let bad : Err f ≡ Ok bars = e in cc)
-
 pub ascend-from_keys : (rows : List BarRow) → All (λ b. b.session < 2 ^ 32) rows → AllPairs (λ a b. key_of a < key_of b) rows → AllPairs (λ a b. IsTrue (is_before b.col b.session a)) rows
 ascend-from_keys rows small up i j d h l = before_by_key (get_or rows i d) (get_or rows j d) (small i d (omega arith)) (small j d l) (up i j d h l)
 
@@ -171,8 +152,9 @@ pub keys-from_ascend : (rows : List BarRow) → All (λ b. b.session < 2 ^ 32) r
 keys-from_ascend rows small up i j d h l = key_by_before (get_or rows i d) (get_or rows j d) (small i d (omega arith)) (small j d l) (up i j d h l)
 
 pub AreBars-read : (days : List ℤ) (assets : List AssetRow) (records : List Record) (bars : List BarRow) → length days ≤ most_sessions → bars_of days assets records ≡ Ok bars → AreBars bars
+unfolding bars_of
 AreBars-read days assets records bars n e =
-    let it = sorted_from days assets records bars e in
+    let it = made-of (sorted_by key_of) (rows_in days assets records) bars e in
     let kept = AreKept-read days assets records it.0 n it.1 in
     let moved = sorted-permutes key_of it.0 in
     rw (← it.2) record {
@@ -194,17 +176,17 @@ inside-more days assets before r b h s =
     let session = position-Some (λ d. int_eq d ok.fields.day) days b.session (pos 0) ok.session in
     let col = position-Some (λ a. sid_of a == ok.fields.sid) assets b.col (record { sid = 0; start = pos 0; end = pos 0 }) ok.col in
     record {
-      cols = All-append (λ (x : BarRow). x.col < length assets) before (b ∷ []) h.cols (one_row (λ x. x.col < length assets) b col.0);
-      sessions = All-append (λ (x : BarRow). x.session < length days) before (b ∷ []) h.sessions (one_row (λ x. x.session < length days) b session.0);
+      cols = All-push (λ (x : BarRow). x.col < length assets) before b h.cols col.0;
+      sessions = All-push (λ (x : BarRow). x.session < length days) before b h.sessions session.0;
     }
 
 inside-none : (days : List ℤ) (assets : List AssetRow) → AreInside days assets []
 inside-none days assets = record { cols = λ k d h. absurd (omega arith); sessions = λ k d h. absurd (omega arith) }
 
 pub AreInside-read : (days : List ℤ) (assets : List AssetRow) (records : List Record) (bars : List BarRow) → bars_of days assets records ≡ Ok bars → AreInside days assets bars
-unfolding rows_in
+unfolding bars_of rows_in
 AreInside-read days assets records bars e =
-    let it = sorted_from days assets records bars e in
+    let it = made-of (sorted_by key_of) (rows_in days assets records) bars e in
     let kept = rows-keep (AreInside days assets) 2 (bar_or_rule days assets) (inside-more days assets) _ [] it.0 (inside-none days assets)
     (under_ok header rules.BadHeader (bar_or_rule days assets) records it.0 it.1).1 in
     let moved = sorted-permutes key_of it.0 in

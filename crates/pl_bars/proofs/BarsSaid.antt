@@ -1,27 +1,23 @@
 -- What a record says of its bar, in plain words.
-use Rattle.std.proofs.Common.{◌≡◌, ◌≢◌, ℕ, ◌^◌, ◌<◌, ◌↔◌, Bool, true, false, ℤ, ◌<ℤ◌, List, get_or, Option, Some, None, option_map, option_and_then, position, All, Any, Ok, Err, refl, sym, ◌∙◌, ap, arith, inl, inr}
+use Rattle.std.proofs.Common.{◌≡◌, ℕ, ◌^◌, ◌<◌, ◌↔◌, true, false, ℤ, List, get_or, Some, option_map, option_and_then, position, All, Any, Ok, Err, refl, sym, ◌∙◌, ap, arith}
 use Rattle.std.specs.List.{list_any, slice_get, AllPairs}
 use Rattle.std.specs.List.Sorted.{IsPermutation}
 use Rattle.std.specs.Ordering.{int_eq}
 use Rattle.std.specs.Bool.{Decides}
-use Rattle.std.proofs.lemmas.Int.{ints}
-use Rattle.std.proofs.lemmas.Bool.{cases_lt}
 use Rattle.std.proofs.lemmas.Bool.Decides.{nat_tests}
-use Rattle.std.proofs.lemmas.List.Folds.{Any-from_list_any, list_any-from_Any}
 use Rattle.std.proofs.lemmas.List.Quantifiers.{position-Some}
 use Rattle.std.proofs.lemmas.List.Sorted.{All-permutation}
-use Rattle.std.proofs.lemmas.Option.{slice_get-get_or, slice_get_within, get_or_from_slice_get}
+use Rattle.std.proofs.lemmas.Option.{slice_get-get_or, slice_get_within}
 use Rattle.pl_records.specs.Reading.{Record, Fault, ◌>>=◌, rows_under, AreRowsUnder, Judges}
 use Rattle.pl_records.specs.RuleTable.{IsFirstBroken, KeepsAll}
 use Rattle.pl_records.specs.Sorted.{sorted_by}
 use Rattle.pl_spec.specs.declared.AssetRow.{AssetRow}
 use Rattle.pl_spec.specs.declared.BarRow.{BarRow}
-use Rattle.pl_records.proofs.Readings.{under-are, under-fault}
-use Rattle.pl_records.proofs.RuleTables.{and_then_some, map_some, lacks-tells, has-tells, Judges-table}
+use Rattle.pl_records.proofs.Readings.{made-fault, under-are, under-fault}
+use Rattle.pl_records.proofs.RuleTables.{any-tells, and_then_some, map_some, lacks-tells, has-tells, Judges-table}
 use Rattle.pl_lifetimes.proofs.SidColumns.{sid_form}
-use Rattle.pl_records.proofs.Sorts.{sorted-are, sorted-fault}
-use Rattle.pl_spec.proofs.Places.{nowhere}
-use Rattle.pl_spec.proofs.Signed.{int_eq-true, int_eq-itself}
+use Rattle.pl_records.proofs.Sorts.{sorted-are}
+use Rattle.pl_spec.proofs.Signed.{int_eq-true}
 use Rattle.pl_calendar.specs.Days.{AreDays}
 use Rattle.pl_lifetimes.specs.Assets.{sid_of, AreAssets}
 use Rattle.pl_bars.specs.declared.fields.Fields.{Fields}
@@ -31,45 +27,17 @@ use Rattle.pl_bars.specs.Rules.{IsBarRecord, IsNegative, IsRowRecord, IsBar, Bre
 use Rattle.pl_bars.proofs.BarFields.{fields_form, IsNegative-test, is_negative-test}
 use Rattle.pl_bars.proofs.BarsRead.{AreKept-read, ascend-from_keys, keys-from_ascend}
 use Rattle.pl_bars.proofs.BarSearch.{at_parts, at_true}
+use Rattle.pl_bars.proofs.FirstPlaces.{day_first}
 
--- ---- places that a test finds
-
-found : {A : Type 0} (p : A → Bool) (xs : List A) (k : ℕ) (d : A) → position p xs ≡ Some k → (slice_get xs k ≡ Some (get_or xs k d)) × (p (get_or xs k d) ≡ true)
-found p xs k d e = let it = position-Some p xs k d e in (slice_get-get_or xs k d it.0, it.1)
-
-found_nowhere : {A : Type 0} (p : A → Bool) (xs : List A) → position p xs ≡ None → (k : ℕ) (x : A) → slice_get xs k ≡ Some x → p x ≡ false
-found_nowhere p xs e k x s = ap p (sym (get_or_from_slice_get xs k x x s)) ∙ nowhere p xs e k x (slice_get_within xs k x s)
+-- ---- the session of a day
 
 session_found : (days : List ℤ) (day : ℤ) (s : ℕ) → position (λ d. int_eq d day) days ≡ Some s → slice_get days s ≡ Some day
-session_found days day s e = let it = found (λ d. int_eq d day) days s day e in it.0 ∙ ap Some (int_eq-true (get_or days s day) day it.1)
-
-no_session_found : (days : List ℤ) (day : ℤ) → position (λ d. int_eq d day) days ≡ None → (s : ℕ) → slice_get days s ≢ Some day
-no_session_found days day e s at = let t : int_eq day day ≡ false = found_nowhere (λ d. int_eq d day) days e s day at in let bad : true ≡ false = sym (int_eq-itself day) ∙ t in cc
-
--- a day has one session
-one_session : (days : List ℤ) → AreDays days → (s t : ℕ) (day : ℤ) → slice_get days s ≡ Some day → slice_get days t ≡ Some day → s ≡ t
-one_session days up s t day e f = elim (cases_lt s t) [
-  | inl lt ↦ absurd (below day (rising s t lt e f))
-  | inr ge ↦ elim (cases_lt t s) [
-    | inl lt ↦ absurd (below day (rising t s lt f e))
-    | inr le ↦ omega arith
-  ]
-]
-  where
-    below : (x : ℤ) → x <ℤ x → ⊥
-    below x h = omega (arith, ints)
-
-    rising : (i j : ℕ) → i < j → slice_get days i ≡ Some day → slice_get days j ≡ Some day → day <ℤ day
-    rising i j h p q =
-        let lt : get_or days i day <ℤ get_or days j day = up.ascend i j day h (slice_get_within days j day q) in
-        rw (get_or_from_slice_get days i day day p, get_or_from_slice_get days j day day q) at lt
+session_found days day s e =
+    let it = position-Some (λ d. int_eq d day) days s day e in
+    slice_get-get_or days s day it.0 ∙ ap Some (int_eq-true (get_or days s day) day it.1)
 
 pub day_form : (days : List ℤ) → AreDays days → (day : ℤ) (session : ℕ) → (position (λ d. int_eq d day) days ≡ Some session) ↔ (slice_get days session ≡ Some day)
-day_form days up day session = (session_found days day session, back (position (λ d. int_eq d day) days) refl)
-  where
-    back : (o : Option ℕ) → position (λ d. int_eq d day) days ≡ o → slice_get days session ≡ Some day → o ≡ Some session
-    back None e h = absurd (no_session_found days day e session h)
-    back (Some s) e h = ap (λ x. Some x) (one_session days up s session day (session_found days day s e) h)
+day_form days up day session = (session_found days day session, λ h. day_first days day session up.ascend (slice_get_within days session day h) h)
 
 session_form : (days : List ℤ) → AreDays days → (f : Fields) (session : ℕ) → (session_in days f ≡ Some session) ↔ (slice_get days session ≡ Some f.day)
 session_form days up f session = day_form days up f.day session
@@ -77,16 +45,11 @@ session_form days up f session = day_form days up f.day session
 -- ---- the tests of cells, and of the bars before
 
 negative_tells : (f : Fields) → Decides (list_any is_negative f.cells) (Any IsNegative f.cells)
-negative_tells f = (
-  λ e. (let it = Any-from_list_any is_negative f.cells e in (it.0, it.1, it.2, it.3, IsNegative-test it.1 it.4)),
-  λ any. list_any-from_Any is_negative f.cells (any.0, any.1, any.2, any.3, is_negative-test any.1 any.4),
-)
+negative_tells f = any-tells is_negative IsNegative (λ v. (IsNegative-test v, is_negative-test v)) f.cells
 
 place_tells : (before : List BarRow) (b : BarRow) → Decides (list_any (is_at b.col b.session) before) (Any (λ x. (x.col ≡ b.col) × (x.session ≡ b.session)) before)
-place_tells before b = (
-  λ e. (let it = Any-from_list_any (is_at b.col b.session) before e in (it.0, it.1, it.2, it.3, at_parts b.col b.session it.1 it.4)),
-  λ any. list_any-from_Any (is_at b.col b.session) before (any.0, any.1, any.2, any.3, at_true b.col b.session any.1 any.4.0 any.4.1),
-)
+place_tells before b =
+    any-tells (is_at b.col b.session) (λ x. (x.col ≡ b.col) × (x.session ≡ b.session)) (λ x. (at_parts b.col b.session x, λ h. at_true b.col b.session x h.0 h.1)) before
 
 -- ---- what is said
 
@@ -174,7 +137,7 @@ unfolding bars_of rows_in
 bars-fault days assets ud ua records fault = (λ e. under.0 (told.0 e), λ h. told.1 (under.1 h))
   where
     told : ((rows_in days assets records >>= λ rows. Ok (sorted_by key_of rows)) ≡ Err fault) ↔ (rows_in days assets records ≡ Err fault)
-    told = sorted-fault key_of (rows_in days assets records) fault
+    told = made-fault (sorted_by key_of) (rows_in days assets records) fault
 
     under : (rows_under header rules.BadHeader (bar_or_rule days assets) records ≡ Err fault) ↔ IsBarsFault days assets records fault
     under = under-fault header rules.BadHeader (IsBar days assets) (Told days assets) (bar_or_rule days assets) (bars_judged days assets ud ua) records fault

@@ -126,7 +126,8 @@ impl Bars {
     pub fn cells(&self, col: usize, session: usize) -> [i64; 5]
         ensures { result ≡ cells_at self.now col session }
     {
-        search::cells_at(&self.rows, col, session)
+        let mut place = 0;
+        self.cells_onward(col, session, &mut place)
     }
 
     /// Writes the cells of a bar column for the assets `cols` on `rows` sessions from `first` on, in

@@ -37,7 +37,12 @@ fn cells_onward(rows: &[BarRow], col: usize, session: usize, place: &mut usize) 
 }
 
 // The bar's own place; the place that is given moves after it.
-fn row_onward(rows: &[BarRow], col: usize, session: usize, place: &mut usize) -> Option<usize>
+pub(crate) fn row_onward(
+    rows: &[BarRow],
+    col: usize,
+    session: usize,
+    place: &mut usize,
+) -> Option<usize>
     requires { AreBars rows.now }
     ensures { result ≡ position (is_at col session) rows.now }
 {

@@ -1,11 +1,12 @@
 //! Where a bar is among the rows.
 
-ghost use Rattle.std.specs.Prelude.{◌≡◌, ◌+◌, ◌<◌, ◌≤◌, length, position};
+ghost use Rattle.std.specs.Prelude.{◌≡◌, ◌<◌, ◌≤◌, length};
 ghost use Rattle.pl_spec.specs.Rounding.{IsCell};
 ghost use Rattle.pl_spec.specs.World.{column_number};
-ghost use Rattle.pl_bars.specs.Bars.{AreBars, cell_at, cells_at, is_at, is_before};
+ghost use Rattle.pl_bars.specs.Bars.{AreBars, cell_at, is_before};
 ghost use Rattle.pl_bars.specs.BarPoint.{BarPoint};
 
+use crate::onward::row_onward;
 use pl_fixed::MISSING;
 use pl_spec::{BarRow, Column};
 
@@ -15,35 +16,10 @@ pub(crate) fn cell_at(rows: &[BarRow], col: usize, session: usize, column: Colum
     ensures value { result ≡ cell_at rows.now col column session }
     ensures cell { IsCell result }
 {
-    match row_of(rows, col, session) {
+    let mut place = 0;
+    match row_onward(rows, col, session, &mut place) {
         Some(i) => rows[i].cells[place_of(column)],
         None => MISSING,
-    }
-}
-
-// The cells of all columns.
-pub(crate) fn cells_at(rows: &[BarRow], col: usize, session: usize) -> [i64; 5]
-    requires { AreBars rows.now }
-    ensures { result ≡ cells_at rows.now col session }
-{
-    match row_of(rows, col, session) {
-        Some(i) => {
-            let [open, high, low, close, volume] = rows[i].cells;
-            [open, high, low, close, volume]
-        }
-        None => [MISSING; 5],
-    }
-}
-
-fn row_of(rows: &[BarRow], col: usize, session: usize) -> Option<usize>
-    requires { AreBars rows.now }
-    ensures { result ≡ position (is_at col session) rows.now }
-{
-    let i = point_of(rows, col, session);
-    if i < rows.len() && rows[i].col as usize == col && rows[i].session as usize == session {
-        Some(i)
-    } else {
-        None
     }
 }
 

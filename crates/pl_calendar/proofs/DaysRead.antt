@@ -3,16 +3,15 @@ use Rattle.std.proofs.Common.{◌≡◌, ℕ, ◌-◌, ◌<◌, ◌≤◌, ◌�
 use Rattle.std.specs.List.{All, AllPairs}
 use Rattle.std.proofs.lemmas.Int.{ints, by_lt_z}
 use Rattle.std.proofs.lemmas.Bool.{cases_lt}
-use Rattle.std.proofs.lemmas.List.{get_or_append_left}
 use Rattle.std.proofs.lemmas.Option.{slice_get-get_or}
-use Rattle.std.proofs.Math.Seq.{get_or-append_seam}
 use Rattle.pl_records.specs.Reading.{Record, Fault, field, rows_of, rows_behind, AreRows, IsFirstFault}
 use Rattle.pl_records.specs.RuleTable.{IsFirstBroken}
 use Rattle.pl_spec.specs.Dates.{IsDay}
 use Rattle.pl_spec.proofs.DatesWritten.{IsDay-IsDate}
 use Rattle.std.proofs.lemmas.List.Elements.{All-push}
+use Rattle.std.proofs.lemmas.List.Quantifiers.{all_pairs_push}
 use Rattle.pl_records.proofs.Readings.{rows-keep, rows-as_many, rows-are, fault-is}
-use Rattle.pl_calendar.specs.Days.{Rule, rules, day_in, last_of, is_later, day_or_rule, sessions_of, AreDays}
+use Rattle.pl_calendar.specs.Days.{Rule, rules, day_or_rule, sessions_of, AreDays}
 use Rattle.pl_calendar.specs.Days as days
 use Rattle.pl_calendar.specs.Rules.{IsSession, Breaks, IsSessionsFault}
 use Rattle.pl_spec.specs.Limits.{most_sessions}
@@ -33,7 +32,7 @@ AreFront-more : (xs : List ℤ) (r : Record) (y : ℤ) → AreFront xs → IsSes
 AreFront-more xs r y up h =
     record {
       dates = All-push IsDay xs y up.dates (IsDay-IsDate (field r 0) y h.0.1);
-      ascend = pairs;
+      ascend = all_pairs_push (λ a b. a <ℤ b) xs y up.ascend under;
       few = (let small : length xs < most_sessions = below (length xs) most_sessions h.1.0 in omega (arith, length-append xs (y ∷ [])));
     }
   where
@@ -52,15 +51,6 @@ AreFront-more xs r y up h =
     under i d h = elim (cases_lt i (length xs - 1)) [
       | inl l ↦ both _ _ _ (up.ascend i (length xs - 1) d l (omega arith)) (later-last d (omega arith))
       | inr g ↦ (let same : i ≡ length xs - 1 = omega arith in rw same (later-last d (omega arith)))
-    ]
-
-    pairs : (i j : ℕ) (d : ℤ) → i < j → j < length (xs ++ y ∷ []) → get_or (xs ++ y ∷ []) i d <ℤ get_or (xs ++ y ∷ []) j d
-    pairs i j d h l = elim (cases_lt j (length xs)) [
-      | inl k ↦ (let a : get_or (xs ++ y ∷ []) i d ≡ get_or xs i d = get_or_append_left xs (y ∷ []) d i (omega arith) in
-          let b : get_or (xs ++ y ∷ []) j d ≡ get_or xs j d = get_or_append_left xs (y ∷ []) d j k in rw (a, b) (up.ascend i j d h k))
-      | inr g ↦ (let same : j ≡ length xs = omega (arith, length-append xs (y ∷ [])) in
-          let a : get_or (xs ++ y ∷ []) i d ≡ get_or xs i d = get_or_append_left xs (y ∷ []) d i (omega arith) in
-          rw (a, same, get_or-append_seam xs y [] d) (under i d (omega arith)))
     ]
 
 AreFront-read : (records : List Record) (ds : List ℤ) → rows_of 1 day_or_rule records ≡ Ok ds → AreFront ds

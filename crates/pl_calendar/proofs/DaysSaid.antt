@@ -1,31 +1,24 @@
 -- What a record says of its day, in plain words.
-use Rattle.std.proofs.Common.{◌≡◌, ◌↔◌, ◌==◌, not, Bool, true, false, if◌then◌else◌, ℤ, ◌≤ℤ◌, List, length, Option, Some, None, option_map, unwrap_or, refl, sym, ◌∙◌, arith}
+use Rattle.std.proofs.Common.{◌≡◌, ◌↔◌, ◌==◌, not, true, false, ℤ, ◌≤ℤ◌, List, length, Option, Some, None, option_map, unwrap_or, refl, sym, ◌∙◌, arith, eq-eqb, eqb-true}
 use Rattle.std.specs.Int.RustNames.{int_lt}
 use Rattle.std.specs.Bool.{Decides}
 use Rattle.std.proofs.lemmas.Int.{ints}
 use Rattle.std.proofs.lemmas.Bool.Decides.{nat_tests}
 use Rattle.pl_records.specs.Reading.{Record, field, Judges}
 use Rattle.pl_records.specs.RuleTable.{IsFirstBroken}
-use Rattle.pl_spec.specs.Dates.{date_in}
-use Rattle.pl_records.proofs.RuleTables.{lacks-tells, has-tells, Judges-table}
+use Rattle.pl_records.proofs.RuleTables.{when_some, lacks-tells, has-tells, Judges-table}
 use Rattle.pl_spec.proofs.DatesRead.{date_in-IsDate, IsDate-date_in}
-use Rattle.pl_calendar.specs.Days.{Rule, rules, breaks, day_in, last_of, is_later, day_or_rule, sessions_of}
+use Rattle.pl_calendar.specs.Days.{Rule, rules, breaks, day_in, last_of, is_later, day_or_rule}
 use Rattle.pl_calendar.specs.Days as days
 use Rattle.pl_calendar.specs.Rules.{IsDayRecord, IsSession, Breaks}
 
 -- ---- each test
 
 pub IsDayRecord-day_in : (r : Record) (day : ℤ) → day_in r ≡ Some day → IsDayRecord r day
-IsDayRecord-day_in r day e = here (length r == 1) refl e
-  where
-    here : (b : Bool) → (length r == 1) ≡ b → (if b then date_in (field r 0) else None) ≡ Some day → IsDayRecord r day
-    here true t e = (grind (arith, nat_tests), IsDate-date_in (field r 0) day e)
-    here false t e = absurd (let bad : None ≡ Some day = e in cc)
+IsDayRecord-day_in r day e = let it = when_some (length r == 1) _ day e in (eqb-true (length r) 1 it.0, IsDate-date_in (field r 0) day it.1)
 
 day_in-IsDayRecord : (r : Record) (day : ℤ) → IsDayRecord r day → day_in r ≡ Some day
-day_in-IsDayRecord r day h =
-    let one : (length r == 1) ≡ true = let n : length r ≡ 1 = h.0 in grind (arith, nat_tests) in
-    rw one (date_in-IsDate (field r 0) day h.1)
+day_in-IsDayRecord r day h = rw (eq-eqb (length r) 1 h.0) (date_in-IsDate (field r 0) day h.1)
 
 -- the day is no later than the one before, where there is one
 late_tells : (before : List ℤ) (day : ℤ) → Decides (not (is_later before day)) ((last : ℤ) × (last_of before ≡ Some last) × (day ≤ℤ last))

@@ -1,58 +1,30 @@
 -- What a record says of its asset, in plain words.
-use Rattle.std.proofs.Common.{◌≡◌, ℕ, ◌<◌, ◌↔◌, ◌==◌, Bool, true, false, if◌then◌else◌, ℤ, ◌<ℤ◌, List, length, get_or, Option, Some, None, option_map, option_and_then, Any, Ok, Err, refl, ◌∙◌, ap, arith}
+use Rattle.std.proofs.Common.{◌≡◌, ◌<◌, ◌↔◌, ◌==◌, true, false, ℤ, ◌<ℤ◌, List, length, Some, Any, Ok, Err, refl, arith, eq-eqb, eqb-true}
 use Rattle.std.specs.List.{list_any, AllPairs}
 use Rattle.std.specs.List.Sorted.{IsPermutation}
 use Rattle.std.specs.Int.RustNames.{int_lt}
 use Rattle.std.specs.Bool.{Decides}
 use Rattle.std.proofs.lemmas.Int.{ints}
 use Rattle.std.proofs.lemmas.Bool.Decides.{nat_tests}
-use Rattle.std.proofs.lemmas.List.Folds.{list_any_at, Any-from_list_any}
 use Rattle.pl_records.specs.Reading.{Record, Fault, field, ◌>>=◌, rows_under, AreRowsUnder, Judges}
 use Rattle.pl_records.specs.RuleTable.{IsFirstBroken}
 use Rattle.pl_records.specs.Sorted.{sorted_by}
-use Rattle.pl_spec.specs.Dates.{date_in}
-use Rattle.pl_spec.specs.Decimals.{sid_in}
 use Rattle.pl_spec.specs.declared.AssetRow.{AssetRow}
-use Rattle.pl_records.proofs.Readings.{under-are, under-fault}
-use Rattle.pl_records.proofs.RuleTables.{and_then_some, map_some, lacks-tells, has-tells, Judges-table}
-use Rattle.pl_records.proofs.Sorts.{sorted-are, sorted-fault}
-use Rattle.pl_spec.proofs.DatesRead.{date_in-IsDate, IsDate-date_in}
-use Rattle.pl_spec.proofs.SidsRead.{sid_in-decimal, decimal-sid_in}
+use Rattle.pl_records.proofs.Readings.{made-fault, under-are, under-fault}
+use Rattle.pl_records.proofs.RuleTables.{any-tells, lacks-tells, has-tells, Judges-table}
+use Rattle.pl_records.proofs.Sorts.{sorted-are}
+use Rattle.pl_spec.proofs.DatesRead.{date_in-IsDate}
+use Rattle.pl_spec.proofs.SidsRead.{sid_in-decimal}
 use Rattle.pl_lifetimes.specs.Assets.{Rule, breaks, asset_in, asset_or_rule, rows_in, assets_of, sid_of, header}
 use Rattle.pl_lifetimes.specs.Assets as rules
 use Rattle.pl_lifetimes.specs.Rules.{IsAssetRecord, IsAsset, Breaks, AreAssetsOf, IsAssetsFault}
-use Rattle.pl_lifetimes.proofs.AssetsRead.{OwnSids-read}
+use Rattle.pl_lifetimes.proofs.AssetsRead.{IsAssetRecord-asset_in, OwnSids-read}
 
 -- ---- the fields
 
-fields_said : Record → Option AssetRow
-fields_said r =
-    option_and_then (λ sid. option_and_then (λ start. option_map (λ end. record { sid = sid; start = start; end = end }) (date_in (field r 2))) (date_in (field r 1))) (sid_in (field r 0))
-
-pub IsAssetRecord-asset_in : (r : Record) (a : AssetRow) → asset_in r ≡ Some a → IsAssetRecord r a
-unfolding fields_said
-IsAssetRecord-asset_in r a e = here (length r == 3) refl e
-  where
-    here : (b : Bool) → (length r == 3) ≡ b → (if b then fields_said r else None) ≡ Some a → IsAssetRecord r a
-    here false t e = absurd (let bad : None ≡ Some a = e in cc)
-    here true t e =
-        let s = and_then_some (sid_in (field r 0)) _ a e in
-        let d = and_then_some (date_in (field r 1)) _ a s.2 in
-        let f = map_some (date_in (field r 2)) (λ end. record { sid = s.0; start = d.0; end = end }) a d.2 in
-        let n = decimal-sid_in (field r 0) s.0 s.1 in
-        rw (← f.2) record {
-          three = grind (arith, nat_tests);
-          small = n.0;
-          sid = n.1;
-          start = IsDate-date_in (field r 1) d.0 d.1;
-          end = IsDate-date_in (field r 2) f.0 f.1;
-        }
-
 asset_in-IsAssetRecord : (r : Record) (a : AssetRow) → IsAssetRecord r a → asset_in r ≡ Some a
 asset_in-IsAssetRecord r a h =
-    let three : length r ≡ 3 = h.three in
-    let t : (length r == 3) ≡ true = grind (arith, nat_tests) in
-    rw (t, sid_in-decimal (field r 0) a.sid h.small h.sid, date_in-IsDate (field r 1) a.start h.start, date_in-IsDate (field r 2) a.end h.end) refl
+    rw (eq-eqb (length r) 3 h.three, sid_in-decimal (field r 0) a.sid h.small h.sid, date_in-IsDate (field r 1) a.start h.start, date_in-IsDate (field r 2) a.end h.end) refl
 
 -- ---- the other tests
 
@@ -62,20 +34,8 @@ late_tells a = below a.end a.start
     below : (x y : ℤ) → Decides (int_lt x y) (x <ℤ y)
     below x y = (λ t. grind (arith, ints), λ h. grind (arith, ints))
 
-same_sid : (sid : ℕ) (a : AssetRow) → (sid_of a == sid) ≡ true → a.sid ≡ sid
-same_sid sid a t = grind (arith, nat_tests)
-
 sid_tells : (before : List AssetRow) (a : AssetRow) → Decides (list_any (λ x. sid_of x == a.sid) before) (Any (λ b. b.sid ≡ a.sid) before)
-sid_tells before a = (there, back)
-  where
-    there : list_any (λ x. sid_of x == a.sid) before ≡ true → Any (λ b. b.sid ≡ a.sid) before
-    there e = let it = Any-from_list_any (λ x. sid_of x == a.sid) before e in (it.0, it.1, it.2, it.3, same_sid a.sid it.1 it.4)
-
-    own : (sid : ℕ) (x : AssetRow) → x.sid ≡ sid → (sid_of x == sid) ≡ true
-    own sid x e = grind (arith, nat_tests)
-
-    back : Any (λ b. b.sid ≡ a.sid) before → list_any (λ x. sid_of x == a.sid) before ≡ true
-    back h = list_any_at (λ x. sid_of x == a.sid) before h.0 h.1 h.2 (own a.sid (get_or before h.0 h.1) (ap (λ (x : AssetRow). x.sid) h.3 ∙ h.4))
+sid_tells before a = any-tells (λ x. sid_of x == a.sid) (λ b. b.sid ≡ a.sid) (λ x. (eqb-true x.sid a.sid, eq-eqb x.sid a.sid)) before
 
 -- ---- what is said
 
@@ -117,7 +77,7 @@ assets-fault records fault =
     (λ e. under.0 (told.0 e), λ h. told.1 (under.1 h))
   where
     told : ((rows_in records >>= λ rows. Ok (sorted_by sid_of rows)) ≡ Err fault) ↔ (rows_in records ≡ Err fault)
-    told = sorted-fault sid_of (rows_in records) fault
+    told = made-fault (sorted_by sid_of) (rows_in records) fault
 
     under : (rows_under header rules.BadHeader asset_or_rule records ≡ Err fault) ↔ IsAssetsFault records fault
     under = under-fault header rules.BadHeader IsAsset (λ before r. IsFirstBroken rules.rules (Breaks before r)) asset_or_rule assets_judged records fault

@@ -1,8 +1,8 @@
 -- The sid of a column.
-use Rattle.std.proofs.Common.{◌≡◌, ℕ, ◌<◌, ◌==◌, Bool, true, false, List, length, get_or, refl, sym, ◌∙◌, ap, arith, inl, inr}
+use Rattle.std.proofs.Common.{◌≡◌, ℕ, ◌<◌, ◌==◌, List, length, get_or, sym, ◌∙◌, ap, arith, inl, inr, eq-eqb, eqb-true}
+use Rattle.std.specs.Cmp.{both_ways}
 use Rattle.std.specs.List.{AllPairs}
 use Rattle.std.proofs.lemmas.Bool.{cases_lt}
-use Rattle.std.proofs.lemmas.Bool.Decides.{nat_tests}
 use Rattle.pl_spec.specs.Parts.{sid_at}
 use Rattle.pl_spec.specs.declared.AssetRow.{AssetRow}
 use Rattle.pl_spec.proofs.Columns.{no_asset, sid_at-row}
@@ -20,10 +20,4 @@ one_col assets up c d h l e =
     ]
 
 pub same_col : (assets : List AssetRow) → AllPairs (λ a b. a.sid < b.sid) assets → (c d : ℕ) → c < length assets → d < length assets → (sid_at assets c == sid_at assets d) ≡ (c == d)
-same_col assets up c d h l = here (sid_at assets c == sid_at assets d) (c == d) refl refl
-  where
-    here : (a b : Bool) → (sid_at assets c == sid_at assets d) ≡ a → (c == d) ≡ b → a ≡ b
-    here true true t u = refl
-    here true false t u = let same : sid_at assets c ≡ sid_at assets d = grind (arith, nat_tests) in let it : c ≡ d = one_col assets up c d h l same in absurd (grind (arith, nat_tests))
-    here false true t u = let it : c ≡ d = grind (arith, nat_tests) in let same : sid_at assets c ≡ sid_at assets d = ap (sid_at assets) it in absurd (grind (arith, nat_tests))
-    here false false t u = refl
+same_col assets up c d h l = both_ways _ _ (λ t. eq-eqb c d (one_col assets up c d h l (eqb-true _ _ t))) (λ t. eq-eqb _ _ (ap (sid_at assets) (eqb-true c d t)))

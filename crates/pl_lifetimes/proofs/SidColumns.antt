@@ -1,11 +1,14 @@
 -- The column of the asset that has a sid.
-use Rattle.std.proofs.Common.{◌≡◌, ◌↔◌, ℕ, ◌<◌, ◌==◌, false, List, length, get_or, Option, Some, None, option_map, position, refl, sym, ◌∙◌, ap, arith, inl, inr, eq-eqb, eqb-true}
-use Rattle.std.specs.List.{slice_get}
-use Rattle.std.proofs.lemmas.Bool.{cases_lt, true≢false}
+use Rattle.std.proofs.Common.{◌≡◌, ◌↔◌, ℕ, ◌<◌, ◌==◌, false, List, length, get_or, Option, Some, None, option_map, unwrap_or, position, refl, sym, ◌∙◌, ap, arith, eq-eqb, eqb-true}
+use Rattle.std.specs.List.{slice_get, AllPairs}
+use Rattle.std.proofs.lemmas.Bool.{true≢false}
+use Rattle.std.proofs.lemmas.Bool.Decides.{nat_tests}
 use Rattle.std.proofs.lemmas.List.Quantifiers.{position-Some}
 use Rattle.std.proofs.lemmas.Option.{slice_get-get_or, slice_get_within, get_or_from_slice_get}
+use Rattle.pl_records.specs.RuleTable.{lacks}
+use Rattle.pl_records.proofs.RuleTables.{lacks-none}
 use Rattle.pl_spec.specs.declared.AssetRow.{AssetRow}
-use Rattle.pl_spec.proofs.Places.{nowhere}
+use Rattle.pl_spec.proofs.Places.{is_at, nowhere}
 use Rattle.pl_spec.proofs.Columns.{no_asset}
 use Rattle.pl_lifetimes.specs.Assets.{sid_of, AreAssets}
 use Rattle.pl_lifetimes.specs.Assets.{HasSid}
@@ -32,30 +35,20 @@ no_col_found assets sid e col h =
     let test : (sid_of it.0 == sid) ≡ false = ap (λ a. sid_of a == sid) (sym (get_or_from_slice_get assets col it.0 it.0 it.1)) ∙ nowhere (λ a. sid_of a == sid) assets e col it.0 (slice_get_within assets col it.0 it.1) in
     true≢false (sym (eq-eqb (sid_of it.0) sid it.2) ∙ test)
 
-one_col : (assets : List AssetRow) → AreAssets assets → (c d : ℕ) (sid : ℕ) → HasSid assets c sid → HasSid assets d sid → c ≡ d
-one_col assets up c d sid h l =
-    let first = asset_of assets c sid h in
-    let second = asset_of assets d sid l in
-    elim (cases_lt c d) [
-      | inl lt ↦ absurd (rising c d first.0 second.0 lt first.1 second.1 (first.2 ∙ sym second.2))
-      | inr ge ↦ elim (cases_lt d c) [
-        | inl lt ↦ absurd (rising d c second.0 first.0 lt second.1 first.1 (second.2 ∙ sym first.2))
-        | inr le ↦ omega arith
-      ]
-    ]
-  where
-    rising : (i j : ℕ) (a b : AssetRow) → i < j → slice_get assets i ≡ Some a → slice_get assets j ≡ Some b → sid_of a ≡ sid_of b → ⊥
-    rising i j a b h p q e =
-        let within : j < length assets = slice_get_within assets j b q in
-        let lt : (get_or assets i a).sid < (get_or assets j a).sid = up.ascend i j a h within in
-        let left : (get_or assets i a).sid ≡ a.sid = ap (λ (x : AssetRow). x.sid) (get_or_from_slice_get assets i a a p) in
-        let right : get_or assets j a ≡ b = (let same : Some (get_or assets j a) ≡ Some b = sym (slice_get-get_or assets j a within) ∙ q in cc) in
-        let right' : (get_or assets j a).sid ≡ b.sid = ap (λ (x : AssetRow). x.sid) right in omega arith
+other_sid : (a b sid : ℕ) → a < b → b ≡ sid → (a == sid) ≡ false
+other_sid a b sid h e = grind (arith, nat_tests)
+
+-- the first column of a sid is the one that has it
+pub sid_first : (assets : List AssetRow) (sid i : ℕ) → AllPairs (λ a b. a.sid < b.sid) assets → i < length assets → HasSid assets i sid → position (λ a. sid_of a == sid) assets ≡ Some i
+sid_first assets sid i up h at =
+    let e : sid_of (get_or assets i no_asset) ≡ sid = ap (λ o. unwrap_or o 0) (sym (ap (option_map sid_of) (slice_get-get_or assets i no_asset h)) ∙ at) in
+    is_at (λ a. sid_of a == sid) assets i no_asset h (eq-eqb _ _ e) (λ k l. other_sid _ _ sid (up k i no_asset l h) e)
 
 -- the look-up of a sid finds the column whose asset has it
 pub sid_form : (assets : List AssetRow) → AreAssets assets → (sid col : ℕ) → (position (λ a. sid_of a == sid) assets ≡ Some col) ↔ HasSid assets col sid
-sid_form assets up sid col = (col_found assets sid col, back (position (λ a. sid_of a == sid) assets) refl)
-  where
-    back : (o : Option ℕ) → position (λ a. sid_of a == sid) assets ≡ o → HasSid assets col sid → o ≡ Some col
-    back None e h = absurd (no_col_found assets sid e col h)
-    back (Some d) e h = ap (λ x. Some x) (one_col assets up d col sid (col_found assets sid d e) h)
+sid_form assets up sid col =
+    (col_found assets sid col, λ h. let it = asset_of assets col sid h in sid_first assets sid col up.ascend (slice_get_within assets col it.0 it.1) h)
+
+-- a sid that is not lacking is that of an asset
+pub sid_known : (assets : List AssetRow) → AreAssets assets → (sid : ℕ) → lacks (position (λ a. sid_of a == sid) assets) ≡ false → (col : ℕ) × HasSid assets col sid
+sid_known assets up sid t = let it = lacks-none (position (λ a. sid_of a == sid) assets) t in (it.0, (sid_form assets up sid it.0).0 it.1)

@@ -1,4 +1,3 @@
 pub mod Assets
 pub mod Rules
 pub mod Faults
-pub mod Seen

@@ -3,11 +3,10 @@
 ghost use Rattle.std.specs.Prelude.{◌≡◌, ◌+◌, ◌<◌, ◌≤◌, [], ◌∷◌, ◌++◌, length, OnOk, IfOk};
 ghost use Rattle.pl_spec.specs.Limits.{most_assets};
 ghost use Rattle.pl_records.specs.Reading.{Answers, at_line, rows_of};
-ghost use Rattle.pl_records.specs.Sorted.{HasOwnKeys, sorted_by};
+ghost use Rattle.pl_records.specs.Sorted.{AreKeys, HasOwnKeys, sorted_by};
 ghost use Rattle.pl_records.specs.Records.{csv_records};
 ghost use Rattle.pl_lifetimes.specs.Assets.{asset_in, assets_of, rows_in, asset_or_rule, sid_of};
 ghost use Rattle.pl_lifetimes.specs.Faults.{fault_of};
-ghost use Rattle.pl_lifetimes.specs.Seen.{AreSids};
 
 use crate::MOST_ASSETS;
 use crate::error::AssetsError;
@@ -67,9 +66,9 @@ fn next_asset(
     row: &Records,
 ) -> Result<AssetRow, AssetsError>
     requires few { length before.now ≤ most_assets }
-    requires sids { AreSids sids.old before.now }
+    requires sids { AreKeys sid_of sids.old before.now }
     ensures room { OnOk result (length before.now < most_assets) }
-    ensures sids { IfOk result (λ a. AreSids sids.new (before.now ++ a ∷ [])) }
+    ensures sids { IfOk result (λ a. AreKeys sid_of sids.new (before.now ++ a ∷ [])) }
     ensures exact { Answers (λ a. a) fault_of result
         (at_line (2 + length before.now) (asset_or_rule before.now row.now.fields)) }
 {

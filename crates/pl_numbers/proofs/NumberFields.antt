@@ -1,9 +1,8 @@
 -- The fields of a record of a number.
-use Rattle.std.proofs.Common.{◌≡◌, ◌↔◌, ℕ, ◌==◌, ◌&&◌, Bool, true, false, if◌then◌else◌, ℤ, length, Option, Some, None, option_map, option_and_then, refl, arith, inl, inr}
+use Rattle.std.proofs.Common.{◌≡◌, ◌↔◌, ◌==◌, ◌&&◌, true, length, Some, refl, inl, inr, eq-eqb, eqb-true}
 use Rattle.std.proofs.lemmas.Bool.{and_parts}
-use Rattle.std.proofs.lemmas.Bool.Decides.{nat_tests}
 use Rattle.pl_records.specs.Reading.{Record, field}
-use Rattle.pl_records.proofs.RuleTables.{and_then_some, map_some}
+use Rattle.pl_records.proofs.RuleTables.{when_some, and_then_some, map_some}
 use Rattle.pl_spec.specs.Dates.{IsDay, date_in}
 use Rattle.pl_spec.specs.Decimals.{sid_in}
 use Rattle.pl_spec.specs.Names.{is_name}
@@ -18,45 +17,30 @@ use Rattle.pl_bars.proofs.BarFields.{IsCellText-cell_in, cell_in-IsCellText}
 use Rattle.pl_numbers.specs.Numbers.{number_in}
 use Rattle.pl_numbers.specs.NumberRules.{IsNumberRecord}
 
-made : Record → ℕ → ℤ → ℤ → NumberRow
-made r sid known value = record { name = field r 0; sid = sid; known = known; value = value }
-
-fields_said : Record → Option NumberRow
-unfolding made
-fields_said r = option_and_then (λ sid. option_and_then (λ known. option_map (λ value. made r sid known value) (cell_in (field r 3))) (date_in (field r 2))) (sid_in (field r 1))
-
 pub IsNumberRecord-number_in : (r : Record) (n : NumberRow) → number_in r ≡ Some n → IsNumberRecord r n
-unfolding number_in fields_said made
-IsNumberRecord-number_in r n e = here (length r == 4 && is_name (field r 0)) refl e
-  where
-    here : (b : Bool) → (length r == 4 && is_name (field r 0)) ≡ b → (if b then fields_said r else None) ≡ Some n → IsNumberRecord r n
-    here false t e = absurd (let bad : None ≡ Some n = e in cc)
-    here true t e =
-        let p = and_parts (length r == 4) (is_name (field r 0)) t in
-        let s = and_then_some (sid_in (field r 1)) _ n e in
-        let d = and_then_some (date_in (field r 2)) _ n s.2 in
-        let v = map_some (cell_in (field r 3)) (λ value. made r s.0 d.0 value) n d.2 in
-        let m = decimal-sid_in (field r 1) s.0 s.1 in
-        rw (← v.2) record {
-          four = same_length p.0;
-          name = refl;
-          right_name = p.1;
-          small = m.0;
-          sid = m.1;
-          known = IsDate-date_in (field r 2) d.0 d.1;
-          value = IsCellText-cell_in (field r 3) v.0 v.1;
-        }
-      where
-        same_length : (length r == 4) ≡ true → length r ≡ 4
-        same_length t = grind (arith, nat_tests)
+unfolding number_in
+IsNumberRecord-number_in r n e =
+    let it = when_some (length r == 4 && is_name (field r 0)) _ n e in
+    let p = and_parts (length r == 4) (is_name (field r 0)) it.0 in
+    let s = and_then_some (sid_in (field r 1)) _ n it.1 in
+    let d = and_then_some (date_in (field r 2)) _ n s.2 in
+    let v = map_some (cell_in (field r 3)) (λ value. record { name = field r 0; sid = s.0; known = d.0; value = value }) n d.2 in
+    let m = decimal-sid_in (field r 1) s.0 s.1 in
+    rw (← v.2) record {
+      four = eqb-true (length r) 4 p.0;
+      name = refl;
+      right_name = p.1;
+      small = m.0;
+      sid = m.1;
+      known = IsDate-date_in (field r 2) d.0 d.1;
+      value = IsCellText-cell_in (field r 3) v.0 v.1;
+    }
 
 number_in-IsNumberRecord : (r : Record) (n : NumberRow) → IsNumberRecord r n → number_in r ≡ Some n
 unfolding number_in
 number_in-IsNumberRecord r n h =
-    let four : length r ≡ 4 = h.four in
-    let t : (length r == 4) ≡ true = grind (arith, nat_tests) in
     let m : is_name n.name ≡ true = h.right_name in
-    rw (t, h.name, m, sid_in-decimal (field r 1) n.sid h.small h.sid, date_in-IsDate (field r 2) n.known h.known, cell_in-IsCellText (field r 3) n.value h.value) refl
+    rw (eq-eqb (length r) 4 h.four, h.name, m, sid_in-decimal (field r 1) n.sid h.small h.sid, date_in-IsDate (field r 2) n.known h.known, cell_in-IsCellText (field r 3) n.value h.value) refl
 
 pub number_form : (r : Record) (n : NumberRow) → (number_in r ≡ Some n) ↔ IsNumberRecord r n
 number_form r n = (IsNumberRecord-number_in r n, number_in-IsNumberRecord r n)

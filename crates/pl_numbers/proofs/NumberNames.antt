@@ -1,7 +1,8 @@
 -- Numbers under a name that a row has, and under one that none has.
-use Rattle.std.proofs.Common.{◌≡◌, ℕ, Bool, true, false, ℤ, List, [], ◌∷◌, Some, None, map, filter, position, option_map, unwrap_or, bytes_eq, get_or, slice_index_or, refl, sym, ◌∙◌, ap, subst, inl, inr, All, Contains, true≢false}
+use Rattle.std.proofs.Common.{◌≡◌, ℕ, true, false, ℤ, List, [], ◌∷◌, Some, None, map, filter, position, option_map, unwrap_or, bytes_eq, get_or, slice_index_or, refl, sym, ◌∙◌, ap, subst, inl, inr, All, Contains, true≢false}
 use Rattle.std.proofs.lemmas.Slice.Eq.{bytes_eq-Decides}
 use Rattle.std.proofs.lemmas.List.Quantifiers.{position-Some}
+use Rattle.pl_records.proofs.RuleTables.{not_true}
 use Rattle.pl_spec.specs.Rounding.{MISSING}
 use Rattle.pl_spec.specs.Numbers.{is_number_of, last_known}
 use Rattle.pl_spec.specs.Parts.{ColumnNumber}
@@ -21,17 +22,16 @@ unnamed name col day (r ∷ rs) h = let e : bytes_eq r.name name ≡ false = h r
 
 other-name : (name : List ℕ) (names : List (List ℕ)) (rows : List ColumnNumber) → All (λ r. Contains names r.name) rows → position (bytes_eq name) names ≡ None
     → (r : ColumnNumber) → In r rows → bytes_eq r.name name ≡ false
-other-name name names rows named e r i = here (bytes_eq r.name name) refl
+other-name name names rows named e r i = not_true _ here
   where
     there : Contains names r.name
     there = let c = in-contains rows r i in subst (λ (q : ColumnNumber). Contains names q.name) c.2 (named c.0 r c.1)
 
-    here : (b : Bool) → bytes_eq r.name name ≡ b → b ≡ false
-    here false g = refl
-    here true g =
+    here : bytes_eq r.name name ≡ true → ⊥
+    here g =
         let same : r.name ≡ name = (bytes_eq-Decides r.name name).0 g in
         let place : get_or names there.0 r.name ≡ name = there.2 ∙ same in
-        absurd (true≢false (sym ((bytes_eq-Decides name (get_or names there.0 r.name)).1 (sym place)) ∙ nowhere (bytes_eq name) names e there.0 r.name there.1))
+        true≢false (sym ((bytes_eq-Decides name (get_or names there.0 r.name)).1 (sym place)) ∙ nowhere (bytes_eq name) names e there.0 r.name there.1)
 
 pub no-name : (name : List ℕ) (names : List (List ℕ)) (rows : List ColumnNumber) → All (λ r. Contains names r.name) rows → position (bytes_eq name) names ≡ None
     → (col : ℕ) (day : ℤ) → MISSING ≡ number_on rows name col day

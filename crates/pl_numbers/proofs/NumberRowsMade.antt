@@ -1,8 +1,8 @@
 -- A row of numbers after others.
-use Rattle.std.proofs.Common.{◌≡◌, ℕ, zero, suc, ◌<◌, ◌≤◌, ◌^◌, List, [], ◌∷◌, ◌++◌, length, map, get_or, All, FitsSigned, w32, refl, sym, ap, ◌∙◌, arith, true, nat_lt}
+use Rattle.std.proofs.Common.{◌≡◌, ℕ, suc, ◌<◌, ◌≤◌, ◌^◌, List, [], ◌∷◌, ◌++◌, length, map, get_or, All, FitsSigned, w32, refl, sym, ap, ◌∙◌, arith, true, nat_lt}
 use Rattle.std.proofs.lemmas.Bool.Decides.{nat_tests}
 use Rattle.std.proofs.lemmas.List.{length-map, map-append}
-use Rattle.std.proofs.lemmas.List.Elements.{All-append}
+use Rattle.std.proofs.lemmas.List.Elements.{All-push}
 use Rattle.std.specs.List.{position_or_len}
 use Rattle.std.specs.Str.{bytes_eq}
 use Rattle.pl_assets.specs.Labels.{first_seen, with_text}
@@ -80,14 +80,12 @@ pub numbered_more : (old new : NumberRows) (name : List ℕ) (p : Place) → Are
 numbered_more old new name p h n e next =
     let rows : shown_rows new ≡ shown_rows old ++ row_named name p ∷ [] = rows_more old new name p h n e next in
     record {
-      places = rw (n, e) (All-append (IsPlace (with_text old.names name)) old.places.items (p ∷ []) (places_kept old.names name old.places.items h.places) (alone next));
+      places = rw (n, e) (All-push (IsPlace (with_text old.names name)) old.places.items p (places_kept old.names name old.places.items h.places) alone);
       names = n ∙ ap (λ l. with_text l name) h.names ∙ sym (ap names_of rows ∙ names_more (shown_rows old) (row_named name p));
     }
   where
-    alone : IsNext old.names name p → All (IsPlace (with_text old.names name)) (p ∷ [])
-    alone next zero d l =
-        record { name = (let small : position_or_len (bytes_eq name) old.names < length (with_text old.names name) = (text_placed old.names name).0 in rw next.number small); col = next.col; day = next.day }
-    alone next (suc k) d l = absurd (omega arith)
+    alone : IsPlace (with_text old.names name) p
+    alone = record { name = (let small : position_or_len (bytes_eq name) old.names < length (with_text old.names name) = (text_placed old.names name).0 in rw next.number small); col = next.col; day = next.day }
 
 -- ---- no rows
 

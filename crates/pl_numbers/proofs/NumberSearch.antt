@@ -1,10 +1,9 @@
 -- The number of a column on a day, found by keys.
-use Rattle.std.proofs.Common.{◌≡◌, ℕ, ◌-◌, ◌<◌, ◌≤◌, ◌^◌, ◌==◌, nat_le, true, false, ℤ, pos, negsuc, ◌≤ℤ◌, ◌<ℤ◌, List, [], length, map, get_or, Option, Some, None, option_map, unwrap_or, slice_get, neg_ℤ, FitsSigned, w32, refl, sym, ap, ◌∙◌, arith, inl, inr}
+use Rattle.std.proofs.Common.{◌≡◌, ℕ, ◌-◌, ◌<◌, ◌≤◌, ◌^◌, nat_le, true, false, ℤ, pos, negsuc, ◌≤ℤ◌, ◌<ℤ◌, List, [], length, map, get_or, Option, Some, None, option_map, unwrap_or, slice_get, neg_ℤ, FitsSigned, w32, refl, sym, ap, ◌∙◌, arith, inl, inr}
 use Rattle.std.specs.Prelude.{Contains}
 use Rattle.std.specs.List.Sorted.{IsPartitionedBy}
-use Rattle.std.specs.Int.RustNames.{int_le}
 use Rattle.std.proofs.lemmas.Int.{ints}
-use Rattle.std.proofs.lemmas.Bool.{and_parts, cases_lt}
+use Rattle.std.proofs.lemmas.Bool.{cases_lt}
 use Rattle.std.proofs.lemmas.Bool.Decides.{nat_tests}
 use Rattle.std.proofs.lemmas.Option.{get_or_from_slice_get, slice_get_within}
 use Rattle.pl_calendar.specs.Days.{AreDays}
@@ -13,15 +12,17 @@ use Rattle.pl_spec.specs.Numbers.{NumberRow, NumbersOnce, is_number_of}
 use Rattle.pl_spec.specs.Rounding.{MISSING}
 use Rattle.pl_spec.proofs.Places.{rising_at}
 use Rattle.pl_assets.specs.LabelPlaces.{key}
-use Rattle.pl_assets.proofs.FirstSeen.{one_place, same_text, equal_text}
+use Rattle.pl_assets.proofs.FirstSeen.{one_place}
 use Rattle.pl_assets.proofs.LabelOrder.{keys_back, keys_between, keys_rise}
-use Rattle.pl_assets.proofs.LabelSearch.{contains_mapped, mapped_contains}
+use Rattle.pl_assets.proofs.Dated.{by-tells, contains_mapped, mapped_contains, once-mapped}
 use Rattle.std.proofs.lemmas.List.{get_or_default}
 use Rattle.pl_spec.specs.Parts.{ColumnNumber}
 use Rattle.pl_numbers.specs.Numbers.{by_column, known_on, number_on}
 use Rattle.pl_numbers.specs.NumberPlaces.{AllLow, IsNewest, IsPlace, IsTable, KeyPoint, Rise, key_of, row_at, shown_rows}
 use Rattle.pl_numbers.specs.declared.rows.Place.{Place}
 use Rattle.pl_numbers.specs.declared.rows.NumberRows.{NumberRows}
+use Rattle.pl_numbers.proofs.NumberKeys.{numbers, numbers_said}
+use Rattle.pl_numbers.proofs.NumberTables.{are_numbers}
 use Rattle.pl_numbers.proofs.NumbersFound.{last_found, last_none}
 
 blank : Place
@@ -35,26 +36,6 @@ parted places k up i j d h l t =
     let le : key_of (get_or places i d) ≤ key_of (get_or places j d) = rising_at key_of places up i j d h l in
     let low : key_of (get_or places j d) ≤ k = grind (arith, nat_tests) in
     let both : key_of (get_or places i d) ≤ k = omega arith in grind (arith, nat_tests)
-
--- rows of a table with one key are one row
-one_of_key : (places : List Place) → Rise places → (p q : Place) → Contains places p → Contains places q → key_of p ≡ key_of q → p ≡ q
-one_of_key places up p q h g e =
-    elim (cases_lt h.0 g.0) [
-      | inl lt ↦ absurd (apart h.0 g.0 p q lt g.1 h.2 (later g.0 q p g.1 g.2) e)
-      | inr ge ↦ elim (cases_lt g.0 h.0) [
-        | inl lt ↦ absurd (apart g.0 h.0 q p lt h.1 g.2 (later h.0 p q h.1 h.2) (sym e))
-        | inr le ↦ (let same : h.0 ≡ g.0 = omega arith in sym h.2 ∙ ap (λ k. get_or places k p) same ∙ later g.0 q p g.1 g.2)
-      ]
-    ]
-  where
-    later : (k : ℕ) (x d : Place) → k < length places → get_or places k x ≡ x → get_or places k d ≡ x
-    later k x d l at = get_or_default places k d x l ∙ at
-
-    apart : (i j : ℕ) (x y : Place) → i < j → j < length places → get_or places i x ≡ x → get_or places j x ≡ y → key_of x ≡ key_of y → ⊥
-    apart i j x y lt l a b same =
-        let up_here : key_of (get_or places i x) < key_of (get_or places j x) = up i j x lt l in
-        let bad : key_of x < key_of y = rw (a, b) at up_here in
-        omega (arith, bad, same)
 
 -- the row is of the name and the column, and was known by the day
 pub record IsOf (number col : ℕ) (day : ℤ) (p : Place) : Type 0 where
@@ -81,16 +62,7 @@ module _ (t : NumberRows) (table : IsTable t) where
       (second.0, second.1, ap by_column second.2 ∙ first.2)
 
   rows_once : NumbersOnce (map by_column (shown_rows t))
-  unfolding seen_row
-  rows_once r q h g e f s =
-      let x = from_place r h in
-      let y = from_place q g in
-      let names : get_or t.names x.0.name [] ≡ get_or t.names y.0.name [] = ap (λ (z : NumberRow). z.name) x.2 ∙ e ∙ sym (ap (λ (z : NumberRow). z.name) y.2) in
-      let n : x.0.name ≡ y.0.name = one_place t.names x.0.name y.0.name table.names (is_place x.0 x.1).name (is_place y.0 y.1).name names in
-      let c : x.0.col ≡ y.0.col = ap (λ (z : NumberRow). z.sid) x.2 ∙ f ∙ sym (ap (λ (z : NumberRow). z.sid) y.2) in
-      let d : x.0.known ≡ y.0.known = ap (λ (z : NumberRow). z.known) x.2 ∙ s ∙ sym (ap (λ (z : NumberRow). z.known) y.2) in
-      let same : key_of x.0 ≡ key_of y.0 = ap (λ m. key m x.0.col x.0.known) n ∙ ap (λ m. key y.0.name m x.0.known) c ∙ ap (key y.0.name y.0.col) d in
-      sym x.2 ∙ ap seen_row (one_of_key t.places.items table.rise x.0 y.0 x.1 y.1 same) ∙ y.2
+  rows_once = once-mapped numbers numbers_said by_column (λ r. (refl, refl, refl)) blank_row (shown_rows t) (are_numbers t table).once
 
   module _ (number col : ℕ) (day : ℤ) (inside : number < length t.names) (small : col < 2 ^ 64) (fits : FitsSigned w32 day) where
     abbrev WasKnown : Place → Type 0
@@ -98,34 +70,13 @@ module _ (t : NumberRows) (table : IsTable t) where
 
     is_row : (p : Place) → WasKnown p → is_number_of (get_or t.names number []) col day (seen_row p) ≡ true
     unfolding seen_row
-    is_row p h =
-        let n : p.name ≡ number = h.same_name in
-        let c : (p.col == col) ≡ true = same p.col h.same_col in
-        let s : int_le p.known day ≡ true = not_later p.known h.by_then in
-        rw (n, c, s, equal_text (get_or t.names number [])) refl
-      where
-        same : (a : ℕ) → a ≡ col → (a == col) ≡ true
-        same a e = grind (arith, nat_tests)
-
-        not_later : (a : ℤ) → a ≤ℤ day → int_le a day ≡ true
-        not_later a h = grind (arith, ints)
+    is_row p h = (by-tells numbers_said (get_or t.names number []) col day (seen_row p)).1 (ap (λ n. get_or t.names n []) h.same_name, h.same_col, h.by_then)
 
     row_is : (p : Place) → Contains t.places.items p → is_number_of (get_or t.names number []) col day (seen_row p) ≡ true → WasKnown p
     unfolding seen_row
     row_is p h e =
-        let front = and_parts _ _ e in
-        let parts = and_parts _ _ front.0 in
-        record {
-          same_name = one_place t.names p.name number table.names (is_place p h).name inside (same_text _ _ parts.0);
-          same_col = same p.col parts.1;
-          by_then = not_later p.known front.1;
-        }
-      where
-        same : (a : ℕ) → (a == col) ≡ true → a ≡ col
-        same a t = grind (arith, nat_tests)
-
-        not_later : (a : ℤ) → int_le a day ≡ true → a ≤ℤ day
-        not_later a t = grind (arith, ints)
+        let it = (by-tells numbers_said (get_or t.names number []) col day (seen_row p)).0 e in
+        record { same_name = one_place t.names p.name number table.names (is_place p h).name inside it.0; same_col = it.1; by_then = it.2 }
 
     low_key : (q : Place) → Contains t.places.items q → WasKnown q → key_of q ≤ key number col day
     low_key q h s =

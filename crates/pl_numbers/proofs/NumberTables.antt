@@ -6,6 +6,7 @@ use Rattle.std.proofs.lemmas.Bool.Decides.{nat_tests}
 use Rattle.std.proofs.lemmas.List.{length-map, get_or-map}
 use Rattle.std.proofs.lemmas.List.Elements.{All-map}
 use Rattle.std.proofs.lemmas.List.Sorted.{All-permutation, IsPermutation-map}
+use Rattle.pl_records.proofs.RuleTables.{not_true}
 use Rattle.pl_records.specs.Sorted.{HasOwnKeys, insert_by, sorted_by}
 use Rattle.pl_records.proofs.Sorts.{sorted-rises, sorted-permutes, length-sorted_by}
 use Rattle.pl_spec.proofs.Counts.{count-cons}
@@ -13,7 +14,7 @@ use Rattle.pl_spec.specs.Dates.{IsDay}
 use Rattle.pl_spec.specs.Rounding.{IsCell}
 use Rattle.pl_spec.specs.declared.AssetRow.{AssetRow}
 use Rattle.pl_assets.specs.LabelPlaces.{key}
-use Rattle.pl_assets.proofs.FirstSeen.{one_place}
+use Rattle.pl_assets.proofs.FirstSeen.{Once, one_place}
 use Rattle.pl_assets.proofs.LabelOrder.{same_key}
 use Rattle.std.proofs.lemmas.List.{get_or_default}
 use Rattle.pl_spec.specs.Parts.{ColumnNumber}
@@ -147,29 +148,28 @@ module _ (t new : NumberRows) (numbered : AreNumbered t) (names : new.names ≡ 
 pub blank : Place
 blank = record { name = 0; col = 0; known = pos 0; value = pos 0 }
 
+-- rows of keys that differ are told apart
+pub told_apart : (t : NumberRows) → Once t.names → All (IsPlace t.names) t.places.items → AllPairs (λ p q. key_of p ≢ key_of q) t.places.items → AllPairs (λ r q. is_from r.name r.col r.known q ≡ false) (shown_rows t)
+told_apart t names all differ i j d lt l =
+    let inside : j < length t.places.items = omega (arith, l, length-map t.places.items (row_at t.names)) in
+    let before : i < length t.places.items = omega arith in
+    rw (get_or-map (row_at t.names) t.places.items i blank d before, get_or-map (row_at t.names) t.places.items j blank d inside)
+    (here (get_or t.places.items i blank) (get_or t.places.items j blank) (all i blank before) (all j blank inside) (differ i j blank lt inside))
+  where
+    here : (p q : Place) → IsPlace t.names p → IsPlace t.names q → key_of p ≢ key_of q → is_from (row_at t.names p).name (row_at t.names p).col (row_at t.names p).known (row_at t.names q) ≡ false
+    here p q hp hq ne = not_true _ (λ e.
+        let parts = from_parts (row_at t.names p).name (row_at t.names p).col (row_at t.names p).known (row_at t.names q) e in
+        let n : q.name ≡ p.name = one_place t.names q.name p.name names hq.name hp.name parts.0 in
+        let same : key_of q ≡ key_of p = ap (λ m. key m q.col q.known) n ∙ ap (λ c. key p.name c q.known) parts.1 ∙ ap (key p.name p.col) parts.2 in
+        ne (sym same))
+
 pub are_numbers : (t : NumberRows) → IsTable t → AreNumbers (table_in t)
 are_numbers t h =
     record {
       names = h.names;
       named = All-map (λ (r : ColumnNumber). Contains t.names r.name) (row_at t.names) t.places.items (λ k d l.
           let p : Place = get_or t.places.items k d in (p.name, (h.places k d l).name, get_or_default t.names p.name (get_or t.names p.name []) [] (h.places k d l).name));
-      once = once;
+      once = told_apart t h.names h.places (λ i j d lt l e. let up : key_of (get_or t.places.items i d) < key_of (get_or t.places.items j d) = h.rise i j d lt l in omega (arith, up, e));
       few = omega (arith, h.few, length-map t.places.items (row_at t.names));
       cells = All-map (λ (r : ColumnNumber). IsCell r.value) (row_at t.names) t.places.items h.cells;
     }
-  where
-    apart : (p q : Place) → IsPlace t.names p → IsPlace t.names q → key_of p < key_of q → (b : Bool) → is_from (row_at t.names p).name (row_at t.names p).col (row_at t.names p).known (row_at t.names q) ≡ b
-        → is_from (row_at t.names p).name (row_at t.names p).col (row_at t.names p).known (row_at t.names q) ≡ false
-    apart p q hp hq lt false e = e
-    apart p q hp hq lt true e =
-        let parts = from_parts (row_at t.names p).name (row_at t.names p).col (row_at t.names p).known (row_at t.names q) e in
-        let n : q.name ≡ p.name = one_place t.names q.name p.name h.names hq.name hp.name parts.0 in
-        let same : key_of q ≡ key_of p = ap (λ m. key m q.col q.known) n ∙ ap (λ c. key p.name c q.known) parts.1 ∙ ap (key p.name p.col) parts.2 in
-        absurd (omega (arith, lt, same))
-
-    once : AllPairs (λ r q. is_from r.name r.col r.known q ≡ false) (shown_rows t)
-    once i j d lt l =
-        let inside : j < length t.places.items = omega (arith, l, length-map t.places.items (row_at t.names)) in
-        let before : i < length t.places.items = omega arith in
-        rw (get_or-map (row_at t.names) t.places.items i blank d before, get_or-map (row_at t.names) t.places.items j blank d inside)
-        (apart (get_or t.places.items i blank) (get_or t.places.items j blank) (h.places i blank before) (h.places j blank inside) (h.rise i j blank lt inside) _ refl)

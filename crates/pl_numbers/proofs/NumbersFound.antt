@@ -2,16 +2,11 @@
 use Rattle.std.proofs.Common.{◌≡◌, ℕ, true, ℤ, ◌≤ℤ◌, List, filter, Some, None, Contains, sym, ◌∙◌}
 use Rattle.std.specs.List.{list_all}
 use Rattle.std.specs.Int.RustNames.{int_le}
-use Rattle.std.proofs.lemmas.Bool.{eqb-true, and_parts}
-use Rattle.std.proofs.lemmas.Slice.Eq.{bytes_eq-Decides}
 use Rattle.pl_spec.specs.Numbers.{NumberRow, last_known, is_number_of, NumbersOnce}
 use Rattle.pl_spec.proofs.Signed.{int_le-true, le-int_le, le-both}
+use Rattle.pl_assets.proofs.Dated.{by-tells}
+use Rattle.pl_numbers.proofs.NumberKeys.{numbers_said}
 use Rattle.pl_spec.proofs.Finds.{find-one, find-none, contains-filter, filter-contains, all-contains, contains-all}
-
-number_of : (name : List ℕ) (a : ℕ) (day : ℤ) (r : NumberRow) → is_number_of name a day r ≡ true → (r.name ≡ name) × (r.sid ≡ a)
-number_of name a day r e =
-    let front = and_parts _ _ (and_parts _ _ e).0 in
-    ((bytes_eq-Decides r.name name).0 front.0, eqb-true r.sid a front.1)
 
 module _ (rows : List NumberRow) (name : List ℕ) (a : ℕ) (day : ℤ) where
   us : List NumberRow
@@ -34,8 +29,8 @@ module _ (rows : List NumberRow) (name : List ℕ) (a : ℕ) (day : ℤ) where
       one : (y : NumberRow) → Contains us y → list_all (λ q. int_le q.known y.known) us ≡ true → y ≡ r
       one y in_us last =
           let row = filter-contains (is_number_of name a day) rows y in_us in
-          let of_y = number_of name a day y row.1 in
-          let of_r = number_of name a day r e in
+          let of_y = (by-tells numbers_said name a day y).0 row.1 in
+          let of_r = (by-tells numbers_said name a day r).0 e in
           let below : r.known ≤ℤ y.known = int_le-true r.known y.known (all-contains (λ q. int_le q.known y.known) us last r here) in
           once y r row.0 h (of_y.0 ∙ sym of_r.0) (of_y.1 ∙ sym of_r.1) (le-both y.known r.known (latest y row.0 row.1) below)
 

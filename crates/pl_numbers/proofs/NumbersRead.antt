@@ -1,55 +1,24 @@
--- Numbers that are read: what each test tells, and what is kept of all rows.
-use Rattle.std.proofs.Common.{◌≡◌, ℕ, zero, suc, ◌==◌, ◌<◌, ◌≤◌, nat_le, Bool, true, false, List, [], ◌∷◌, ◌++◌, length, get_or, length-append, All, Some, option_map, Ok, refl, sym, subst, ap, ◌∙◌, pos, position, arith}
+-- What is kept of all numbers that are read.
+use Rattle.std.proofs.Common.{◌≡◌, ◌==◌, ◌<◌, ◌≤◌, false, List, [], ◌∷◌, ◌++◌, length, All, Some, option_map, Ok, subst, arith}
 use Rattle.std.specs.List.{list_any, AllPairs}
 use Rattle.std.specs.Option.{ok_or}
-use Rattle.std.proofs.lemmas.Bool.Decides.{nat_tests}
-use Rattle.std.proofs.lemmas.List.Quantifiers.{position-Some, all_pairs_push}
-use Rattle.std.proofs.lemmas.List.Elements.{All-append}
-use Rattle.std.proofs.lemmas.List.Folds.{list_any_at}
+use Rattle.std.proofs.lemmas.List.Quantifiers.{position-Some}
+use Rattle.std.proofs.lemmas.List.Elements.{All-push}
 use Rattle.pl_records.specs.Reading.{Record}
 use Rattle.pl_spec.specs.Dates.{IsDay}
 use Rattle.pl_spec.specs.Limits.{most_numbers}
-use Rattle.pl_spec.specs.Numbers.{NumberRow}
 use Rattle.pl_spec.specs.Rounding.{IsCell}
 use Rattle.pl_spec.specs.declared.AssetRow.{AssetRow}
-use Rattle.pl_records.proofs.Readings.{rows-keep, under_ok}
+use Rattle.pl_spec.proofs.Columns.{no_asset}
+use Rattle.pl_records.proofs.Readings.{few-more, rows-keep, under_ok}
 use Rattle.pl_records.proofs.RuleTables.{and_then_some, map_some, told_ok, ok_or-Ok}
 use Rattle.pl_lifetimes.specs.Assets.{sid_of}
 use Rattle.pl_spec.specs.Parts.{ColumnNumber}
 use Rattle.pl_numbers.specs.Numbers.{breaks, col_in, in_column, row_of, header, number_in, is_from, number_or_rule, number_rows_in}
 use Rattle.pl_numbers.specs.Numbers as rules
 use Rattle.pl_numbers.proofs.NumberFields.{number_cell, number_day}
-use Rattle.pl_numbers.proofs.NumberKeys.{from_parts, parts_from}
-
--- ---- what the tests were where a record says its row
-
-pub record Says (assets : List AssetRow) (before : List ColumnNumber) (r : Record) (row : ColumnNumber) : Type 0 where
-  pub few : nat_le most_numbers (length before) ≡ false
-  pub number : NumberRow
-  pub written : number_in r ≡ Some number
-  pub col : position (λ a. sid_of a == number.sid) assets ≡ Some row.col
-  pub own : list_any (is_from number.name row.col number.known) before ≡ false
-  pub same : in_column number row.col ≡ row
-
-pub number_or_rule-ok : (assets : List AssetRow) (before : List ColumnNumber) (r : Record) (row : ColumnNumber) → number_or_rule assets before r ≡ Ok row → Says assets before r row
-unfolding number_or_rule
-number_or_rule-ok assets before r row e =
-    let k = told_ok rules.rules (breaks assets before r) (ok_or (row_of assets r) rules.BadField) row e in
-    let at : row_of assets r ≡ Some row = ok_or-Ok (row_of assets r) rules.BadField row k.1 in
-    let n = and_then_some (number_in r) (λ n. option_map (in_column n) (col_in assets n)) row at in
-    let c = map_some (col_in assets n.0) (in_column n.0) row n.2 in
-    let in_col : c.0 ≡ row.col = ap (λ (x : ColumnNumber). x.col) c.2 in
-    let own : list_any (is_from row.name row.col row.known) before ≡ false = rw at at k.0.1.1.1.0 in
-    record {
-      few = k.0.0;
-      number = n.0;
-      written = n.1;
-      col = c.1 ∙ ap (λ x. Some x) in_col;
-      own = ap (λ (x : ColumnNumber). list_any (is_from x.name row.col x.known) before) c.2 ∙ own;
-      same = ap (in_column n.0) (sym in_col) ∙ c.2;
-    }
-
--- ---- what is kept of all rows
+use Rattle.pl_assets.proofs.Dated.{once-more}
+use Rattle.pl_numbers.proofs.NumberKeys.{numbers}
 
 -- numbers as they are kept, in columns of assets
 pub record AreRead (assets : List AssetRow) (rows : List ColumnNumber) : Type 0 where
@@ -59,44 +28,22 @@ pub record AreRead (assets : List AssetRow) (rows : List ColumnNumber) : Type 0 
   pub days : All (λ r. IsDay r.known) rows
   pub cols : All (λ r. r.col < length assets) rows
 
-one_row : (P : ColumnNumber → Type 0) (r : ColumnNumber) → P r → All P (r ∷ [])
-one_row P r p zero d h = p
-one_row P r p (suc k) d h = absurd (omega arith)
-
-blank : AssetRow
-blank = record { sid = 0; start = pos 0; end = pos 0 }
-
--- a row from whose day none before is, is not from theirs
-others-before : (rows : List ColumnNumber) (r : ColumnNumber) → list_any (is_from r.name r.col r.known) rows ≡ false → All (λ q. is_from q.name q.col q.known r ≡ false) rows
-others-before rows r e k d h = here (is_from (get_or rows k d).name (get_or rows k d).col (get_or rows k d).known r) refl
-  where
-    here : (b : Bool) → is_from (get_or rows k d).name (get_or rows k d).col (get_or rows k d).known r ≡ b → is_from (get_or rows k d).name (get_or rows k d).col (get_or rows k d).known r ≡ false
-    here false t = t
-    here true t =
-        let q : ColumnNumber = get_or rows k d in
-        let p = from_parts q.name q.col q.known r t in
-        let back : is_from r.name r.col r.known q ≡ true = parts_from r.name r.col r.known q (sym p.0) (sym p.1) (sym p.2) in
-        let there : list_any (is_from r.name r.col r.known) rows ≡ true = list_any_at (is_from r.name r.col r.known) rows k d h back in
-        absurd (let bad : true ≡ false = sym there ∙ e in cc)
-
 read-more : (assets : List AssetRow) (before : List ColumnNumber) (r : Record) (row : ColumnNumber) → AreRead assets before → number_or_rule assets before r ≡ Ok row → AreRead assets (before ++ row ∷ [])
+unfolding number_or_rule
 read-more assets before r row h s =
-    let ok = number_or_rule-ok assets before r row s in
-    let at = position-Some (λ a. sid_of a == ok.number.sid) assets row.col blank ok.col in
-    let room : length before < most_numbers = room_left (length before) ok.few in
-    let own : list_any (is_from row.name row.col row.known) before ≡ false = ap (λ (x : ColumnNumber). list_any (is_from x.name row.col x.known) before) (sym ok.same) ∙ ok.own in
+    let k = told_ok rules.rules (breaks assets before r) (ok_or (row_of assets r) rules.BadField) row s in
+    let at : row_of assets r ≡ Some row = ok_or-Ok (row_of assets r) rules.BadField row k.1 in
+    let n = and_then_some (number_in r) (λ n. option_map (in_column n) (col_in assets n)) row at in
+    let c = map_some (col_in assets n.0) (in_column n.0) row n.2 in
+    let col = position-Some (λ a. sid_of a == n.0.sid) assets c.0 no_asset c.1 in
+    let own : list_any (is_from row.name row.col row.known) before ≡ false = rw at at k.0.1.1.1.0 in
     record {
-      once = all_pairs_push (λ r q. is_from r.name r.col r.known q ≡ false) before row h.once (others-before before row own);
-      few = omega (arith, length-append before (row ∷ []));
-      cells = All-append (λ (x : ColumnNumber). IsCell x.value) before (row ∷ []) h.cells (one_row (λ x. IsCell x.value) row
-          (subst (λ (x : ColumnNumber). IsCell x.value) ok.same (number_cell r ok.number ok.written)));
-      days = All-append (λ (x : ColumnNumber). IsDay x.known) before (row ∷ []) h.days (one_row (λ x. IsDay x.known) row
-          (subst (λ (x : ColumnNumber). IsDay x.known) ok.same (number_day r ok.number ok.written)));
-      cols = All-append (λ (x : ColumnNumber). x.col < length assets) before (row ∷ []) h.cols (one_row (λ x. x.col < length assets) row at.0);
+      once = once-more numbers before row h.once own;
+      few = few-more most_numbers before row k.0.0;
+      cells = All-push (λ (x : ColumnNumber). IsCell x.value) before row h.cells (subst (λ (x : ColumnNumber). IsCell x.value) c.2 (number_cell r n.0 n.1));
+      days = All-push (λ (x : ColumnNumber). IsDay x.known) before row h.days (subst (λ (x : ColumnNumber). IsDay x.known) c.2 (number_day r n.0 n.1));
+      cols = All-push (λ (x : ColumnNumber). x.col < length assets) before row h.cols (subst (λ (x : ColumnNumber). x.col < length assets) c.2 col.0);
     }
-  where
-    room_left : (n : ℕ) → nat_le most_numbers n ≡ false → n < most_numbers
-    room_left n t = grind (arith, nat_tests)
 
 read-none : (assets : List AssetRow) → AreRead assets []
 read-none assets = record { once = λ i j d h l. absurd (omega arith); few = omega arith; cells = λ k d h. absurd (omega arith); days = λ k d h. absurd (omega arith); cols = λ k d h. absurd (omega arith) }

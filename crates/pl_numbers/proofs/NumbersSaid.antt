@@ -1,15 +1,14 @@
 -- What a record says of its number, in plain words.
-use Rattle.std.proofs.Common.{◌≡◌, ℕ, ◌↔◌, true, false, ℤ, List, Some, option_map, Any, Result, Ok, Err, refl, sym, ◌∙◌, ap, arith}
+use Rattle.std.proofs.Common.{◌≡◌, ℕ, ◌↔◌, true, false, List, Some, option_map, Any, Ok, Err, refl, sym, ◌∙◌, ap, arith}
 use Rattle.std.specs.List.{list_any}
 use Rattle.std.specs.Bool.{Decides}
 use Rattle.std.proofs.lemmas.Bool.Decides.{nat_tests}
-use Rattle.std.proofs.lemmas.List.Folds.{list_any_at, Any-from_list_any}
 use Rattle.pl_records.specs.Reading.{Record, Fault, ◌>>=◌, AreRowsUnder, Judges}
 use Rattle.pl_records.specs.RuleTable.{IsFirstBroken, KeepsAll}
 use Rattle.pl_records.specs.Sorted.{sorted_by}
 use Rattle.pl_spec.specs.Numbers.{NumberRow}
 use Rattle.pl_spec.specs.declared.AssetRow.{AssetRow}
-use Rattle.pl_records.proofs.Readings.{under-are, under-fault}
+use Rattle.pl_records.proofs.Readings.{made-of, made-fault, under-are, under-fault}
 use Rattle.pl_records.proofs.RuleTables.{and_then_some, map_some, lacks-tells, has-tells, Judges-table}
 use Rattle.pl_lifetimes.specs.Assets.{AreAssets, HasSid}
 use Rattle.pl_lifetimes.proofs.SidColumns.{sid_form}
@@ -18,16 +17,13 @@ use Rattle.pl_numbers.specs.Numbers.{Rule, NumberTable, breaks, col_in, in_colum
 use Rattle.pl_numbers.specs.Numbers as rules
 use Rattle.pl_numbers.specs.NumberRules.{IsNumberRecord, IsRowRecord, CountWith, IsNumber, Breaks, AreNumbersOf, IsNumbersFault}
 use Rattle.pl_numbers.proofs.NumberFields.{number_form}
-use Rattle.pl_numbers.proofs.NumberKeys.{from_parts, parts_from}
+use Rattle.pl_assets.proofs.Dated.{clash-tells}
+use Rattle.pl_numbers.proofs.NumberKeys.{numbers}
 
 -- ---- the rows before
 
 day_tells : (before : List ColumnNumber) (row : ColumnNumber) → Decides (list_any (is_from row.name row.col row.known) before) (Any (CountWith row) before)
-day_tells before row = (
-  λ e. (let it = Any-from_list_any (is_from row.name row.col row.known) before e in (it.0, it.1, it.2, it.3, from_parts row.name row.col row.known it.1 it.4)),
-  λ h. list_any_at (is_from row.name row.col row.known) before h.0 h.1 h.2
-      (rw h.3 (parts_from row.name row.col row.known h.1 h.4.0 h.4.1 h.4.2)),
-)
+day_tells = clash-tells numbers
 
 -- ---- what is said
 
@@ -48,14 +44,9 @@ row_form assets up r row = (there, back)
           same = record { name = refl; in_col = refl; known = refl; value = refl };
         }
 
-    joined : (a b : List ℕ) (c : ℕ) (e f : ℤ) (u v : ℤ) → a ≡ b → e ≡ f → u ≡ v
-        → (let x : ColumnNumber = record { name = a; col = c; known = e; value = u } in x) ≡ record { name = b; col = c; known = f; value = v }
-    joined a b c e f u v p s t = rw (p, s, t) refl
-
     back : IsRowRecord assets r row → row_of assets r ≡ Some row
     back h =
-        rw ((number_form r h.number).1 h.written, (col_form assets up h.number row.col).1 h.asset)
-        (ap (λ x. Some x) (joined h.number.name row.name row.col h.number.known row.known h.number.value row.value (sym h.same.name) (sym h.same.known) (sym h.same.value)))
+        rw ((number_form r h.number).1 h.written, (col_form assets up h.number row.col).1 h.asset, ← h.same.name, ← h.same.known, ← h.same.value) refl
 
 abbrev Told : List AssetRow → List ColumnNumber → Record → Rule → Type 0
 Told assets before r rule = IsFirstBroken rules.rules (Breaks assets before r) rule
@@ -80,16 +71,15 @@ numbers_judged assets up = Judges-table (row_of assets) (IsRowRecord assets) (ro
 
 pub numbers-are : (assets : List AssetRow) → AreAssets assets → (records : List Record) (table : NumberTable) → (numbers_of assets records ≡ Ok table) ↔ AreNumbersOf assets records table
 unfolding numbers_of number_rows_in
-numbers-are assets up records table = (forth (number_rows_in assets records) refl, back)
+numbers-are assets up records table = (there, back)
   where
     under : (rows : List ColumnNumber) → (number_rows_in assets records ≡ Ok rows) ↔ AreRowsUnder header (IsNumber assets) records rows
     under rows = under-are header rules.BadHeader (IsNumber assets) (Told assets) (number_or_rule assets) (numbers_judged assets up) records rows
 
-    forth : (x : Result (List ColumnNumber) (Fault Rule)) → number_rows_in assets records ≡ x → (x >>= λ rows. Ok (table_of rows)) ≡ Ok table → AreNumbersOf assets records table
-    forth (Ok rows) was e =
-        let same : table_of rows ≡ table = cc in
-        rw (← same) record { rows = rows; read = (under rows).0 was; names = refl; sorted = refl }
-    forth (Err f) was e = absurd (let bad : Err f ≡ Ok table = e in cc)
+    there : (number_rows_in assets records >>= λ rows. Ok (table_of rows)) ≡ Ok table → AreNumbersOf assets records table
+    there e =
+        let it = made-of table_of (number_rows_in assets records) table e in
+        rw (← it.2) record { rows = it.0; read = (under it.0).0 it.1; names = refl; sorted = refl }
 
     made : (rows : List ColumnNumber) (t : NumberTable) → t.names ≡ names_of rows → t.rows ≡ sorted_by (key_in t.names) rows → table_of rows ≡ t
     made rows t n s =
@@ -101,14 +91,10 @@ numbers-are assets up records table = (forth (number_rows_in assets records) ref
 
 pub numbers-fault : (assets : List AssetRow) → AreAssets assets → (records : List Record) (fault : Fault Rule) → (numbers_of assets records ≡ Err fault) ↔ IsNumbersFault assets records fault
 unfolding numbers_of number_rows_in
-numbers-fault assets up records fault = (λ e. under.0 (forth (number_rows_in assets records) refl e), λ h. back (under.1 h))
+numbers-fault assets up records fault = (λ e. under.0 (made.0 e), λ h. made.1 (under.1 h))
   where
     under : (number_rows_in assets records ≡ Err fault) ↔ IsNumbersFault assets records fault
     under = under-fault header rules.BadHeader (IsNumber assets) (Told assets) (number_or_rule assets) (numbers_judged assets up) records fault
 
-    forth : (x : Result (List ColumnNumber) (Fault Rule)) → number_rows_in assets records ≡ x → (x >>= λ rows. Ok (table_of rows)) ≡ Err fault → number_rows_in assets records ≡ Err fault
-    forth (Ok rows) was e = absurd (let bad : Ok (table_of rows) ≡ Err fault = e in cc)
-    forth (Err f) was e = let same : f ≡ fault = cc in was ∙ ap Err same
-
-    back : number_rows_in assets records ≡ Err fault → (number_rows_in assets records >>= λ rows. Ok (table_of rows)) ≡ Err fault
-    back e = rw e refl
+    made : ((number_rows_in assets records >>= λ rows. Ok (table_of rows)) ≡ Err fault) ↔ (number_rows_in assets records ≡ Err fault)
+    made = made-fault table_of (number_rows_in assets records) fault

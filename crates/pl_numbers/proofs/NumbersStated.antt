@@ -1,10 +1,11 @@
 -- Records that state rows of which no two have one key say these rows.
-use Rattle.std.proofs.Common.{◌≡◌, ◌≢◌, ℕ, zero, suc, ◌+◌, ◌<◌, ◌≤◌, nat_le, Bool, true, false, true≢false, List, [], ◌∷◌, ◌++◌, length, length-append, append_assoc, drop, get_or, AllPairs, IfSome, OnSome, Option, option_map, Some, None, Ok, Err, refl, sym, ap, ◌∙◌, arith}
+use Rattle.std.proofs.Common.{◌≡◌, ◌≢◌, ℕ, zero, suc, ◌+◌, ◌<◌, ◌≤◌, nat_le, false, List, [], ◌∷◌, ◌++◌, length, length-append, append_assoc, drop, get_or, AllPairs, IfSome, OnSome, Option, option_map, Some, None, Ok, Err, refl, sym, ap, ◌∙◌, arith}
 use Rattle.std.specs.List.{list_any}
 use Rattle.std.specs.Option.{ok_or}
 use Rattle.std.proofs.lemmas.Bool.Decides.{nat_tests}
-use Rattle.std.proofs.lemmas.List.{append-nil, get_or-map, get_or_append_left, get_or_default, length-map}
+use Rattle.std.proofs.lemmas.List.{append-nil, get_or_append_left, get_or_default}
 use Rattle.std.proofs.lemmas.List.Folds.{list_any_none}
+use Rattle.std.proofs.Math.Seq.{get_or-append_seam}
 use Rattle.pl_records.specs.Reading.{Record, at_line, ◌>>=◌, rows_behind, rows_under}
 use Rattle.pl_records.specs.Sorted.{HasOwnKeys, sorted_by}
 use Rattle.pl_records.proofs.Readings.{rows-keep, under_ok}
@@ -14,16 +15,14 @@ use Rattle.pl_spec.proofs.Members.{contains-in}
 use Rattle.pl_spec.specs.Limits.{most_numbers}
 use Rattle.pl_spec.specs.Parts.{ColumnNumber}
 use Rattle.pl_spec.specs.declared.AssetRow.{AssetRow}
-use Rattle.pl_assets.specs.LabelPlaces.{key}
-use Rattle.pl_assets.proofs.FirstSeen.{one_place}
 use Rattle.pl_numbers.specs.Numbers.{BadField, BadHeader, header, col_in, in_column, is_from, number_in, number_rows_in, numbers_of, row_of, number_or_rule, table_of}
-use Rattle.pl_numbers.specs.NumberPlaces.{AreNumbered, AreStated, IsPlace, IsTableOf, key_of, row_at, shown_rows, states}
-use Rattle.pl_numbers.specs.declared.rows.Place.{Place}
+use Rattle.pl_numbers.specs.NumberPlaces.{AreNumbered, AreStated, IsTableOf, key_of, shown_rows, states}
 use Rattle.pl_numbers.specs.declared.rows.NumberRows.{NumberRows}
-use Rattle.pl_numbers.proofs.NumberKeys.{from_parts, parts_from}
+use Rattle.pl_assets.proofs.Dated.{flips}
+use Rattle.pl_numbers.proofs.NumberKeys.{numbers}
 use Rattle.pl_numbers.proofs.NumberRowsMade.{once_named}
 use Rattle.pl_numbers.proofs.NumbersRead.{AreRead-read}
-use Rattle.pl_numbers.proofs.NumberTables.{blank, cols_kept, table_kept, table_made}
+use Rattle.pl_numbers.proofs.NumberTables.{told_apart, cols_kept, table_kept, table_made}
 
 -- ---- rows with keys of their own
 
@@ -38,29 +37,12 @@ abbrev Apart : List ColumnNumber → Type 0
 Apart rows = AllPairs (λ r q. is_from r.name r.col r.known q ≡ false) rows
 
 apart : (t : NumberRows) → AreNumbered t → HasOwnKeys key_of t.places.items → Apart (shown_rows t)
-apart t h own i j d lt l =
-    let inside : j < length t.places.items = omega (arith, l, length-map t.places.items (row_at t.names)) in
-    let before : i < length t.places.items = omega arith in
-    rw (get_or-map (row_at t.names) t.places.items i blank d before, get_or-map (row_at t.names) t.places.items j blank d inside)
-    (here (get_or t.places.items i blank) (get_or t.places.items j blank) (h.places i blank before) (h.places j blank inside) (differ key_of t.places.items own i j blank lt inside) _ refl)
-  where
-    here : (p q : Place) → IsPlace t.names p → IsPlace t.names q → key_of p ≢ key_of q → (b : Bool) → is_from (row_at t.names p).name (row_at t.names p).col (row_at t.names p).known (row_at t.names q) ≡ b
-        → is_from (row_at t.names p).name (row_at t.names p).col (row_at t.names p).known (row_at t.names q) ≡ false
-    here p q hp hq ne false e = e
-    here p q hp hq ne true e =
-        let parts = from_parts (row_at t.names p).name (row_at t.names p).col (row_at t.names p).known (row_at t.names q) e in
-        let n : q.name ≡ p.name = one_place t.names q.name p.name (once_named t h) hq.name hp.name parts.0 in
-        let same : key_of q ≡ key_of p = ap (λ m. key m q.col q.known) n ∙ ap (λ c. key p.name c q.known) parts.1 ∙ ap (key p.name p.col) parts.2 in
-        absurd (ne (sym same))
+apart t h own = told_apart t (once_named t h) h.places (differ key_of t.places.items own)
 
 -- ---- a row with others before it
 
-at_end : (xs : List ColumnNumber) (r d : ColumnNumber) → get_or (xs ++ r ∷ []) (length xs) d ≡ r
-at_end [] r d = refl
-at_end (x ∷ xs) r d = at_end xs r d
-
 none_before : (before rest : List ColumnNumber) (row : ColumnNumber) → Apart ((before ++ row ∷ []) ++ rest) → list_any (is_from row.name row.col row.known) before ≡ false
-none_before before rest row parted = list_any_none (is_from row.name row.col row.known) before (λ i d l. back (get_or before i d) (at i d l) _ refl)
+none_before before rest row parted = list_any_none (is_from row.name row.col row.known) before (λ i d l. flips numbers row (get_or before i d) ∙ at i d l)
   where
     at : (i : ℕ) (d : ColumnNumber) → i < length before → is_from (get_or before i d).name (get_or before i d).col (get_or before i d).known row ≡ false
     at i d l =
@@ -69,16 +51,9 @@ none_before before rest row parted = list_any_none (is_from row.name row.col row
         let low : get_or ((before ++ row ∷ []) ++ rest) i d ≡ get_or before i d =
         get_or_append_left (before ++ row ∷ []) rest d i (omega arith) ∙ get_or_append_left before (row ∷ []) d i l in
         let high : get_or ((before ++ row ∷ []) ++ rest) (length before) d ≡ row =
-        get_or_append_left (before ++ row ∷ []) rest d (length before) (omega arith) ∙ at_end before row d in
+        get_or_append_left (before ++ row ∷ []) rest d (length before) (omega arith) ∙ get_or-append_seam before row [] d in
         let one = parted i (length before) d l (omega arith) in
         rw (low, high) at one
-
-    back : (q : ColumnNumber) → is_from q.name q.col q.known row ≡ false → (b : Bool) → is_from row.name row.col row.known q ≡ b → is_from row.name row.col row.known q ≡ false
-    back q f false e = e
-    back q f true e =
-        let p = from_parts row.name row.col row.known q e in
-        let t : is_from q.name q.col q.known row ≡ true = parts_from q.name q.col q.known row (sym p.0) (sym p.1) (sym p.2) in
-        absurd (true≢false (sym t ∙ f))
 
 -- ---- what is stated is said
 

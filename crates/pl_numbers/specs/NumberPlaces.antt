@@ -1,16 +1,17 @@
 -- Rows of numbers as they are kept: numbers for their names, by which they stand.
-use Rattle.std.specs.Prelude.{◌≡◌, ℕ, ◌^◌, ◌==◌, ◌<◌, ◌≤◌, nat_eq, nat_le, true, false, ℤ, List, [], ◌∷◌, ◌++◌, length, map, filter, slice_index_or, bytes_eq, All, AllPairs, Option, Some, None, option_map, Result, Ok, FitsSigned}
+use Rattle.std.specs.Prelude.{◌≡◌, ℕ, ◌^◌, ◌<◌, ◌≤◌, nat_le, true, false, ℤ, List, [], ◌∷◌, ◌++◌, length, map, filter, slice_index_or, bytes_eq, All, AllPairs, Option, Some, None, option_map, Result, Ok, FitsSigned}
 use Rattle.std.specs.Int.{w32}
 use Rattle.std.specs.Int.RustNames.{int_le}
-use Rattle.std.specs.List.{list_any, position_or_len}
+use Rattle.std.specs.List.{position_or_len}
 use Rattle.std.specs.Option.{ok_or}
 use Rattle.std.specs.List.Sorted.{IsPartitionPoint}
-use Rattle.std.specs.HashSet.{HashSet, contains}
+use Rattle.std.specs.HashSet.{HashSet}
 use Rattle.pl_spec.specs.Limits.{most_numbers}
 use Rattle.pl_spec.specs.Dates.{IsDay}
 use Rattle.pl_spec.specs.Numbers.{NumberRow, is_number_of, last_known}
 use Rattle.pl_spec.specs.Rounding.{IsCell}
 use Rattle.pl_records.specs.Reading.{Record, field, rows_under}
+use Rattle.pl_records.specs.Sorted.{AreKeys}
 use Rattle.pl_assets.specs.LabelPlaces.{key}
 use Rattle.pl_spec.specs.Parts.{ColumnNumber}
 use Rattle.pl_spec.specs.declared.AssetRow.{AssetRow}
@@ -67,14 +68,10 @@ AllLow places k n = (i : ℕ) (d : Place) → i < n → key_of (slice_index_or p
 abbrev pub AllBelow : List Place → ℕ → Type 0
 AllBelow places k = (i : ℕ) (d : Place) → i < length places → key_of (slice_index_or places i d) < k
 
--- the set has the keys of the rows
-pub record AreKeys {S : Type 0} (keys : HashSet ℕ S) (places : List Place) : Type 0 where
-  pub each : (k : ℕ) → contains nat_eq keys k ≡ list_any (λ p. key_of p == k) places
-
 -- the keys of the rows are known: they rise, or a set has them
 abbrev pub AreSeen : {S : Type 0} → Option (HashSet ℕ S) → List Place → Type 0
 AreSeen None places = Rise places
-AreSeen (Some keys) places = AreKeys keys places
+AreSeen (Some keys) places = AreKeys key_of keys places
 
 -- ---- the row of a record
 

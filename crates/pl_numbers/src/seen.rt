@@ -1,7 +1,8 @@
 //! Which keys the rows have that were read.
 ghost use Rattle.std.specs.Prelude.{◌≡◌, ◌==◌, ◌++◌, ◌∷◌, [], not, nat_lt, length, IfOk, IsTrue};
 ghost use Rattle.std.specs.List.{list_any};
-ghost use Rattle.pl_numbers.specs.NumberPlaces.{AllBelow, AreKeys, AreSeen, Rise, key_of};
+ghost use Rattle.pl_records.specs.Sorted.{AreKeys};
+ghost use Rattle.pl_numbers.specs.NumberPlaces.{AllBelow, AreSeen, Rise, key_of};
 
 use crate::rows::{Place, key_of};
 use std::alloc::{AllocError, Global};
@@ -62,7 +63,7 @@ pub(crate) fn is_below(place: &Place, key: u128) -> bool
 
 // The keys of the rows.
 fn keys_of(alloc: Global, places: &[Place]) -> Result<HashSet<u128>, AllocError>
-    ensures { IfOk result (λ keys. AreKeys keys places.now) }
+    ensures { IfOk result (λ keys. AreKeys key_of keys places.now) }
 {
     let mut keys = HashSet::new(alloc);
     for i in 0..places.len() {

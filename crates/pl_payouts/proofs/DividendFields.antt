@@ -1,10 +1,8 @@
 -- The fields of a record, in plain words.
-use Rattle.std.proofs.Common.{◌≡◌, ◌↔◌, ◌==◌, Bool, true, false, List, length, ℕ, Option, Some, None, option_map, option_and_then, Result, Ok, Err, refl, ap, ℤ, arith}
+use Rattle.std.proofs.Common.{◌≡◌, ◌↔◌, ◌==◌, List, length, ℕ, Some, None, Result, Ok, Err, refl, ap, ℤ, eq-eqb, eqb-true}
 use Rattle.std.specs.Result.{result_ok}
-use Rattle.std.specs.Bool.{if◌then◌else◌}
-use Rattle.std.proofs.lemmas.Bool.Decides.{nat_tests}
 use Rattle.pl_records.specs.Reading.{Record, field}
-use Rattle.pl_records.proofs.RuleTables.{and_then_some, map_some}
+use Rattle.pl_records.proofs.RuleTables.{when_some, and_then_some, map_some}
 use Rattle.pl_spec.specs.Dates.{date_in}
 use Rattle.pl_spec.specs.Decimals.{sid_in}
 use Rattle.pl_spec.proofs.DatesRead.{date_in-IsDate, IsDate-date_in}
@@ -26,34 +24,26 @@ IsAmountText-amount_in text v e = (read-value text v).0 (here (read text) e)
 amount_in-IsAmountText : (text : List ℕ) (v : ℤ) → IsAmountText text v → amount_in text ≡ Some v
 amount_in-IsAmountText text v h = ap result_ok ((read-value text v).1 h)
 
-fields_said : Record → Option Dividend
-fields_said r = option_and_then (λ sid. option_and_then (λ ex. option_map (λ amount. record { sid = sid; ex = ex; amount = amount }) (amount_in (field r 2))) (date_in (field r 1))) (sid_in (field r 0))
-
-pub IsDividendRecord-dividend_in : (r : Record) (d : Dividend) → dividend_in r ≡ Some d → IsDividendRecord r d
-unfolding dividend_in fields_said
-IsDividendRecord-dividend_in r d e = here (length r == 3) refl e
-  where
-    here : (b : Bool) → (length r == 3) ≡ b → (if b then fields_said r else None) ≡ Some d → IsDividendRecord r d
-    here false t e = absurd (let bad : None ≡ Some d = e in cc)
-    here true t e =
-        let s = and_then_some (sid_in (field r 0)) _ d e in
-        let x = and_then_some (date_in (field r 1)) _ d s.2 in
-        let a = map_some (amount_in (field r 2)) (λ amount. record { sid = s.0; ex = x.0; amount = amount }) d x.2 in
-        let n = decimal-sid_in (field r 0) s.0 s.1 in
-        rw (← a.2) record {
-          three = grind (arith, nat_tests);
-          small = n.0;
-          sid = n.1;
-          ex = IsDate-date_in (field r 1) x.0 x.1;
-          amount = IsAmountText-amount_in (field r 2) a.0 a.1;
-        }
+IsDividendRecord-dividend_in : (r : Record) (d : Dividend) → dividend_in r ≡ Some d → IsDividendRecord r d
+unfolding dividend_in
+IsDividendRecord-dividend_in r d e =
+    let it = when_some (length r == 3) _ d e in
+    let s = and_then_some (sid_in (field r 0)) _ d it.1 in
+    let x = and_then_some (date_in (field r 1)) _ d s.2 in
+    let a = map_some (amount_in (field r 2)) (λ amount. record { sid = s.0; ex = x.0; amount = amount }) d x.2 in
+    let n = decimal-sid_in (field r 0) s.0 s.1 in
+    rw (← a.2) record {
+      three = eqb-true (length r) 3 it.0;
+      small = n.0;
+      sid = n.1;
+      ex = IsDate-date_in (field r 1) x.0 x.1;
+      amount = IsAmountText-amount_in (field r 2) a.0 a.1;
+    }
 
 dividend_in-IsDividendRecord : (r : Record) (d : Dividend) → IsDividendRecord r d → dividend_in r ≡ Some d
 unfolding dividend_in
 dividend_in-IsDividendRecord r d h =
-    let three : length r ≡ 3 = h.three in
-    let t : (length r == 3) ≡ true = grind (arith, nat_tests) in
-    rw (t, sid_in-decimal (field r 0) d.sid h.small h.sid, date_in-IsDate (field r 1) d.ex h.ex, amount_in-IsAmountText (field r 2) d.amount h.amount) refl
+    rw (eq-eqb (length r) 3 h.three, sid_in-decimal (field r 0) d.sid h.small h.sid, date_in-IsDate (field r 1) d.ex h.ex, amount_in-IsAmountText (field r 2) d.amount h.amount) refl
 
 pub dividend_form : (r : Record) (d : Dividend) → (dividend_in r ≡ Some d) ↔ IsDividendRecord r d
 dividend_form r d = (IsDividendRecord-dividend_in r d, dividend_in-IsDividendRecord r d)

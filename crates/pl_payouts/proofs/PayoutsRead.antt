@@ -1,5 +1,5 @@
 -- Payouts that are read: what is kept of all rows, and what a file says, in plain words.
-use Rattle.std.proofs.Common.{◌≡◌, ◌↔◌, ℕ, ◌<◌, ◌≤◌, ◌==◌, nat_le, not, true, false, List, [], ◌∷◌, ◌++◌, length, length-append, Option, Some, None, position, Ok, Err, refl, ℤ, pos, ◌<ℤ◌, ◌≤ℤ◌, arith, inr}
+use Rattle.std.proofs.Common.{◌≡◌, ◌↔◌, ◌≤◌, not, true, false, List, [], ◌∷◌, ◌++◌, Some, Ok, Err, ℤ, pos, ◌<ℤ◌, ◌≤ℤ◌, arith, inr}
 use Rattle.std.specs.Int.RustNames.{int_lt}
 use Rattle.std.specs.Bool.{Decides}
 use Rattle.std.specs.Option.{ok_or}
@@ -7,14 +7,14 @@ use Rattle.std.proofs.lemmas.Int.{ints}
 use Rattle.std.proofs.lemmas.Bool.Decides.{nat_tests}
 use Rattle.std.proofs.lemmas.List.Elements.{All-push}
 use Rattle.pl_records.specs.Reading.{Record, Fault, field, Judges}
-use Rattle.pl_records.specs.RuleTable.{IsFirstBroken, lacks}
-use Rattle.pl_records.proofs.Readings.{rows-keep, under_ok, under-are, under-fault}
+use Rattle.pl_records.specs.RuleTable.{IsFirstBroken}
+use Rattle.pl_records.proofs.Readings.{few-more, rows-keep, under_ok, under-are, under-fault}
 use Rattle.pl_records.proofs.RuleTables.{told_ok, ok_or-Ok, lacks-tells, has-tells, Judges-table}
 use Rattle.pl_spec.specs.declared.AssetRow.{AssetRow}
 use Rattle.pl_spec.proofs.DatesWritten.{IsDay-IsDate}
-use Rattle.pl_lifetimes.specs.Assets.{AreAssets, sid_of}
+use Rattle.pl_lifetimes.specs.Assets.{AreAssets}
 use Rattle.pl_lifetimes.specs.Assets.{HasSid}
-use Rattle.pl_lifetimes.proofs.SidColumns.{sid_form}
+use Rattle.pl_lifetimes.proofs.SidColumns.{sid_form, sid_known}
 use Rattle.pl_payouts.specs.declared.reading.Dividend.{Dividend}
 use Rattle.pl_spec.specs.Limits.{most_payouts}
 use Rattle.pl_payouts.specs.Payouts.{Rule, breaks, col_in, dividend_in, header, is_above_0, dividend_or_rule, payouts_of, ArePayouts, AreKnown, IsPaid}
@@ -62,9 +62,6 @@ module _ (assets : List AssetRow) (up : AreAssets assets) where
 abbrev Kept : List AssetRow → List Dividend → Type 0
 Kept assets rows = ArePayouts rows × AreKnown assets rows
 
-few_more : (before : List Dividend) (d : Dividend) → nat_le most_payouts (length before) ≡ false → length (before ++ d ∷ []) ≤ most_payouts
-few_more before d n = let small : length before < most_payouts = grind (arith, nat_tests) in omega (arith, length-append before (d ∷ []))
-
 paid : (r : Record) (d : Dividend) → dividend_in r ≡ Some d → not (is_above_0 d.amount) ≡ false → IsPaid d.ex d.amount
 paid r d e t =
     let it = (dividend_form r d).0 e in
@@ -73,20 +70,13 @@ paid r d e t =
     above : (v : ℤ) → not (int_lt (pos 0) v) ≡ false → pos 0 <ℤ v
     above v t = grind (arith, ints)
 
-known : (assets : List AssetRow) → AreAssets assets → (sid : ℕ) → lacks (position (λ a. sid_of a == sid) assets) ≡ false → IsKnown assets sid
-known assets up sid t = here (position (λ a. sid_of a == sid) assets) refl t
-  where
-    here : (o : Option ℕ) → position (λ a. sid_of a == sid) assets ≡ o → lacks o ≡ false → IsKnown assets sid
-    here None e t = absurd (let bad : true ≡ false = t in cc)
-    here (Some col) e t = (col, (sid_form assets up sid col).0 e)
-
 kept-more : (assets : List AssetRow) → AreAssets assets → (before : List Dividend) (r : Record) (d : Dividend) → Kept assets before → dividend_or_rule assets before r ≡ Ok d → Kept assets (before ++ d ∷ [])
 unfolding dividend_or_rule
 kept-more assets up before r d h s =
     let k = told_ok rules.rules (breaks assets before r) (ok_or (dividend_in r) rules.BadField) d s in
     let at : dividend_in r ≡ Some d = ok_or-Ok (dividend_in r) rules.BadField d k.1 in (
-      record { few = few_more before d k.0.0; paid = All-push (λ (x : Dividend). IsPaid x.ex x.amount) before d h.0.paid (paid r d at (rw at at k.0.1.1.1.0)) },
-      All-push (λ (x : Dividend). IsKnown assets x.sid) before d h.1 (known assets up d.sid (rw at at k.0.1.1.0)),
+      record { few = few-more most_payouts before d k.0.0; paid = All-push (λ (x : Dividend). IsPaid x.ex x.amount) before d h.0.paid (paid r d at (rw at at k.0.1.1.1.0)) },
+      All-push (λ (x : Dividend). IsKnown assets x.sid) before d h.1 (sid_known assets up d.sid (rw at at k.0.1.1.0)),
     )
 
 kept-none : (assets : List AssetRow) → Kept assets []

@@ -1,19 +1,32 @@
 -- Rows that are read are those of the records, and the fault is the first.
-use Rattle.std.proofs.Common.{◌≡◌, ◌≢◌, Bool, true, false, bytes_eq, ℕ, zero, suc, ◌+◌, ◌<◌, ◌≤◌, ◌↔◌, List, [], ◌∷◌, ◌++◌, length, take, drop, Option, Some, None, IfSome, Result, Ok, Err, refl, sym, ◌∙◌, ap, arith, append_assoc, length-append, inl, inr, add-one}
+use Rattle.std.proofs.Common.{◌≡◌, ◌≢◌, Bool, true, false, bytes_eq, ℕ, zero, suc, ◌+◌, ◌<◌, ◌≤◌, ◌↔◌, nat_le, List, [], ◌∷◌, ◌++◌, length, take, drop, Option, Some, None, IfSome, Result, Ok, Err, refl, sym, ◌∙◌, ap, arith, append_assoc, length-append, inl, inr, add-one}
 use Rattle.std.specs.List.{slice_get}
 use Rattle.std.specs.Bool.{Decides, if◌then◌else◌}
 use Rattle.std.proofs.lemmas.Slice.Eq.{bytes_eq-Decides}
 use lib.Pointwise.{pointwise, pointwise_decides}
 use Rattle.std.proofs.lemmas.Bool.{cases_lt}
+use Rattle.std.proofs.lemmas.Bool.Decides.{nat_tests}
 use Rattle.std.proofs.lemmas.List.{take-append-le, append-nil, take_all}
 use Rattle.std.proofs.lemmas.Option.{slice_get_within}
 use Rattle.std.proofs.Math.Seq.{take-append_seam}
+use Rattle.pl_records.proofs.RuleTables.{not_true}
 use Rattle.pl_records.specs.Reading.{rows_under, has_header, Record, field, Fault, ◌>>=◌, at_line, rows_behind, rows_of, AreRows, IsFirstFault, Judges, AreRowsUnder, IsFaultUnder}
 
 pub rows-stop : {Row R : Type 0} (first : ℕ) (says : List Row → Record → Result Row R) (before : List Row) (r : Record) (rs : List Record) (rule : R)
     → says before r ≡ Err rule → rows_behind first says before (r ∷ rs) ≡ Err (record { rule = rule; line = first + length before })
 unfolding rows_behind
 rows-stop first says before r rs rule e = rw e refl
+
+-- rows that are read begin with that of the first record
+pub went_on : {Row R : Type 0} (first : ℕ) (says : List Row → Record → Result Row R) (before : List Row) (r : Record) (rs : List Record) (rows : List Row) → rows_behind first says before (r ∷ rs) ≡ Ok rows
+    → (row : Row) × (says before r ≡ Ok row) × (rows_behind first says (before ++ row ∷ []) rs ≡ Ok rows)
+unfolding rows_behind
+went_on {Row} {R} first says before r rs rows e = here (says before r) refl e
+  where
+    here : (x : Result Row R) → says before r ≡ x → (at_line (first + length before) x >>= λ row. rows_behind first says (before ++ row ∷ []) rs) ≡ Ok rows
+        → (row : Row) × (says before r ≡ Ok row) × (rows_behind first says (before ++ row ∷ []) rs ≡ Ok rows)
+    here (Ok row) was f = (row, was, f)
+    here (Err rule) was f = absurd (cc)
 
 -- what holds of no rows, and of each row after rows of which it holds, holds of the rows that are read
 pub rows-keep : {Row R : Type 0} (P : List Row → Type 0) (first : ℕ) (says : List Row → Record → Result Row R)
@@ -22,13 +35,9 @@ pub rows-keep : {Row R : Type 0} (P : List Row → Type 0) (first : ℕ) (says :
 unfolding rows_behind
 rows-keep P first says step [] before rows p e =
     let same : before ≡ rows = cc in rw (← same) p
-rows-keep {Row} {R} P first says step (r ∷ rs) before rows p e =
-    here (says before r) refl (λ row q. rows-keep P first says step rs (before ++ row ∷ []) rows q) e
-  where
-    here : (x : Result Row R) → says before r ≡ x → ((row : Row) → P (before ++ row ∷ []) → rows_behind first says (before ++ row ∷ []) rs ≡ Ok rows → P rows)
-        → (at_line (first + length before) x >>= λ row. rows_behind first says (before ++ row ∷ []) rs) ≡ Ok rows → P rows
-    here (Ok row) was more e = more row (step before r row p was) e
-    here (Err rule) was more e = absurd (cc)
+rows-keep P first says step (r ∷ rs) before rows p e =
+    let it = went_on first says before r rs rows e in
+    rows-keep P first says step rs (before ++ it.0 ∷ []) rows (step before r it.0 p it.1) it.2
 
 -- ---- places in lists
 
@@ -88,14 +97,9 @@ reads : {Row R : Type 0} (first : ℕ) (says : List Row → Record → Result Ro
 unfolding rows_behind
 reads first says [] done before rows h e =
     let same : before ≡ rows = cc in rw (append-nil done, ← same) h
-reads {Row} {R} first says (r ∷ rs) done before rows h e =
-    here (says before r) refl (λ row. reads first says rs (done ++ r ∷ []) (before ++ row ∷ []) rows) e
-  where
-    here : (x : Result Row R) → says before r ≡ x
-        → ((row : Row) → AreRows (Says says) (done ++ r ∷ []) (before ++ row ∷ []) → rows_behind first says (before ++ row ∷ []) rs ≡ Ok rows → AreRows (Says says) ((done ++ r ∷ []) ++ rs) rows)
-        → (at_line (first + length before) x >>= λ row. rows_behind first says (before ++ row ∷ []) rs) ≡ Ok rows → AreRows (Says says) (done ++ r ∷ rs) rows
-    here (Ok row) was more e = rw append_assoc at (more row (AreRows-more says done before r row h was) e)
-    here (Err rule) was more e = absurd (cc)
+reads first says (r ∷ rs) done before rows h e =
+    let it = went_on first says before r rs rows e in
+    rw append_assoc at (reads first says rs (done ++ r ∷ []) (before ++ it.0 ∷ []) rows (AreRows-more says done before r it.0 h it.1) it.2)
 
 fails : {Row R : Type 0} (first : ℕ) (says : List Row → Record → Result Row R) (rest done : List Record) (before : List Row) (fault : Fault R)
     → AreRows (Says says) done before → rows_behind first says before rest ≡ Err fault → IsFirstFault first (Says says) (Names says) (done ++ rest) fault
@@ -138,15 +142,9 @@ rows-append : {Row R : Type 0} (first : ℕ) (says : List Row → Record → Res
     → rows_behind first says before xs ≡ Ok rows → rows_behind first says before (xs ++ ys) ≡ rows_behind first says rows ys
 unfolding rows_behind
 rows-append first says [] ys before rows e = let same : before ≡ rows = cc in ap (λ b. rows_behind first says b ys) same
-rows-append {Row} {R} first says (r ∷ rs) ys before rows e =
-    here (says before r) (λ row. rows-append first says rs ys (before ++ row ∷ []) rows) e
-  where
-    here : (x : Result Row R)
-        → ((row : Row) → rows_behind first says (before ++ row ∷ []) rs ≡ Ok rows → rows_behind first says (before ++ row ∷ []) (rs ++ ys) ≡ rows_behind first says rows ys)
-        → (at_line (first + length before) x >>= λ row. rows_behind first says (before ++ row ∷ []) rs) ≡ Ok rows
-        → (at_line (first + length before) x >>= λ row. rows_behind first says (before ++ row ∷ []) (rs ++ ys)) ≡ rows_behind first says rows ys
-    here (Ok row) more e = more row e
-    here (Err rule) more e = absurd (cc)
+rows-append first says (r ∷ rs) ys before rows e =
+    let it = went_on first says before r rs rows e in
+    rw it.1 (rows-append first says rs ys (before ++ it.0 ∷ []) rows it.2)
 
 said_rows : {Row R : Type 0} (first : ℕ) (says : List Row → Record → Result Row R) (records : List Record) (rows : List Row)
     → (rows_of first says records ≡ Ok rows) ↔ AreRows (Says says) records rows
@@ -230,10 +228,6 @@ same_record-true r names n h = sym ((same_record r names).1 (record_from_fields 
 
 pub same_record-false : (r names : Record) → (r ≡ names → ⊥) → false ≡ pointwise bytes_eq r names
 same_record-false r names h = sym (not_true _ (λ e. h ((same_record r names).0 e)))
-  where
-    not_true : (b : Bool) → (b ≡ true → ⊥) → b ≡ false
-    not_true true f = absurd (f refl)
-    not_true false f = refl
 
 -- ---- for a loop that reads a record at a time: all is the reading of all records
 
@@ -267,6 +261,20 @@ under_ok {Row} {R} names bad says records rows e = here (has_header names record
         → (has_header names records ≡ true) × (rows_of 2 says (drop 1 records) ≡ Ok rows)
     here true t e = (t, e)
     here false t e = absurd (cc)
+
+-- one row more, where there is room
+pub few-more : {Row : Type 0} (most : ℕ) (before : List Row) (row : Row) → nat_le most (length before) ≡ false → length (before ++ row ∷ []) ≤ most
+few-more most before row t = let small : length before < most = grind (arith, nat_tests) in omega (arith, length-append before (row ∷ []))
+
+-- ---- what is made of rows that are read
+
+pub made-of : {A B E : Type 0} (f : A → B) (reading : Result A E) (y : B) → (reading >>= λ x. Ok (f x)) ≡ Ok y → (x : A) × (reading ≡ Ok x) × (f x ≡ y)
+made-of f (Ok x) y e = (x, refl, (let same : Ok (f x) ≡ Ok y = e in cc))
+made-of f (Err g) y e = absurd (let bad : Err g ≡ Ok y = e in cc)
+
+pub made-fault : {A B E : Type 0} (f : A → B) (reading : Result A E) (g : E) → ((reading >>= λ x. Ok (f x)) ≡ Err g) ↔ (reading ≡ Err g)
+made-fault f (Ok x) g = (λ e. absurd (let bad : Ok (f x) ≡ Err g = e in cc), λ e. absurd (let bad : Ok x ≡ Err g = e in cc))
+made-fault f (Err h) g = (λ e. (let same : Err h ≡ Err g = e in let it : h ≡ g = cc in ap Err it), λ e. (let same : Err h ≡ Err g = e in let it : h ≡ g = cc in ap Err it))
 
 -- ---- the exits of a judgement
 

@@ -1,10 +1,17 @@
 -- A judgement by a table of rules names the first rule that is broken.
-use Rattle.std.proofs.Common.{◌≡◌, ◌↔◌, if◌then◌else◌, Bool, true, false, List, [], ◌∷◌, Option, Some, None, option_map, option_and_then, Result, Ok, Err, refl, sym, ◌∙◌, ap, inl, inr, ◌⊎◌}
+use Rattle.std.proofs.Common.{◌≡◌, ◌↔◌, if◌then◌else◌, Bool, true, false, List, [], ◌∷◌, Option, Some, None, option_map, option_and_then, Any, Result, Ok, Err, refl, sym, ◌∙◌, ap, inl, inr, ◌⊎◌}
 use Rattle.std.specs.Prelude.{⊤}
 use Rattle.std.specs.Bool.{Decides}
+use Rattle.std.specs.List.{list_any}
 use Rattle.std.specs.Option.{ok_or}
+use Rattle.std.proofs.lemmas.List.Folds.{Any-from_list_any, list_any-from_Any}
 use Rattle.pl_records.specs.Reading.{Record, Judges}
 use Rattle.pl_records.specs.RuleTable.{first_broken, IsFirstBroken, KeepsAll, lacks, has}
+
+-- a test that cannot pass fails
+pub not_true : (b : Bool) → (b ≡ true → ⊥) → b ≡ false
+not_true true f = absurd (f refl)
+not_true false f = refl
 
 module _ {R : Type 0} (broken : R → Bool) (Breaks : R → Type 0) (tells : (q : R) → Decides (broken q) (Breaks q)) where
   not_both : (b : Bool) → b ≡ true → b ≡ false → ⊥
@@ -14,11 +21,7 @@ module _ {R : Type 0} (broken : R → Bool) (Breaks : R → Type 0) (tells : (q 
   kept q f b = not_both (broken q) ((tells q).1 b) f
 
   kept-false : (q : R) → ¬ Breaks q → broken q ≡ false
-  kept-false q keeps = here (broken q) refl
-    where
-      here : (b : Bool) → broken q ≡ b → broken q ≡ false
-      here true t = absurd (keeps ((tells q).0 t))
-      here false t = t
+  kept-false q keeps = not_true (broken q) (λ t. keeps ((tells q).0 t))
 
   pub all-kept : {A : Type 0} (rules : List R) (right : Result A R) → KeepsAll rules Breaks → first_broken rules broken right ≡ right
   all-kept [] right k = refl
@@ -58,6 +61,10 @@ told_ok {A} {R} (q ∷ qs) broken right x e = here (broken q) refl (told_ok qs b
     here true t more e = absurd (let bad : Err q ≡ Ok x = e in cc)
     here false t more e = let it = more e in ((t, it.0), it.1)
 
+pub none-broken : {A R : Type 0} (rules : List R) (broken : R → Bool) (right : Result A R) → NoneFound rules broken → first_broken rules broken right ≡ right
+none-broken [] broken right h = refl
+none-broken (q ∷ qs) broken right h = rw h.0 (none-broken qs broken right h.1)
+
 pub ok_or-Ok : {A R : Type 0} (o : Option A) (bad : R) (x : A) → ok_or o bad ≡ Ok x → o ≡ Some x
 ok_or-Ok None bad x e = absurd (let other : Err bad ≡ Ok x = e in cc)
 ok_or-Ok (Some y) bad x e = let same : Ok y ≡ Ok x = e in let s : y ≡ x = cc in ap (λ z. Some z) s
@@ -72,6 +79,23 @@ and_then_some (Some x) f y e = (x, refl, e)
 pub map_some : {A B : Type 0} (o : Option A) (f : A → B) (y : B) → option_map f o ≡ Some y → (x : A) × (o ≡ Some x) × (f x ≡ y)
 map_some None f y e = absurd (let bad : None ≡ Some y = e in cc)
 map_some (Some x) f y e = (x, refl, (let same : Some (f x) ≡ Some y = e in cc))
+
+-- one that is there where a test holds
+pub when_some : {A : Type 0} (b : Bool) (o : Option A) (x : A) → (if b then o else None) ≡ Some x → (b ≡ true) × (o ≡ Some x)
+when_some true o x e = (refl, e)
+when_some false o x e = absurd (let bad : None ≡ Some x = e in cc)
+
+-- one that is not lacking
+pub lacks-none : {A : Type 0} (o : Option A) → lacks o ≡ false → (x : A) × (o ≡ Some x)
+lacks-none None e = absurd (let bad : true ≡ false = e in cc)
+lacks-none (Some x) e = (x, refl)
+
+-- one of them that a test finds
+pub any-tells : {A : Type 0} (test : A → Bool) (P : A → Type 0) → ((x : A) → Decides (test x) (P x)) → (xs : List A) → Decides (list_any test xs) (Any P xs)
+any-tells test P decides xs = (
+  λ e. (let it = Any-from_list_any test xs e in (it.0, it.1, it.2, it.3, (decides it.1).0 it.4)),
+  λ any. list_any-from_Any test xs (any.0, any.1, any.2, any.3, (decides any.1).1 any.4),
+)
 
 module _ {X Y : Type 0} (form : X → Option Y) (Is : X → Y → Type 0) (tells : (x : X) (y : Y) → (form x ≡ Some y) ↔ Is x y) where
   -- there is none

@@ -5,9 +5,10 @@ ghost use Rattle.std.specs.List.{list_any};
 ghost use Rattle.pl_spec.specs.Limits.{most_labels};
 ghost use Rattle.pl_records.specs.Reading.{Answers, at_line, field, rows_of};
 ghost use Rattle.pl_records.specs.Records.{csv_records};
+ghost use Rattle.pl_records.specs.Sorted.{AreKeys};
 ghost use Rattle.pl_assets.specs.Labels.{is_from, is_printable, label_in, label_rows_in, label_or_rule, texts_of};
 ghost use Rattle.pl_assets.specs.LabelFaults.{fault_of};
-ghost use Rattle.pl_assets.specs.LabelPlaces.{AreKeys, AreNumbered, shown_rows};
+ghost use Rattle.pl_assets.specs.LabelPlaces.{AreNumbered, key_of, shown_rows};
 ghost use Rattle.pl_assets.specs.LabelStarts.{label_from, row_from};
 
 use crate::labels::error::LabelsError;
@@ -66,7 +67,7 @@ fn put_rows(
     requires none { shown_rows rows.old ≡ [] }
     requires numbered { AreNumbered rows.old }
     requires texts { rows.old.texts ≡ texts_of (shown_rows rows.old) }
-    requires keys { AreKeys keys.old rows.old.places.items }
+    requires keys { AreKeys key_of keys.old rows.old.places.items }
     ensures exact { Answers (λ u. shown_rows rows.new) fault_of result
         (rows_of 2 (label_or_rule assets.now) records.old.left) }
     ensures numbered { OnOk result (AreNumbered rows.new) }
@@ -98,7 +99,7 @@ fn next_start(
 ) -> Result<ColumnStart, LabelsError>
     requires numbered { AreNumbered before.now }
     requires few { length (shown_rows before.now) ≤ most_labels }
-    requires keys { AreKeys keys.now before.now.places.items }
+    requires keys { AreKeys key_of keys.now before.now.places.items }
     ensures room { OnOk result (length (shown_rows before.now) < most_labels) }
     ensures four { OnOk result (length row.now.fields ≡ 4) }
     ensures exact { Answers (row_from row.now.fields) fault_of result
@@ -131,7 +132,7 @@ fn next_start(
 fn is_known(rows: &LabelRows, keys: &HashSet<u128>, name: &[u8], col: usize, day: i32) -> bool
     requires numbered { AreNumbered rows.now }
     requires few { length (shown_rows rows.now) ≤ most_labels }
-    requires keys { AreKeys keys.now rows.now.places.items }
+    requires keys { AreKeys key_of keys.now rows.now.places.items }
     ensures { result ≡ list_any (is_from name.now col day) (shown_rows rows.now) }
 {
     match rows.names.number_of(name) {

@@ -1,5 +1,5 @@
 use Rattle.std.proofs.Common.{ap, sym, ◌∙◌, Some, arith}
-use Rattle.pl_bars.proofs.FirstPlaces.{sid_first}
+use Rattle.pl_lifetimes.proofs.SidColumns.{sid_first}
 use Rattle.pl_bars.proofs.places.col_of.Goals as goal
 
 pub returns-then-sid-clause-exact : goal.returns-then-sid-clause-exact

@@ -1,5 +1,6 @@
-use Rattle.pl_bars.proofs.BarOrder.{rise_sorted}
+use Rattle.pl_records.proofs.Sorts.{rise-sorted}
+use Rattle.pl_bars.specs.Bars.{key_of}
 use Rattle.pl_bars.proofs.reading.ordered.Goals as goal
 
 pub returns-then-rise : goal.returns-then-rise
-returns-then-rise c = rise_sorted c.args.read.rows.items c.requires (c.args.read.rises c.if-rise.true)
+returns-then-rise c = rise-sorted key_of c.args.read.rows.items c.requires (c.args.read.rises c.if-rise.true)

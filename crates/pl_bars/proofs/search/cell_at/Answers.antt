@@ -12,8 +12,8 @@ returns-in-Some c =
     let row = get_or c.args.rows.now c.in-Some.i blank in
     let fits : FitsSigned w64 (get_or row.cells c.place_of.result (pos 0)) = search rules in
     let value = to_z-of_z w64 _ fits ∙ ap (λ k. get_or row.cells k (pos 0)) c.place_of.ensures.value
-    ∙ cell_found c.args.rows.now c.args.col c.args.session c.args.column c.in-Some.i blank (sym (sym c.row_of.ensures ∙ c.in-Some.is)) in
+    ∙ cell_found c.args.rows.now c.args.col c.args.session c.args.column c.in-Some.i blank (sym (sym c.row_onward.ensures ∙ c.in-Some.is)) in
     record { value = value; cell = rw value (cell_at-IsCell c.args.rows.now c.args.col c.args.column c.args.session c.requires) }
 
 pub returns-in-None-clause-value : goal.returns-in-None-clause-value
-returns-in-None-clause-value c = cell_none c.args.rows.now c.args.col c.args.session c.args.column (sym (sym c.row_of.ensures ∙ c.in-None.is))
+returns-in-None-clause-value c = cell_none c.args.rows.now c.args.col c.args.session c.args.column (sym (sym c.row_onward.ensures ∙ c.in-None.is))

@@ -1,23 +1,14 @@
-use Rattle.std.proofs.Common.{rules, ◌≡◌, ◌==◌, ◌∙◌, ℕ, ◌<◌, List, [], length, Option, Some, None, position, option_map, unwrap_or, sym, ap, refl, FitsSigned, w32, w64}
-use Rattle.std.specs.List.{slice_get}
-use Rattle.std.proofs.lemmas.Option.{slice_get_within}
+use Rattle.std.proofs.Common.{rules, ◌≡◌, ◌==◌, ◌∙◌, ℕ, ◌<◌, [], length, Option, Some, position, option_map, unwrap_or, sym, ap, refl, FitsSigned, w32, w64}
+use Rattle.std.proofs.lemmas.List.Quantifiers.{position-Some}
 use Rattle.std.proofs.lemmas.Int.{to_z-of_z}
 use Rattle.pl_spec.specs.Parts.{sid_at}
+use Rattle.pl_spec.proofs.Columns.{no_asset}
 use Rattle.pl_spec.specs.declared.Column.TheVariants.{Close}
-use Rattle.pl_spec.specs.declared.AssetRow.{AssetRow}
 use Rattle.pl_lifetimes.specs.Assets.{sid_of}
-use Rattle.pl_lifetimes.specs.Assets.{HasSid}
 use Rattle.pl_lifetimes.proofs.SidColumns.{sid_form}
 use Rattle.pl_bars.proofs.BarWorlds.{cells_raw}
 use Rattle.pl_payouts.specs.Ratios.{close_before, raw_close}
 use Rattle.pl_payouts.proofs.ratio.close_before.Goals as goal
-
-slice_within : (assets : List AssetRow) (col sid : ℕ) → HasSid assets col sid → col < length assets
-slice_within assets col sid h = here (slice_get assets col) refl h
-  where
-    here : (o : Option AssetRow) → slice_get assets col ≡ o → option_map sid_of o ≡ Some sid → col < length assets
-    here None e t = absurd (let bad : None ≡ Some sid = t in cc)
-    here (Some a) e t = slice_get_within assets col a e
 
 pub returns-in_err-session-clause-exact : goal.returns-in_err-session-clause-exact
 unfolding close_before
@@ -43,7 +34,7 @@ returns-clause-exact c =
     let found : position (λ a. sid_of a == sid) assets ≡ Some col = sym c.col_of.ensures.exact ∙ c.unwrap-col.ensures in
     let has = (sid_form assets c.len-assets.ensures.assets sid col).0 found in
     let its_sid : sid_at assets col ≡ sid = ap (λ (o : Option ℕ). unwrap_or o 0) has in
-    let inside : col < length assets = slice_within assets col sid has in
+    let inside : col < length assets = (position-Some (λ a. sid_of a == sid) assets col no_asset found).0 in
     let raw = cells_raw days assets [] [] bars [] [] c.len-assets.ensures.assets.ascend c.requires.cols col Close c.in_ok-session.session inside in
     ap (λ x. Some x) (to_z-of_z w64 c.get.result cell ∙ c.get.ensures.value ∙ raw ∙ ap (λ s. raw_close days assets bars s c.in_ok-session.session) its_sid)
     ∙ ap (option_map (raw_close days assets bars sid)) (sym c.in_ok-session.was ∙ last)

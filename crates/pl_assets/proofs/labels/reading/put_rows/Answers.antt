@@ -3,12 +3,12 @@ use Rattle.std.proofs.lemmas.Int.{to_z-of_z}
 use Rattle.std.proofs.lemmas.Result.{err_from_is_err_and}
 use Rattle.pl_records.specs.Reading.{rows_of}
 use Rattle.pl_records.proofs.Readings.{goes_on, stops, is_done}
+use Rattle.pl_records.proofs.Sorts.{AreKeys-more}
 use Rattle.pl_spec.specs.Limits.{most_labels}
 use Rattle.pl_assets.specs.Labels.{label_or_rule}
 use Rattle.pl_assets.specs.LabelFaults.{fault_of}
-use Rattle.pl_assets.specs.LabelPlaces.{shown_rows}
+use Rattle.pl_assets.specs.LabelPlaces.{key_of, shown_rows}
 use Rattle.pl_assets.specs.LabelStarts.{row_from}
-use Rattle.pl_assets.proofs.LabelKeys.{AreKeys-more}
 use Rattle.pl_assets.proofs.FirstSeen.{texts_next}
 use Rattle.pl_assets.proofs.labels.reading.put_rows.Goals as goal
 
@@ -40,7 +40,7 @@ rows-preserved c =
       numbered = c.in_ok-place.ensures.numbered;
       texts = texts_next c.rows.rows.texts c.push.new.self.texts (shown_rows c.rows.rows) (shown_rows c.push.new.self) (row_from c.next.new.self.fields c.in_ok-start.start)
           c.rows.invariant.texts row (rw c.field-in-rows.ensures at c.in_ok-place.ensures.texts);
-      keys = rw c.in_ok-place.ensures.place (AreKeys-more c.rows.keys c.insert.new.self c.rows.rows.places.items c.in_ok-place.place c.key_of.result c.key_of.ensures c.rows.invariant.keys c.in_ok-insert.ensures.updates.0);
+      keys = rw c.in_ok-place.ensures.place (AreKeys-more key_of c.rows.keys c.insert.new.self c.rows.rows.places.items c.in_ok-place.place c.key_of.result c.key_of.ensures c.rows.invariant.keys c.in_ok-insert.ensures.updates.0);
     }
 
 pub returns-clause-exact : goal.returns-clause-exact

@@ -1,8 +1,9 @@
 use Rattle.std.proofs.Common.{◌≡◌, ◌≤◌, length}
 use Rattle.pl_records.specs.Reading.{rows_of, rows_behind}
+use Rattle.pl_records.specs.Sorted.{AreKeys}
 use Rattle.pl_spec.specs.Limits.{most_labels}
 use Rattle.pl_assets.specs.Labels.{label_or_rule, texts_of}
-use Rattle.pl_assets.specs.LabelPlaces.{AreKeys, AreNumbered, shown_rows}
+use Rattle.pl_assets.specs.LabelPlaces.{AreNumbered, key_of, shown_rows}
 use Rattle.pl_assets.proofs.labels.reading.put_rows.Given as goal
 
 abbrev pub invariant-rows : goal.invariant-rows
@@ -11,7 +12,7 @@ invariant-rows l = record {
   few : length (shown_rows l.rows) ≤ most_labels;
   numbered : AreNumbered l.rows;
   texts : l.rows.texts ≡ texts_of (shown_rows l.rows);
-  keys : AreKeys l.keys l.rows.places.items;
+  keys : AreKeys key_of l.keys l.rows.places.items;
 }
 
 abbrev pub decreases-rows : goal.decreases-rows

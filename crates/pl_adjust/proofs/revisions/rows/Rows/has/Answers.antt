@@ -10,6 +10,6 @@ pub returns : goal.returns
 returns c =
     c.contains.ensures
     ∙ ap (contains nat_eq c.self.inside.keys) c.key_of.ensures.key
-    ∙ c.self.invariant.each (key_of c.args.row.now)
+    ∙ c.self.invariant.each.each (key_of c.args.row.now)
     ∙ found_by_key c.self.inside.list.items c.args.row.now c.self.invariant.days c.key_of.ensures.days
     ∙ ap (list_any (is_same c.args.row.now)) c.self.view_is
