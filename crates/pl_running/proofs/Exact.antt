@@ -1,10 +1,14 @@
 -- Values from kept sums: what is computed in 128 bits is exact.
-use Rattle.std.proofs.Common.{◌≡◌, ◌≢◌, ◌≤◌, ◌*◌, ◌^◌, ℤ, pos, negsuc, ◌+ℤ◌, ◌-ℤ◌, ◌*ℤ◌, unsigned_abs, FitsSigned, w64, to_z, of_z, ap, ap₂, arith, sym, ◌∙◌}
+use Rattle.std.proofs.Common.{List, length, true, false, ◌≡◌, ◌≢◌, ◌≤◌, ◌*◌, ◌^◌, ℤ, pos, negsuc, ◌+ℤ◌, ◌-ℤ◌, ◌*ℤ◌, unsigned_abs, FitsSigned, w64, to_z, of_z, ap, ap₂, arith, sym, ◌∙◌}
 use Rattle.std.specs.Int.{w128}
+use Rattle.std.specs.List.{All}
 use Rattle.std.proofs.lemmas.Int.{ints, to_z-of_z, unsigned_abs-mul, fits_signed_from_abs}
 use Rattle.std.proofs.lemmas.Nat.{mul-le}
 use Rattle.pl_spec.specs.Rounding.{LIMIT, IsCell}
+use Rattle.pl_pipeline.specs.Formula.{differences, gains, losses}
 use Rattle.pl_lanes.proofs.Bits.{cell-fits}
+use Rattle.pl_running.specs.Kept.{Kept, swings}
+use Rattle.pl_running.proofs.Bounds.{swings-within}
 
 pub fits : (x : ℤ) → unsigned_abs x ≤ 10 ^ 38 → FitsSigned w128 x
 fits x h = fits_signed_from_abs w128 x (omega (arith, h))
@@ -40,15 +44,28 @@ about-within m q s d h k l n =
     let first : unsigned_abs (q -ℤ (m *ℤ s)) ≤ 2520 * (LIMIT * LIMIT) = omega (arith, ints, a) in
     (omega (arith, first), omega (arith, ints, first, b))
 
-pub strength-within : (g l : ℤ) → unsigned_abs g ≤ 1260 * (2 * LIMIT) → unsigned_abs l ≤ 1260 * (2 * LIMIT)
-    → (unsigned_abs (g *ℤ pos 100000000) ≤ 10 ^ 38) × (unsigned_abs (g +ℤ l) ≤ 10 ^ 38)
-strength-within g l h k =
-    let e : unsigned_abs (g *ℤ pos 100000000) ≡ unsigned_abs g * 100000000 = unsigned_abs-mul g (pos 100000000) in
-    (omega (arith, e), omega (arith, ints))
-
 -- a number that is y, in 128 bits and back
 pub same : (x y : ℤ) → x ≡ y → unsigned_abs y ≤ 10 ^ 38 → to_z w128 (of_z w128 x) ≡ y
 same x y e h = ap (λ v. to_z w128 (of_z w128 v)) e ∙ exact y h
+
+-- what is kept of how far cells rose and fell
+pub record AreSwings (k : Kept) (g l : ℤ) : Type 0 where
+  pub rise : to_z w128 (of_z w128 k.main) ≡ g
+  pub fall : to_z w128 (of_z w128 k.beside) ≡ l
+  pub scaled : unsigned_abs (g *ℤ pos 100000000) ≤ 10 ^ 38
+  pub both : unsigned_abs (g +ℤ l) ≤ 10 ^ 38
+
+pub swings-exact : (k : Kept) (xs : List ℤ) → All IsCell xs → length xs ≤ 1260 → k ≡ swings xs → AreSwings k (gains (differences xs)) (losses (differences xs))
+swings-exact k xs cells few is =
+    let g : unsigned_abs (gains (differences xs)) ≤ 1260 * (2 * LIMIT) = swings-within false xs cells few in
+    let l : unsigned_abs (losses (differences xs)) ≤ 1260 * (2 * LIMIT) = swings-within true xs cells few in
+    let e = unsigned_abs-mul (gains (differences xs)) (pos 100000000) in
+    record {
+      rise = same _ _ (ap (λ (k : Kept). k.main) is) (omega (arith, g));
+      fall = same _ _ (ap (λ (k : Kept). k.beside) is) (omega (arith, l));
+      scaled = rw e (omega (arith, g));
+      both = omega (arith, ints, g, l);
+    }
 
 -- a product of two numbers of 128 bits, computed in as many
 pub product-is : (m x r : ℤ) → FitsSigned w128 m → FitsSigned w128 x → FitsSigned w128 r → r ≡ to_z w128 (of_z w128 m) *ℤ to_z w128 (of_z w128 x) → to_z w128 (of_z w128 r) ≡ m *ℤ x

@@ -3,11 +3,11 @@
 ghost use Rattle.std.specs.Prelude.{◌≡◌, ◌≤◌, ◌*◌, ℤ, pos, ◌*ℤ◌, ◌-ℤ◌, length, unsigned_abs, sum_by};
 ghost use Rattle.std.specs.List.{All};
 ghost use Rattle.pl_spec.specs.Limits.{most_window};
-ghost use Rattle.pl_spec.specs.Rounding.{IsCell, LIMIT, add, sub, mul};
+ghost use Rattle.pl_spec.specs.Rounding.{IsCell, LIMIT, mul};
 ghost use Rattle.pl_spec.specs.Cells.{present_values};
 ghost use Rattle.pl_pipeline.specs.Formula.{mean, deviation, square};
 ghost use Rattle.pl_running.specs.Kept.{spreads};
-ghost use Rattle.pl_running.specs.Laws.{about};
+ghost use Rattle.pl_running.specs.Laws.{about, shifted};
 
 use crate::running::Running;
 use crate::values::mean;
@@ -29,28 +29,25 @@ pub(crate) fn deviation(kept: &Running, a: &[i64]) -> i64
     to_cell(isqrt(squares / kept.number as u128) as i128)
 }
 
-// The mean less `k` deviations.
-pub(crate) fn bollinger_lower(kept: &Running, a: &[i64], k: i64) -> i64
+// The mean less `k` deviations where `lower` is true, else with them.
+pub(crate) fn bollinger(lower: bool, kept: &Running, a: &[i64], k: i64) -> i64
     requires cells { All IsCell a.now }
     requires few { length a.now ≤ most_window }
     requires factor { IsCell k }
     requires stands { kept.now ≡ spreads a.now }
-    ensures value { result ≡ sub (mean a.now) (mul k (deviation a.now)) }
+    ensures value { result ≡ shifted lower (mean a.now) (mul k (deviation a.now)) }
     ensures cell { IsCell result }
 {
-    sub(mean(kept, a), mul(k, deviation(kept, a)))
+    shifted(lower, mean(kept, a), mul(k, deviation(kept, a)))
 }
 
-// The mean and `k` deviations.
-pub(crate) fn bollinger_upper(kept: &Running, a: &[i64], k: i64) -> i64
-    requires cells { All IsCell a.now }
-    requires few { length a.now ≤ most_window }
-    requires factor { IsCell k }
-    requires stands { kept.now ≡ spreads a.now }
-    ensures value { result ≡ add (mean a.now) (mul k (deviation a.now)) }
+fn shifted(less: bool, x: i64, y: i64) -> i64
+    requires left { IsCell x }
+    requires right { IsCell y }
+    ensures value { result ≡ shifted less x y }
     ensures cell { IsCell result }
 {
-    add(mean(kept, a), mul(k, deviation(kept, a)))
+    if less { sub(x, y) } else { add(x, y) }
 }
 
 // The sum of the squares of how far the present cells lie from a number.
