@@ -12,7 +12,7 @@ use Rattle.pl_spec.specs.Rounding.{MISSING, IsCell}
 use Rattle.pl_spec.proofs.Signed.{int_eq-itself}
 use Rattle.pl_lanes.specs.Heights.{peak, rank, best_of}
 use Rattle.pl_lanes.proofs.Heights.{best-rank}
-use Rattle.pl_running.specs.Kept.{first_place}
+use Rattle.pl_factors.specs.Terms.{first_place}
 use Rattle.pl_running.specs.Spans.{before, after, last}
 use Rattle.pl_running.proofs.Sliding.{whole}
 use Rattle.pl_running.proofs.Bounds.{at-cell}

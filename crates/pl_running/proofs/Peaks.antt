@@ -15,7 +15,7 @@ use Rattle.pl_running.specs.Spans.{before, after, first, last}
 use Rattle.pl_running.specs.Laws.{least_of, better}
 use Rattle.pl_running.proofs.Sliding.{whole}
 use Rattle.pl_running.proofs.Bounds.{at-cell}
-use Rattle.pl_running.proofs.Exact.{same}
+use Rattle.pl_factors.proofs.Exact.{same}
 
 -- ---- heights tell cells apart and order them
 

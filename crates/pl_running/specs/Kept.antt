@@ -1,9 +1,9 @@
 -- What is kept of the windows of a formula: sums from which its value follows, and which move with the
 -- windows.
-use Rattle.std.specs.Prelude.{Bool, true, false, ℕ, ℤ, pos, List, unwrap_or, position}
-use Rattle.std.specs.Ordering.{int_eq}
+use Rattle.std.specs.Prelude.{Bool, true, false, ℕ, ℤ, pos, List}
 use Rattle.pl_spec.specs.Cells.{present_values, total, count, greatest, least}
 use Rattle.pl_lanes.specs.Heights.{best_of}
+use Rattle.pl_factors.specs.Terms.{first_place}
 use Rattle.pl_pipeline.specs.Formula.{products, places, differences, gains, losses}
 use Rattle.pl_pipeline.specs.Kind.{Kind, WindowKind}
 use Rattle.pl_pipeline.specs.Kind.Kind.{Window}
@@ -45,10 +45,6 @@ kept_best low a = record { main = best_of low a; beside = pos 0; number = 0 }
 -- the least low and the greatest high
 abbrev pub range : List ℤ → List ℤ → Kept
 range low high = record { main = least low; beside = greatest high; number = 0 }
-
--- the place of the first cell that is x, from 0 for the oldest
-unfoldable pub first_place : ℤ → List ℤ → ℕ
-first_place x xs = unwrap_or (position (λ y. int_eq y x) xs) 0
 
 -- the least cell, or the greatest, and its first place
 abbrev pub placed_best : Bool → List ℤ → Kept

@@ -1,5 +1,5 @@
 -- How the sums of a window move when it loses its first cell and gains a last one.
-use Rattle.std.specs.Prelude.{◌≡◌, Bool, ℕ, suc, ◌<◌, map, ◌+◌, ◌-◌, ◌≤◌, ℤ, pos, ◌+ℤ◌, ◌-ℤ◌, ◌*ℤ◌, List, length, get_or, ◌≢◌, ◌⊎◌, if◌then◌else◌}
+use Rattle.std.specs.Prelude.{◌≡◌, Bool, ℕ, suc, ◌<◌, map, ◌+◌, ◌-◌, ◌≤◌, ℤ, pos, ◌+ℤ◌, ◌-ℤ◌, List, length, get_or, ◌≢◌, ◌⊎◌, if◌then◌else◌}
 use Rattle.pl_spec.specs.Cells.{present_values, total, count, greatest, least}
 use Rattle.pl_pipeline.specs.Formula.{products, places, differences, gains, losses}
 use Rattle.std.specs.List.{All}
@@ -12,10 +12,6 @@ use Rattle.pl_running.specs.Spans.{before, after, first, last, part, presence}
 -- the number, less what leaves, and with what enters
 abbrev pub moved : ℤ → ℤ → ℤ → ℤ
 moved sum leaves enters = sum -ℤ leaves +ℤ enters
-
--- the sum of the squares about m, from those about 0, the sum and the count
-abbrev pub about : ℤ → ℤ → ℤ → ℤ → ℤ
-about m squares sum n = squares -ℤ (m *ℤ sum) +ℤ (m *ℤ ((m *ℤ n) -ℤ sum))
 
 -- the one less the other, or both
 abbrev pub shifted : Bool → ℤ → ℤ → ℤ

@@ -1,19 +1,20 @@
 //! Where in a window its greatest and its least cell are, from where they were in the window before it. Both
 //! windows are one list: all but its last cell, and all but its first.
 
-ghost use Rattle.std.specs.Prelude.{◌≡◌, ◌≤◌, ◌<◌, ◌↔◌, ◌⊎◌, true, false, IsTrue, length, position, Option};
+ghost use Rattle.std.specs.Prelude.{◌≡◌, ◌≤◌, ◌<◌, ◌↔◌, ◌⊎◌, true, false, length};
 ghost use Rattle.std.specs.List.{All};
-ghost use Rattle.std.specs.Ordering.{int_eq};
 ghost use Rattle.pl_spec.specs.Limits.{most_window};
 ghost use Rattle.pl_spec.specs.Rounding.{IsCell, MISSING, is_missing};
 ghost use Rattle.pl_spec.specs.Cells.{count};
 ghost use Rattle.pl_pipeline.specs.Formula.{place_of};
 ghost use Rattle.pl_lanes.specs.Heights.{rank, best_of};
-ghost use Rattle.pl_running.specs.Kept.{first_place, placed_best};
+ghost use Rattle.pl_factors.specs.Terms.{first_place};
+ghost use Rattle.pl_running.specs.Kept.{placed_best};
 ghost use Rattle.pl_running.specs.Spans.{before, after};
 
 use crate::running::Running;
-use pl_fixed::{MISSING, quot};
+use pl_factors::{first_place, place_of};
+use pl_fixed::MISSING;
 use pl_lanes::best_present;
 
 // The least cell where `low` is true, else the greatest, and its first place.
@@ -27,20 +28,6 @@ pub(crate) fn placed_best(low: bool, a: &[i64]) -> Running
         beside: 0,
         number: first_place(best, a),
     }
-}
-
-// The place of the first number that is `x`, and 0 where there is none.
-#[tactic(auto, unfolding(crate::specs::Kept::first_place))]
-fn first_place(x: i64, a: &[i64]) -> usize
-    ensures { result ≡ first_place x a.now }
-{
-    position(x, a).unwrap_or(0)
-}
-
-fn position(x: i64, a: &[i64]) -> Option<usize>
-    ensures { result ≡ position (λ y. int_eq y x) a.now }
-{
-    a.iter().position(|y| *y == x)
 }
 
 #[inline(always)]
@@ -113,21 +100,5 @@ pub(crate) fn place_value(kept: &Running, a: &[i64]) -> i64
     ensures value { result ≡ place_of kept.now.main a.now }
     ensures cell { IsCell result }
 {
-    hundredths(kept.main as i64, kept.number, a)
-}
-
-fn hundredths(x: i64, place: usize, a: &[i64]) -> i64
-    requires few { length a.now ≤ most_window }
-    requires known { (is_missing x ≡ true) ↔ (count a.now ≡ 0) }
-    requires place { place ≡ first_place x a.now }
-    ensures value { result ≡ place_of x a.now }
-    ensures cell { IsCell result }
-{
-    if x == MISSING {
-        return MISSING;
-    }
-    quot(
-        place as i128 * 100_000_000,
-        a.len().saturating_sub(1) as i128,
-    )
+    place_of(kept.main as i64, kept.number, a)
 }

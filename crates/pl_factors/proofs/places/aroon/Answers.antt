@@ -5,5 +5,5 @@ use Rattle.pl_factors.proofs.places.aroon.Goals as goal
 
 pub place_of-requires-clause-known : goal.place_of-requires-clause-known
 place_of-requires-clause-known c =
-    let fits : FitsSigned w64 c.best_present.result = search rules in
-    rw (to_z-of_z w64 _ fits, c.best_present.ensures.value) (best-known c.args.low c.args.a.now c.requires.cells)
+    let fits : FitsSigned w64 c.best_present-best.result = search rules in
+    rw (to_z-of_z w64 _ fits, c.best_present-best.ensures.value) (best-known c.args.low c.args.a.now c.requires.cells)

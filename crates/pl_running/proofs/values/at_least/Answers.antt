@@ -7,7 +7,7 @@ use Rattle.pl_spec.specs.Cells.{is_true}
 use Rattle.pl_lanes.specs.Flags.{IsFlag}
 use Rattle.pl_filters.proofs.Counting.{flags-total}
 use Rattle.pl_running.specs.Kept.{Kept, sums}
-use Rattle.pl_running.proofs.Exact.{same}
+use Rattle.pl_factors.proofs.Exact.{same}
 use Rattle.pl_running.proofs.values.at_least.Goals as goal
 
 main : (k : Kept) (xs : List ℤ) → All IsFlag xs → length xs ≤ 1260 → k ≡ sums xs → to_z w128 (of_z w128 k.main) ≡ pos (count_by is_true xs)

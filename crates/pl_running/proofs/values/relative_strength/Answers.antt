@@ -1,7 +1,8 @@
 use Rattle.std.proofs.Common.{pos, rules, ap, ap₂, ◌∙◌, ◌+ℤ◌, ◌*ℤ◌, FitsSigned, w64}
 use Rattle.std.proofs.lemmas.Int.{to_z-of_z}
 use Rattle.pl_spec.specs.Rounding.{quot}
-use Rattle.pl_running.proofs.Exact.{same, not-least, fits, swings-exact}
+use Rattle.pl_factors.proofs.Exact.{fits, same}
+use Rattle.pl_running.proofs.Exact.{not-least, swings-exact}
 use Rattle.pl_running.proofs.values.relative_strength.Goals as goal
 
 pub overflow_mul-kept-inside : goal.overflow_mul-kept-inside

@@ -1,8 +1,8 @@
 use Rattle.std.proofs.Common.{FitsSigned}
 use Rattle.std.specs.Int.{w128}
 use Rattle.std.proofs.lemmas.Int.{to_z-of_z}
-use Rattle.pl_running.proofs.Exact.{exact, product-within}
-use Rattle.pl_running.proofs.deviations.times.Goals as goal
+use Rattle.pl_factors.proofs.Exact.{exact, product-within}
+use Rattle.pl_factors.proofs.deviations.times.Goals as goal
 
 pub returns-clause-value : goal.returns-clause-value
 returns-clause-value c =

@@ -1,8 +1,8 @@
 use Rattle.std.proofs.Common.{◌≡◌, ◌-ℤ◌, ◌*ℤ◌, ◌+ℤ◌, rules, arith, ap₂, ◌∙◌, FitsSigned, to_z, of_z}
 use Rattle.std.specs.Int.{w128}
 use Rattle.std.proofs.lemmas.Int.{to_z-of_z}
-use Rattle.pl_running.proofs.Exact.{fits, same, product-is, apart-is, apart-within, about-within}
-use Rattle.pl_running.proofs.deviations.about.Goals as goal
+use Rattle.pl_factors.proofs.Exact.{fits, same, product-is, apart-is, apart-within, about-within}
+use Rattle.pl_factors.proofs.deviations.about.Goals as goal
 
 pub times-requires : goal.times-requires
 times-requires c =

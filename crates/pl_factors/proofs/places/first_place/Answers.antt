@@ -1,8 +1,8 @@
 use Rattle.std.proofs.Common.{ap, ◌∙◌, FitsSigned, w64, unwrap_or, position}
 use Rattle.std.specs.Ordering.{int_eq}
 use Rattle.std.proofs.lemmas.Int.{to_z-of_z}
-use Rattle.pl_running.specs.Kept.{first_place}
-use Rattle.pl_running.proofs.places.first_place.Goals as goal
+use Rattle.pl_factors.specs.Terms.{first_place}
+use Rattle.pl_factors.proofs.places.first_place.Goals as goal
 
 pub returns : goal.returns
 unfolding first_place
