@@ -1,33 +1,17 @@
-use Rattle.std.proofs.Common.{pos, rules, ap, ap₂, ◌∙◌, ◌+ℤ◌, ◌*ℤ◌, FitsSigned, w64}
-use Rattle.std.proofs.lemmas.Int.{to_z-of_z}
-use Rattle.pl_spec.specs.Rounding.{quot}
-use Rattle.pl_factors.proofs.Exact.{fits, same}
-use Rattle.pl_running.proofs.Exact.{not-least, swings-exact}
+use Rattle.std.proofs.Common.{◌≤◌, ◌*◌, true, false, arith, ap, ◌∙◌, unsigned_abs}
+use Rattle.pl_spec.specs.Rounding.{LIMIT}
+use Rattle.pl_pipeline.specs.Formula.{differences, gains, losses}
+use Rattle.pl_factors.proofs.Exact.{same}
+use Rattle.pl_running.specs.Kept.{Kept}
+use Rattle.pl_running.proofs.Bounds.{swings-within}
 use Rattle.pl_running.proofs.values.relative_strength.Goals as goal
 
-pub overflow_mul-kept-inside : goal.overflow_mul-kept-inside
-overflow_mul-kept-inside c =
-    let s = swings-exact _ c.args.a.now c.requires.cells c.requires.few (c.kept.view_is ∙ c.requires.stands) in
-    rw s.rise (fits _ s.scaled)
-
-pub overflow_add-kept-inside : goal.overflow_add-kept-inside
-overflow_add-kept-inside c =
-    let s = swings-exact _ c.args.a.now c.requires.cells c.requires.few (c.kept.view_is ∙ c.requires.stands) in
-    rw (s.rise, s.fall) (fits _ s.both)
-
-pub quot-requires-clause-dividend : goal.quot-requires-clause-dividend
-quot-requires-clause-dividend c =
-    let s = swings-exact _ c.args.a.now c.requires.cells c.requires.few (c.kept.view_is ∙ c.requires.stands) in
-    not-least _ _ (ap (λ x. x *ℤ pos 100000000) s.rise) s.scaled
-
-pub quot-requires-clause-divisor : goal.quot-requires-clause-divisor
-quot-requires-clause-divisor c =
-    let s = swings-exact _ c.args.a.now c.requires.cells c.requires.few (c.kept.view_is ∙ c.requires.stands) in
-    not-least _ _ (ap₂ (λ x y. x +ℤ y) s.rise s.fall) s.both
-
-pub returns-clause-value : goal.returns-clause-value
-returns-clause-value c =
-    let s = swings-exact _ c.args.a.now c.requires.cells c.requires.few (c.kept.view_is ∙ c.requires.stands) in
-    let fr : FitsSigned w64 c.quot.result = search rules in
-    to_z-of_z w64 _ fr ∙ c.quot.ensures.value
-    ∙ ap₂ quot (same _ _ (ap (λ x. x *ℤ pos 100000000) s.rise) s.scaled) (same _ _ (ap₂ (λ x y. x +ℤ y) s.rise s.fall) s.both)
+pub strength_of-requires : goal.strength_of-requires
+strength_of-requires c =
+    let xs = c.args.a.now in
+    let g : unsigned_abs (gains (differences xs)) ≤ 1260 * (2 * LIMIT) = swings-within false xs c.requires.cells c.requires.few in
+    let l : unsigned_abs (losses (differences xs)) ≤ 1260 * (2 * LIMIT) = swings-within true xs c.requires.cells c.requires.few in
+    record {
+      gains = rw (same _ _ (ap (λ (k : Kept). k.main) (c.kept.view_is ∙ c.requires.stands)) (omega (arith, g))) g;
+      losses = rw (same _ _ (ap (λ (k : Kept). k.beside) (c.kept.view_is ∙ c.requires.stands)) (omega (arith, l))) l;
+    }
