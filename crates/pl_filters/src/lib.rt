@@ -5,4 +5,4 @@ mod labels;
 mod windows;
 
 pub use labels::label_test;
-pub use windows::window_filter;
+pub use windows::{all_present_of, at_least_of, window_filter};

@@ -1,9 +1,9 @@
 //! The filters over a window: how many of its values are true, or present.
-ghost use Rattle.std.specs.Prelude.{◌≡◌, ◌≤◌, [], length};
-ghost use Rattle.std.specs.List.{All, count_by};
+ghost use Rattle.std.specs.Prelude.{◌≡◌, ◌≤◌, [], length, nat_le};
+ghost use Rattle.std.specs.List.{All, count_by, list_all};
 ghost use Rattle.pl_spec.specs.Limits.{most_window};
-ghost use Rattle.pl_spec.specs.Rounding.{IsCell};
-ghost use Rattle.pl_spec.specs.Cells.{is_true};
+ghost use Rattle.pl_spec.specs.Rounding.{IsCell, is_present};
+ghost use Rattle.pl_spec.specs.Cells.{present_values, total, count, truth, is_true};
 ghost use Rattle.pl_pipeline.specs.Formula.{formula};
 ghost use Rattle.pl_pipeline.specs.Kind.{WindowKind as window};
 ghost use Rattle.pl_terms.specs.Kinds.{kind_of};
@@ -41,16 +41,29 @@ fn at_least(n: usize, flags: &[i64]) -> i64
     ensures value { result ≡ formula (window.AtLeastN n) flags.now [] [] }
     ensures flag { IsFlag result }
 {
-    if n <= true_count(flags) { 1 } else { 0 }
+    at_least_of(n, sum_present(flags).0, flags)
+}
+
+/// The same from the sum of the values.
+pub fn at_least_of(n: usize, sum: i128, flags: &[i64]) -> i64
+    requires flags { All IsFlag flags.now }
+    requires few { length flags.now ≤ most_window }
+    requires sum { sum ≡ total (present_values flags.now) }
+    ensures value { result ≡ truth (nat_le n (count_by is_true flags.now)) }
+    ensures flag { IsFlag result }
+    ensures cell { IsCell result }
+{
+    if n <= true_count(sum, flags) { 1 } else { 0 }
 }
 
 // How many values of a filter are true: their sum.
-fn true_count(flags: &[i64]) -> usize
+fn true_count(sum: i128, flags: &[i64]) -> usize
     requires flags { All IsFlag flags.now }
     requires few { length flags.now ≤ most_window }
+    requires sum { sum ≡ total (present_values flags.now) }
     ensures { result ≡ count_by is_true flags.now }
 {
-    sum_present(flags).0 as usize
+    sum as usize
 }
 
 // Whether no cell is missing.
@@ -61,9 +74,15 @@ fn all_present(cells: &[i64]) -> i64
     ensures value { result ≡ formula window.AllPresent cells.now [] [] }
     ensures flag { IsFlag result }
 {
-    if sum_present(cells).1 == cells.len() {
-        1
-    } else {
-        0
-    }
+    all_present_of(sum_present(cells).1, cells)
+}
+
+/// The same from the number of the present cells.
+pub fn all_present_of(number: usize, cells: &[i64]) -> i64
+    requires number { number ≡ count cells.now }
+    ensures value { result ≡ truth (list_all is_present cells.now) }
+    ensures flag { IsFlag result }
+    ensures cell { IsCell result }
+{
+    if number == cells.len() { 1 } else { 0 }
 }

@@ -8,13 +8,13 @@ use Rattle.std.proofs.lemmas.List.{length-take, get_or_past}
 use Rattle.std.proofs.lemmas.List.Elements.{All-take, All-get_or}
 use Rattle.pl_spec.specs.Rounding.{LIMIT, IsCell, is_missing}
 use Rattle.pl_spec.specs.Cells.{present_values, total}
-use Rattle.pl_pipeline.specs.Formula.{products, places, differences, gains, losses}
+use Rattle.pl_pipeline.specs.Formula.{products, places, differences}
 use Rattle.pl_lanes.proofs.Bits.{cell-fits}
 use Rattle.pl_lanes.proofs.Cells.{total-few, few-present, is_within}
-use Rattle.pl_factors.specs.Terms.{product, gain, loss}
+use Rattle.pl_factors.specs.Terms.{product, gain, swing, total_swings}
 use Rattle.pl_factors.proofs.Casts.{product-wide, above-zero-small, apart}
 use Rattle.pl_factors.proofs.Sums.{sum_terms}
-use Rattle.pl_factors.proofs.Products.{product-sum, placed-sum, gains-sum, losses-sum}
+use Rattle.pl_factors.proofs.Products.{product-sum, placed-sum, swings-sum}
 use Rattle.pl_running.specs.Spans.{before}
 use Rattle.pl_running.specs.Laws.{moved}
 
@@ -60,11 +60,9 @@ gain-small x y true c e f p q = rw e (omega arith)
 gain-small x y false true e f p q = rw (e, f) (omega arith)
 gain-small x y false false e f p q = rw (e, f) (above-zero-small (y -ℤ x) (2 * LIMIT) (apart x y (is_within x p e) (is_within y q f)))
 
-loss-small : (x y : ℤ) (b c : Bool) → is_missing x ≡ b → is_missing y ≡ c → IsCell x → IsCell y → unsigned_abs (loss x y) ≤ 2 * LIMIT
-unfolding loss
-loss-small x y true c e f p q = rw e (omega arith)
-loss-small x y false true e f p q = rw (e, f) (omega arith)
-loss-small x y false false e f p q = rw (e, f) (above-zero-small (x -ℤ y) (2 * LIMIT) (apart y x (is_within y q f) (is_within x p e)))
+swing-small : (falls : Bool) (x y : ℤ) → IsCell x → IsCell y → unsigned_abs (swing falls x y) ≤ 2 * LIMIT
+swing-small true x y p q = gain-small y x _ _ refl refl q p
+swing-small false x y p q = gain-small x y _ _ refl refl p q
 
 -- ---- totals
 
@@ -83,14 +81,8 @@ placed-within xs cells few =
     (λ i h. product-small _ _ _ _ refl refl (inr (omega arith)) (at-cell xs i cells)) in
     rw (placed-sum xs) (omega (arith, w, most (length xs) 1260 (LIMIT * LIMIT) few))
 
-pub gains-within : (xs : List ℤ) → All IsCell xs → length xs ≤ 1260 → unsigned_abs (gains (differences xs)) ≤ 1260 * (2 * LIMIT)
-gains-within xs cells few =
-    let w = terms-within (λ i. gain (get_or xs i (pos 0)) (get_or xs (i + 1) (pos 0))) (2 * LIMIT) (length xs - 1)
-    (λ i h. gain-small _ _ _ _ refl refl (at-cell xs i cells) (at-cell xs (i + 1) cells)) in
-    rw (gains-sum xs) (omega (arith, w, most (length xs - 1) 1260 (2 * LIMIT) (omega arith)))
-
-pub losses-within : (xs : List ℤ) → All IsCell xs → length xs ≤ 1260 → unsigned_abs (losses (differences xs)) ≤ 1260 * (2 * LIMIT)
-losses-within xs cells few =
-    let w = terms-within (λ i. loss (get_or xs i (pos 0)) (get_or xs (i + 1) (pos 0))) (2 * LIMIT) (length xs - 1)
-    (λ i h. loss-small _ _ _ _ refl refl (at-cell xs i cells) (at-cell xs (i + 1) cells)) in
-    rw (losses-sum xs) (omega (arith, w, most (length xs - 1) 1260 (2 * LIMIT) (omega arith)))
+pub swings-within : (falls : Bool) (xs : List ℤ) → All IsCell xs → length xs ≤ 1260 → unsigned_abs (total_swings falls (differences xs)) ≤ 1260 * (2 * LIMIT)
+swings-within falls xs cells few =
+    let w = terms-within (λ i. swing falls (get_or xs i (pos 0)) (get_or xs (i + 1) (pos 0))) (2 * LIMIT) (length xs - 1)
+    (λ i h. swing-small falls _ _ (at-cell xs i cells) (at-cell xs (i + 1) cells)) in
+    rw (swings-sum falls xs) (omega (arith, w, most (length xs - 1) 1260 (2 * LIMIT) (omega arith)))

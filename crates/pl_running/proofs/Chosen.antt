@@ -1,5 +1,5 @@
 -- What is kept of the windows of one kind, and its formula, where more than a name is asked.
-use Rattle.std.proofs.Common.{◌≡◌, ◌↔◌, ◌⊎◌, true, nat_le, ℤ, List, length, inl, inr, ◌∙◌}
+use Rattle.std.proofs.Common.{◌≡◌, ◌↔◌, ◌⊎◌, true, false, nat_le, ℤ, List, length, inl, inr, ◌∙◌}
 use Rattle.std.specs.List.{All, count_by}
 use Rattle.pl_spec.specs.Rounding.{IsCell, is_missing}
 use Rattle.pl_pipeline.specs.Formula.{formula}
@@ -9,9 +9,9 @@ use Rattle.pl_terms.specs.declared.kind.TermKind.{TermKind}
 use Rattle.pl_terms.specs.declared.kind.TermKind.TheVariants as kind
 use Rattle.pl_terms.specs.Kinds.{kind_of}
 use Rattle.pl_factors.specs.Kinds.{formula_of}
-use Rattle.pl_lanes.proofs.Heights.{greatest-known, least-known}
-use Rattle.pl_running.specs.Kept.{Kept, kept_of, highest, lowest, range, placed_highest, placed_lowest}
-use Rattle.pl_running.proofs.Peaks.{greatest-cell, least-cell}
+use Rattle.pl_lanes.proofs.Heights.{best-known}
+use Rattle.pl_running.specs.Kept.{Kept, kept_of, kept_best, range, placed_best}
+use Rattle.pl_running.proofs.Peaks.{best-cell}
 
 -- ---- filters that are counts of what is true
 
@@ -31,26 +31,26 @@ main-has P k kept e p = rw e p
 pub extreme-cell : (t : TermKind) (k : Kept) (a b c : List ℤ) → All IsCell a → (t ≡ kind.WindowMax) ⊎ (t ≡ kind.WindowMin) → k ≡ kept_of (kind_of t) a b c → IsCell k.main
 unfolding kind_of kept_of
 extreme-cell t k a b c cells h s = elim h [
-  | inl e ↦ main-has IsCell k (highest a) (rw e at s) (greatest-cell a cells)
-  | inr e ↦ main-has IsCell k (lowest a) (rw e at s) (least-cell a cells)
+  | inl e ↦ main-has IsCell k (kept_best false a) (rw e at s) (best-cell false a cells)
+  | inr e ↦ main-has IsCell k (kept_best true a) (rw e at s) (best-cell true a cells)
 ]
 
 pub placed-cell : (t : TermKind) (k : Kept) (a b c : List ℤ) → All IsCell a → (t ≡ kind.AroonUp) ⊎ (t ≡ kind.AroonDown) → k ≡ kept_of (kind_of t) a b c → IsCell k.main
 unfolding kind_of kept_of
 placed-cell t k a b c cells h s = elim h [
-  | inl e ↦ main-has IsCell k (placed_highest a) (rw e at s) (greatest-cell a cells)
-  | inr e ↦ main-has IsCell k (placed_lowest a) (rw e at s) (least-cell a cells)
+  | inl e ↦ main-has IsCell k (placed_best false a) (rw e at s) (best-cell false a cells)
+  | inr e ↦ main-has IsCell k (placed_best true a) (rw e at s) (best-cell true a cells)
 ]
 
 pub placed-known : (t : TermKind) (k : Kept) (a b c : List ℤ) → All IsCell a → (t ≡ kind.AroonUp) ⊎ (t ≡ kind.AroonDown) → k ≡ kept_of (kind_of t) a b c → (is_missing k.main ≡ true) ↔ (count a ≡ 0)
 unfolding kind_of kept_of
 placed-known t k a b c cells h s = elim h [
-  | inl e ↦ main-has (λ x. (is_missing x ≡ true) ↔ (count a ≡ 0)) k (placed_highest a) (rw e at s) (greatest-known a cells)
-  | inr e ↦ main-has (λ x. (is_missing x ≡ true) ↔ (count a ≡ 0)) k (placed_lowest a) (rw e at s) (least-known a cells)
+  | inl e ↦ main-has (λ x. (is_missing x ≡ true) ↔ (count a ≡ 0)) k (placed_best false a) (rw e at s) (best-known false a cells)
+  | inr e ↦ main-has (λ x. (is_missing x ≡ true) ↔ (count a ≡ 0)) k (placed_best true a) (rw e at s) (best-known true a cells)
 ]
 
 pub range-cells : (t : TermKind) (k : Kept) (a b c : List ℤ) → All IsCell b → All IsCell c → t ≡ kind.FastStochasticOscillator → k ≡ kept_of (kind_of t) a b c → IsCell k.main × IsCell k.beside
 unfolding kind_of kept_of
 range-cells t k a b c low high e s =
     let is : k ≡ range b c = rw e at s in
-    rw is (least-cell b low, greatest-cell c high)
+    rw is (best-cell true b low, best-cell false c high)

@@ -9,15 +9,14 @@ use Rattle.std.proofs.lemmas.List.{length-take}
 use Rattle.std.proofs.lemmas.List.Folds.{position_or_len_push}
 use Rattle.std.proofs.lemmas.List.Elements.{All-take, All-tail}
 use Rattle.pl_spec.specs.Rounding.{MISSING, IsCell}
-use Rattle.pl_spec.specs.Cells.{greatest, least}
 use Rattle.pl_spec.proofs.Signed.{int_eq-itself}
-use Rattle.pl_lanes.specs.Heights.{height, depth, peak}
-use Rattle.pl_lanes.proofs.Heights.{height-missing, depth-missing, greatest-height, least-depth}
-use Rattle.pl_running.specs.Kept.{first_place}
+use Rattle.pl_lanes.specs.Heights.{peak, rank, best_of}
+use Rattle.pl_lanes.proofs.Heights.{best-rank}
+use Rattle.pl_factors.specs.Terms.{first_place}
 use Rattle.pl_running.specs.Spans.{before, after, last}
 use Rattle.pl_running.proofs.Sliding.{whole}
 use Rattle.pl_running.proofs.Bounds.{at-cell}
-use Rattle.pl_running.proofs.Peaks.{best-slides, height-same, depth-same}
+use Rattle.pl_running.proofs.Peaks.{best-slides, rank-same, rank-missing}
 
 -- how many cells are not x, up to the first that is
 ahead : ℤ → List ℤ → ℕ
@@ -137,7 +136,7 @@ module _ (f : ℤ → ℕ) (best : List ℤ → ℤ) (is : (xs : List ℤ) → A
       }
 
   -- the first place of the best cell of the second window, where that is its last cell
-  pub enters : (x m : ℤ) (ms : List ℤ) → All IsCell (x ∷ m ∷ ms)
+  enters : (x m : ℤ) (ms : List ℤ) → All IsCell (x ∷ m ∷ ms)
       → (0 < first_place (best (before (x ∷ m ∷ ms))) (before (x ∷ m ∷ ms))) ⊎ (best (before (x ∷ m ∷ ms)) ≡ MISSING)
       → f (best (before (x ∷ m ∷ ms))) < f (last (x ∷ m ∷ ms))
       → (best (m ∷ ms) ≡ last (x ∷ m ∷ ms)) × (first_place (last (x ∷ m ∷ ms)) (m ∷ ms) ≡ length ms)
@@ -156,7 +155,7 @@ module _ (f : ℤ → ℕ) (best : List ℤ → ℤ) (is : (xs : List ℤ) → A
       )
 
   -- and where it is the best cell of the first window
-  pub remains : (x m : ℤ) (ms : List ℤ) → All IsCell (x ∷ m ∷ ms)
+  remains : (x m : ℤ) (ms : List ℤ) → All IsCell (x ∷ m ∷ ms)
       → (0 < first_place (best (before (x ∷ m ∷ ms))) (before (x ∷ m ∷ ms))) ⊎ (best (before (x ∷ m ∷ ms)) ≡ MISSING)
       → f (last (x ∷ m ∷ ms)) ≤ f (best (before (x ∷ m ∷ ms)))
       → (best (m ∷ ms) ≡ best (before (x ∷ m ∷ ms)))
@@ -181,31 +180,18 @@ module _ (f : ℤ → ℕ) (best : List ℤ → ℤ) (is : (xs : List ℤ) → A
 
 -- ---- by spans
 
-abbrev pub Leaves : (List ℤ → ℤ) → List ℤ → Type 0
-Leaves best xs = (0 < first_place (best (before xs)) (before xs)) ⊎ (best (before xs) ≡ MISSING)
+abbrev pub Leaves : Bool → List ℤ → Type 0
+Leaves low xs = (0 < first_place (best_of low (before xs)) (before xs)) ⊎ (best_of low (before xs) ≡ MISSING)
 
-pub greatest-enters : (xs : List ℤ) → All IsCell xs → 2 ≤ length xs → Leaves greatest xs → height (greatest (before xs)) < height (last xs)
-    → (greatest (after xs) ≡ last xs) × (first_place (last xs) (after xs) ≡ length xs - 2)
-greatest-enters [] cells some leaves more = absurd (omega arith)
-greatest-enters (x ∷ []) cells some leaves more = absurd (omega arith)
-greatest-enters (x ∷ m ∷ ms) cells some leaves more =
-    let e = enters height greatest greatest-height height-same height-missing x m ms cells leaves more in (e.0, omega (arith, e.1))
+pub best-enters : (low : Bool) (xs : List ℤ) → All IsCell xs → 2 ≤ length xs → Leaves low xs → rank low (best_of low (before xs)) < rank low (last xs)
+    → (best_of low (after xs) ≡ last xs) × (first_place (last xs) (after xs) ≡ length xs - 2)
+best-enters low [] cells some leaves more = absurd (omega arith)
+best-enters low (x ∷ []) cells some leaves more = absurd (omega arith)
+best-enters low (x ∷ m ∷ ms) cells some leaves more =
+    let e = enters (rank low) (best_of low) (best-rank low) (rank-same low) (rank-missing low) x m ms cells leaves more in (e.0, omega (arith, e.1))
 
-pub greatest-remains : (xs : List ℤ) → All IsCell xs → 2 ≤ length xs → Leaves greatest xs → height (last xs) ≤ height (greatest (before xs))
-    → (greatest (after xs) ≡ greatest (before xs)) × (first_place (greatest (before xs)) (after xs) ≡ first_place (greatest (before xs)) (before xs) - 1)
-greatest-remains [] cells some leaves less = absurd (omega arith)
-greatest-remains (x ∷ []) cells some leaves less = absurd (omega arith)
-greatest-remains (x ∷ m ∷ ms) cells some leaves less = remains height greatest greatest-height height-same height-missing x m ms cells leaves less
-
-pub least-enters : (xs : List ℤ) → All IsCell xs → 2 ≤ length xs → Leaves least xs → depth (least (before xs)) < depth (last xs)
-    → (least (after xs) ≡ last xs) × (first_place (last xs) (after xs) ≡ length xs - 2)
-least-enters [] cells some leaves more = absurd (omega arith)
-least-enters (x ∷ []) cells some leaves more = absurd (omega arith)
-least-enters (x ∷ m ∷ ms) cells some leaves more =
-    let e = enters depth least least-depth depth-same depth-missing x m ms cells leaves more in (e.0, omega (arith, e.1))
-
-pub least-remains : (xs : List ℤ) → All IsCell xs → 2 ≤ length xs → Leaves least xs → depth (last xs) ≤ depth (least (before xs))
-    → (least (after xs) ≡ least (before xs)) × (first_place (least (before xs)) (after xs) ≡ first_place (least (before xs)) (before xs) - 1)
-least-remains [] cells some leaves less = absurd (omega arith)
-least-remains (x ∷ []) cells some leaves less = absurd (omega arith)
-least-remains (x ∷ m ∷ ms) cells some leaves less = remains depth least least-depth depth-same depth-missing x m ms cells leaves less
+pub best-remains : (low : Bool) (xs : List ℤ) → All IsCell xs → 2 ≤ length xs → Leaves low xs → rank low (last xs) ≤ rank low (best_of low (before xs))
+    → (best_of low (after xs) ≡ best_of low (before xs)) × (first_place (best_of low (before xs)) (after xs) ≡ first_place (best_of low (before xs)) (before xs) - 1)
+best-remains low [] cells some leaves less = absurd (omega arith)
+best-remains low (x ∷ []) cells some leaves less = absurd (omega arith)
+best-remains low (x ∷ m ∷ ms) cells some leaves less = remains (rank low) (best_of low) (best-rank low) (rank-same low) (rank-missing low) x m ms cells leaves less

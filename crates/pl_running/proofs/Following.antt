@@ -11,7 +11,7 @@ use Rattle.pl_pipeline.specs.Kind.{Kind}
 use Rattle.pl_pipeline.specs.Kind.Kind.{Window}
 use Rattle.pl_pipeline.specs.Kind.WindowKind.{ExponentialWeightedMovingAverage, SimpleMovingAverage}
 use Rattle.pl_factors.specs.Terms.{mean_by}
-use Rattle.pl_running.specs.Lanes.{AreValues, AreWeighted, HasWindows, TakesLanes, formula_at, window_at}
+use Rattle.pl_running.specs.Lanes.{AreGiven, AreValues, HasWindows, TakesLanes, formula_at, weighted_at, window_at}
 use Rattle.pl_running.specs.Spans.{TakesSpans, after, before, takes_range}
 
 front_of : (size : ℕ) (ys : List ℤ) → (length ys ≡ 0) ⊎ (size + 1 ≤ length ys) → take (length (take (size + 1) ys) - 1) (take (size + 1) ys) ≡ take size ys
@@ -79,15 +79,14 @@ module _ (q : Kind) (size n : ℕ) (a b c : List ℤ) (lanes : TakesLanes q size
 
 -- ---- values
 
-module _ (q : Kind) (size : ℕ) (a b c : List ℤ) where
-  pub none_valued : (out : List ℤ) → AreValues q size a b c 0 out
-  none_valued out = record { each = λ j h. absurd (omega (arith, h)); cell = λ j h. absurd (omega (arith, h)) }
+module _ (f : ℕ → ℤ) where
+  pub none_given : (out : List ℤ) → AreGiven f 0 out
+  none_given out = record { each = λ j h. absurd (omega (arith, h)); cell = λ j h. absurd (omega (arith, h)) }
 
-  pub one_valued : (done : ℕ) (out : List ℤ) (x : ℤ) → AreValues q size a b c done out → done < length out → x ≡ formula_at q size a b c done → IsCell x
-      → AreValues q size a b c (done + 1) (set out done x)
-  one_valued done out x so_far room e is_cell = record {
+  pub one_given : (done : ℕ) (out : List ℤ) (x : ℤ) → AreGiven f done out → done < length out → x ≡ f done → IsCell x → AreGiven f (done + 1) (set out done x)
+  one_given done out x so_far room e is_cell = record {
     each = λ j h. elim (cases_eq j done) [
-      | inl p ↦ ap (λ k. get_or (set out done x) k (pos 0)) p ∙ get_or-set_same out done x (pos 0) room ∙ e ∙ ap (formula_at q size a b c) (sym p)
+      | inl p ↦ ap (λ k. get_or (set out done x) k (pos 0)) p ∙ get_or-set_same out done x (pos 0) room ∙ e ∙ ap f (sym p)
       | inr p ↦ get_or-set_other out done j x (pos 0) p ∙ so_far.each j (omega (arith, h, p))
     ];
     cell = λ j h. elim (cases_eq j done) [
@@ -95,6 +94,19 @@ module _ (q : Kind) (size : ℕ) (a b c : List ℤ) where
       | inr p ↦ subst IsCell (sym (get_or-set_other out done j x (pos 0) p)) (so_far.cell j (omega (arith, h, p)))
     ];
   }
+
+  pub all_given : (n done : ℕ) (out : List ℤ) → n ≤ done → AreGiven f done out → AreGiven f n out
+  all_given n done out few m = record { each = λ j h. m.each j (omega (arith, few, h)); cell = λ j h. m.cell j (omega (arith, few, h)) }
+
+pub values_given : (q : Kind) (size : ℕ) (a b c : List ℤ) (n done : ℕ) (out : List ℤ) → n ≤ done → AreGiven (formula_at q size a b c) done out → AreValues q size a b c n out
+values_given q size a b c n done out few m = record { each = λ j h. m.each j (omega (arith, few, h)); cell = λ j h. m.cell j (omega (arith, few, h)) }
+
+abbrev pub mean_at : ℕ → List ℤ → ℕ → ℤ
+mean_at size a j = mean (window_at size j a)
+
+pub means_are : (size : ℕ) (a b c : List ℤ) (n done : ℕ) (out : List ℤ) → n ≤ done → AreGiven (mean_at size a) done out → AreValues (Window SimpleMovingAverage) size a b c n out
+unfolding formula
+means_are size a b c n done out few m = values_given (Window SimpleMovingAverage) size a b c n done out few m
 
 -- ---- lists for lists
 
@@ -112,60 +124,11 @@ module _ (size k j : ℕ) (next : j ≡ k - 1 + 1) (xs span : List ℤ) (has : 0
   pub span_after : after span ≡ window_at size j xs
   span_after = ap after is ∙ after_is size (k - 1) xs has ∙ ap (λ n. window_at size n xs) (sym next)
 
--- ---- means
-
--- the first cells are the means of the first windows
-pub record AreMeans (size : ℕ) (a : List ℤ) (done : ℕ) (out : List ℤ) : Type 0 where
-  pub each : (j : ℕ) → j < done → get_or out j (pos 0) ≡ mean (window_at size j a)
-  pub cell : (j : ℕ) → j < done → IsCell (get_or out j (pos 0))
-
-module _ (size : ℕ) (a : List ℤ) where
-  pub no_means : (out : List ℤ) → AreMeans size a 0 out
-  no_means out = record { each = λ j h. absurd (omega (arith, h)); cell = λ j h. absurd (omega (arith, h)) }
-
-  pub one_mean : (done : ℕ) (out : List ℤ) (x : ℤ) → AreMeans size a done out → done < length out → x ≡ mean (window_at size done a) → IsCell x → AreMeans size a (done + 1) (set out done x)
-  one_mean done out x so_far room e is_cell = record {
-    each = λ j h. elim (cases_eq j done) [
-      | inl p ↦ ap (λ k. get_or (set out done x) k (pos 0)) p ∙ get_or-set_same out done x (pos 0) room ∙ e ∙ ap (λ k. mean (window_at size k a)) (sym p)
-      | inr p ↦ get_or-set_other out done j x (pos 0) p ∙ so_far.each j (omega (arith, h, p))
-    ];
-    cell = λ j h. elim (cases_eq j done) [
-      | inl p ↦ subst IsCell (sym (ap (λ k. get_or (set out done x) k (pos 0)) p ∙ get_or-set_same out done x (pos 0) room)) is_cell
-      | inr p ↦ subst IsCell (sym (get_or-set_other out done j x (pos 0) p)) (so_far.cell j (omega (arith, h, p)))
-    ];
-  }
-
-  pub means_are : (b c : List ℤ) (n done : ℕ) (out : List ℤ) → n ≤ done → AreMeans size a done out → AreValues (Window SimpleMovingAverage) size a b c n out
-  unfolding formula
-  means_are b c n done out few m = record { each = λ j h. m.each j (omega (arith, few, h)); cell = λ j h. m.cell j (omega (arith, few, h)) }
-
 pub window_long : (size k : ℕ) (xs : List ℤ) → k + size ≤ length xs → length (window_at size k xs) ≡ size
 window_long size k xs room = let d = length-drop k xs in let t = length-take size (drop k xs) in omega (arith, d, t, room)
 
--- ---- means with weights
-
-module _ (ws a : List ℤ) where
-  pub none_weighted : (out : List ℤ) → AreWeighted ws a 0 out
-  none_weighted out = record { each = λ j h. absurd (omega (arith, h)); cell = λ j h. absurd (omega (arith, h)) }
-
-  pub one_weighted : (done : ℕ) (out : List ℤ) (x : ℤ) → AreWeighted ws a done out → done < length out → x ≡ mean_by ws (window_at (length ws) done a) → IsCell x
-      → AreWeighted ws a (done + 1) (set out done x)
-  one_weighted done out x so_far room e is_cell = record {
-    each = λ j h. elim (cases_eq j done) [
-      | inl p ↦ ap (λ k. get_or (set out done x) k (pos 0)) p ∙ get_or-set_same out done x (pos 0) room ∙ e ∙ ap (λ k. mean_by ws (window_at (length ws) k a)) (sym p)
-      | inr p ↦ get_or-set_other out done j x (pos 0) p ∙ so_far.each j (omega (arith, h, p))
-    ];
-    cell = λ j h. elim (cases_eq j done) [
-      | inl p ↦ subst IsCell (sym (ap (λ k. get_or (set out done x) k (pos 0)) p ∙ get_or-set_same out done x (pos 0) room)) is_cell
-      | inr p ↦ subst IsCell (sym (get_or-set_other out done j x (pos 0) p)) (so_far.cell j (omega (arith, h, p)))
-    ];
-  }
-
-  pub weighted_are : (n done : ℕ) (out : List ℤ) → n ≤ done → AreWeighted ws a done out → AreWeighted ws a n out
-  weighted_are n done out few m = record { each = λ j h. m.each j (omega (arith, few, h)); cell = λ j h. m.cell j (omega (arith, few, h)) }
-
 -- the weights fade
-module _ (d : ℤ) (size n : ℕ) (a ws out : List ℤ) (long : length ws ≡ size) (is : ws ≡ map (faded d) (downward size)) (room : size + n ≤ length a + 1) (means : AreWeighted ws a n out) where
+module _ (d : ℤ) (size n : ℕ) (a ws out : List ℤ) (long : length ws ≡ size) (is : ws ≡ map (faded d) (downward size)) (room : size + n ≤ length a + 1) (means : AreGiven (weighted_at ws a) n out) where
   faded_at : (j : ℕ) → j < n → mean_by ws (window_at (length ws) j a) ≡ faded_mean d (window_at size j a)
   faded_at j h =
       let wide : length (window_at size j a) ≡ size = window_long size j a (omega (arith, h, room)) in

@@ -6,5 +6,4 @@ pub mod Following
 pub mod Latest
 pub mod Peaks
 pub mod Sliding
-pub mod Squares
 pub mod Windows

@@ -6,25 +6,24 @@ use Rattle.std.specs.Int.RustNames.{int_lt}
 use Rattle.std.proofs.lemmas.Int.{ints, to_z-of_z}
 use Rattle.std.proofs.lemmas.List.Elements.{All-take, All-tail}
 use Rattle.pl_spec.specs.Rounding.{MISSING, LIMIT, IsCell, is_missing}
-use Rattle.pl_spec.specs.Cells.{greatest, least}
-use Rattle.pl_lanes.specs.Heights.{height, depth, peak}
+use Rattle.pl_lanes.specs.Heights.{height, depth, peak, rank, best_of}
 use Rattle.pl_lanes.proofs.Bits.{cell-fits}
 use Rattle.pl_lanes.proofs.Cells.{is_within, is_gone, missing-is}
-use Rattle.pl_lanes.proofs.Heights.{height-missing, height-there, depth-missing, depth-there, greatest-height, least-depth, from-height, from-depth}
+use Rattle.pl_lanes.proofs.Heights.{height-missing, height-there, depth-missing, depth-there, best-rank, from-height, from-depth}
 use Rattle.pl_running.specs.Kept.{Kept}
-use Rattle.pl_running.specs.Spans.{before, last}
-use Rattle.pl_running.specs.Laws.{GreatestSlides, LeastSlides, least_of}
+use Rattle.pl_running.specs.Spans.{before, after, first, last}
+use Rattle.pl_running.specs.Laws.{least_of, better}
 use Rattle.pl_running.proofs.Sliding.{whole}
 use Rattle.pl_running.proofs.Bounds.{at-cell}
-use Rattle.pl_running.proofs.Exact.{same}
+use Rattle.pl_factors.proofs.Exact.{same}
 
 -- ---- heights tell cells apart and order them
 
-pub height-same : (x y : ℤ) → IsCell x → IsCell y → height x ≡ height y → x ≡ y
+height-same : (x y : ℤ) → IsCell x → IsCell y → height x ≡ height y → x ≡ y
 height-same x y p q e =
     sym (from-height x (cell-fits x p)) ∙ ap (λ h. to_z w64 ((h + 2 ^ 63) % 2 ^ 64)) e ∙ from-height y (cell-fits y q)
 
-pub depth-same : (x y : ℤ) → IsCell x → IsCell y → depth x ≡ depth y → x ≡ y
+depth-same : (x y : ℤ) → IsCell x → IsCell y → depth x ≡ depth y → x ≡ y
 depth-same x y p q e =
     sym (from-depth x (cell-fits x p)) ∙ ap (λ h. to_z w64 (((0 + (2 ^ 64 - h)) % 2 ^ 64 + 2 ^ 63) % 2 ^ 64)) e ∙ from-depth y (cell-fits y q)
 
@@ -39,6 +38,16 @@ highest x y p q = here (int_lt y x) refl (height-of x p) (height-of y q)
     here : (b : Bool) → int_lt y x ≡ b → pos (height x) ≡ x +ℤ pos (2 ^ 63) → pos (height y) ≡ y +ℤ pos (2 ^ 63) → height (cond b x y) ≡ max (height x) (height y)
     here true e p q = omega (arith, ints)
     here false e p q = omega (arith, ints)
+
+pub rank-same : (low : Bool) (x y : ℤ) → IsCell x → IsCell y → rank low x ≡ rank low y → x ≡ y
+unfolding rank
+rank-same true = depth-same
+rank-same false = height-same
+
+pub rank-missing : (low : Bool) → rank low MISSING ≡ 0
+unfolding rank
+rank-missing true = depth-missing
+rank-missing false = height-missing
 
 -- ---- the two windows of a span share all but one cell each
 
@@ -95,47 +104,37 @@ least_of-cell x y p q = here (is_missing x) (is_missing y) (int_lt y x)
     here false false true = q
     here false false false = p
 
-pub greatest-slides : GreatestSlides
-greatest-slides [] cells some leaves = absurd (omega arith)
-greatest-slides (x ∷ []) cells some leaves = absurd (omega arith)
-greatest-slides (x ∷ m ∷ ms) cells some leaves =
-    let xs = x ∷ m ∷ ms in
-    let g = greatest (before xs) in
-    let old = (greatest-height (before xs) (All-take IsCell (length xs - 1) xs cells)).1 in
-    let new = (greatest-height (m ∷ ms) (All-tail IsCell x (m ∷ ms) cells)).1 in
-    let y = at-cell xs (length xs - 1) cells in
-    let told : (height x ≢ height g) ⊎ (height g ≡ 0) = tell leaves (cells 0 x (omega arith)) old in
-    height-same (greatest (m ∷ ms)) (int_max g (last xs)) new (max-cell g (last xs) old y)
-    (best-slides height greatest greatest-height x m ms cells told ∙ sym (highest g (last xs) old y))
-  where
-    tell : {g : ℤ} → (x ≢ g) ⊎ (g ≡ MISSING) → IsCell x → IsCell g → (height x ≢ height g) ⊎ (height g ≡ 0)
-    tell {g} (inl unlike) p q = inl (λ e. unlike (height-same x g p q e))
-    tell {g} (inr is) p q = inr (ap height is ∙ height-missing)
+better-cell : (low : Bool) (x y : ℤ) → IsCell x → IsCell y → IsCell (better low x y)
+better-cell true = least_of-cell
+better-cell false = max-cell
 
-pub least-slides : LeastSlides
-least-slides [] cells some leaves = absurd (omega arith)
-least-slides (x ∷ []) cells some leaves = absurd (omega arith)
-least-slides (x ∷ m ∷ ms) cells some leaves =
+better-rank : (low : Bool) (x y : ℤ) → IsCell x → IsCell y → rank low (better low x y) ≡ max (rank low x) (rank low y)
+unfolding rank
+better-rank true = lowest
+better-rank false = highest
+
+pub best-cell : (low : Bool) (xs : List ℤ) → All IsCell xs → IsCell (best_of low xs)
+best-cell low xs cells = (best-rank low xs cells).1
+
+pub best-moves : (low : Bool) (xs : List ℤ) → All IsCell xs → 2 ≤ length xs → (first xs ≢ best_of low (before xs)) ⊎ (best_of low (before xs) ≡ MISSING)
+    → best_of low (after xs) ≡ better low (best_of low (before xs)) (last xs)
+best-moves low [] cells some leaves = absurd (omega arith)
+best-moves low (x ∷ []) cells some leaves = absurd (omega arith)
+best-moves low (x ∷ m ∷ ms) cells some leaves =
     let xs = x ∷ m ∷ ms in
-    let g = least (before xs) in
-    let old = (least-depth (before xs) (All-take IsCell (length xs - 1) xs cells)).1 in
-    let new = (least-depth (m ∷ ms) (All-tail IsCell x (m ∷ ms) cells)).1 in
+    let g = best_of low (before xs) in
+    let old = best-cell low (before xs) (All-take IsCell (length xs - 1) xs cells) in
+    let new = best-cell low (m ∷ ms) (All-tail IsCell x (m ∷ ms) cells) in
     let y = at-cell xs (length xs - 1) cells in
-    let told : (depth x ≢ depth g) ⊎ (depth g ≡ 0) = tell leaves (cells 0 x (omega arith)) old in
-    depth-same (least (m ∷ ms)) (least_of g (last xs)) new (least_of-cell g (last xs) old y)
-    (best-slides depth least least-depth x m ms cells told ∙ sym (lowest g (last xs) old y))
+    let told : (rank low x ≢ rank low g) ⊎ (rank low g ≡ 0) = tell leaves (cells 0 x (omega arith)) old in
+    rank-same low (best_of low (m ∷ ms)) (better low g (last xs)) new (better-cell low g (last xs) old y)
+    (best-slides (rank low) (best_of low) (best-rank low) x m ms cells told ∙ sym (better-rank low g (last xs) old y))
   where
-    tell : {g : ℤ} → (x ≢ g) ⊎ (g ≡ MISSING) → IsCell x → IsCell g → (depth x ≢ depth g) ⊎ (depth g ≡ 0)
-    tell {g} (inl unlike) p q = inl (λ e. unlike (depth-same x g p q e))
-    tell {g} (inr is) p q = inr (ap depth is ∙ depth-missing)
+    tell : {g : ℤ} → (x ≢ g) ⊎ (g ≡ MISSING) → IsCell x → IsCell g → (rank low x ≢ rank low g) ⊎ (rank low g ≡ 0)
+    tell {g} (inl unlike) p q = inl (λ e. unlike (rank-same low x g p q e))
+    tell {g} (inr is) p q = inr (ap (rank low) is ∙ rank-missing low)
 
 -- ---- cells in 64 and 128 bits
-
-pub greatest-cell : (xs : List ℤ) → All IsCell xs → IsCell (greatest xs)
-greatest-cell xs cells = (greatest-height xs cells).1
-
-pub least-cell : (xs : List ℤ) → All IsCell xs → IsCell (least xs)
-least-cell xs cells = (least-depth xs cells).1
 
 cell-small : (g : ℤ) → IsCell g → unsigned_abs g ≤ 10 ^ 38
 cell-small g (inl e) = rw e (omega arith)

@@ -5,13 +5,13 @@ use Rattle.std.proofs.lemmas.List.Elements.{filter-append}
 use Rattle.std.proofs.lemmas.List.{get_or-take, length-take, length-drop}
 use Rattle.pl_spec.specs.Rounding.{is_missing, is_present}
 use Rattle.pl_spec.specs.Cells.{present_values, total, count}
-use Rattle.pl_pipeline.specs.Formula.{products, places, differences, gains, losses}
+use Rattle.pl_pipeline.specs.Formula.{products, places, differences}
 use Rattle.pl_lanes.proofs.Cells.{total-cons}
-use Rattle.pl_factors.specs.Terms.{product, gain, loss}
+use Rattle.pl_factors.specs.Terms.{product, swing, total_swings}
 use Rattle.pl_factors.proofs.Sums.{sum_terms, terms-first, terms-same}
-use Rattle.pl_factors.proofs.Products.{product-sum, placed-sum, gains-sum, losses-sum}
+use Rattle.pl_factors.proofs.Products.{product-sum, placed-sum, swings-sum}
 use Rattle.pl_running.specs.Spans.{before, after, first, last, part, presence}
-use Rattle.pl_running.specs.Laws.{moved, SumSlides, CountSlides, ProductsSlide, PlacedSlides, GainsSlide, LossesSlide}
+use Rattle.pl_running.specs.Laws.{moved, SumSlides, CountSlides, ProductsSlide, PlacedSlides}
 
 -- ---- terms
 
@@ -137,7 +137,7 @@ placed-slides xs some =
 -- ---- gains and losses of neighbours
 
 module _ (T : List ℤ → ℤ) (f : ℤ → ℤ → ℤ) (is : (xs : List ℤ) → T xs ≡ sum_terms (λ i. f (get_or xs i (pos 0)) (get_or xs (i + 1) (pos 0))) (length xs - 1)) where
-  pub neighbours-slide : (xs : List ℤ) → 2 ≤ length xs
+  neighbours-slide : (xs : List ℤ) → 2 ≤ length xs
       → T (after xs) ≡ moved (T (before xs)) (f (first xs) (get_or xs 1 (pos 0))) (f (get_or xs (length xs - 2) (pos 0)) (last xs))
   neighbours-slide xs some =
       let n = length xs - 2 in
@@ -154,8 +154,7 @@ module _ (T : List ℤ → ℤ) (f : ℤ → ℤ → ℤ) (is : (xs : List ℤ) 
       let enters : g n ≡ f (get_or xs n (pos 0)) (last xs) = ap (λ k. f (get_or xs n (pos 0)) (get_or xs k (pos 0))) end in
       new ∙ terms-slide g n ∙ ap₂ (λ t u. moved t (g 0) u) (sym old) enters
 
-pub gains-slide : GainsSlide
-gains-slide xs some = neighbours-slide (λ l. gains (differences l)) gain gains-sum xs some
-
-pub losses-slide : LossesSlide
-losses-slide xs some = neighbours-slide (λ l. losses (differences l)) loss losses-sum xs some
+pub swings-slide : (falls : Bool) (xs : List ℤ) → 2 ≤ length xs
+    → total_swings falls (differences (after xs))
+    ≡ moved (total_swings falls (differences (before xs))) (swing falls (first xs) (get_or xs 1 (pos 0))) (swing falls (get_or xs (length xs - 2) (pos 0)) (last xs))
+swings-slide falls xs some = neighbours-slide (λ l. total_swings falls (differences l)) (swing falls) (swings-sum falls) xs some

@@ -1,8 +1,9 @@
 -- What is kept of the windows of a formula: sums from which its value follows, and which move with the
 -- windows.
-use Rattle.std.specs.Prelude.{ℕ, ℤ, pos, List, unwrap_or, position}
-use Rattle.std.specs.Ordering.{int_eq}
+use Rattle.std.specs.Prelude.{Bool, true, false, ℕ, ℤ, pos, List}
 use Rattle.pl_spec.specs.Cells.{present_values, total, count, greatest, least}
+use Rattle.pl_lanes.specs.Heights.{best_of}
+use Rattle.pl_factors.specs.Terms.{first_place}
 use Rattle.pl_pipeline.specs.Formula.{products, places, differences, gains, losses}
 use Rattle.pl_pipeline.specs.Kind.{Kind, WindowKind}
 use Rattle.pl_pipeline.specs.Kind.Kind.{Window}
@@ -37,27 +38,17 @@ placed a = record { main = total (present_values a); beside = total (products (p
 abbrev pub swings : List ℤ → Kept
 swings a = record { main = gains (differences a); beside = losses (differences a); number = 0 }
 
--- the greatest cell, and the least
-abbrev pub highest : List ℤ → Kept
-highest a = record { main = greatest a; beside = pos 0; number = 0 }
-
-abbrev pub lowest : List ℤ → Kept
-lowest a = record { main = least a; beside = pos 0; number = 0 }
+-- the least cell, or the greatest
+abbrev pub kept_best : Bool → List ℤ → Kept
+kept_best low a = record { main = best_of low a; beside = pos 0; number = 0 }
 
 -- the least low and the greatest high
 abbrev pub range : List ℤ → List ℤ → Kept
 range low high = record { main = least low; beside = greatest high; number = 0 }
 
--- the place of the first cell that is x, from 0 for the oldest
-unfoldable pub first_place : ℤ → List ℤ → ℕ
-first_place x xs = unwrap_or (position (λ y. int_eq y x) xs) 0
-
--- the greatest cell, or the least, and its first place
-abbrev pub placed_highest : List ℤ → Kept
-placed_highest a = record { main = greatest a; beside = pos 0; number = first_place (greatest a) a }
-
-abbrev pub placed_lowest : List ℤ → Kept
-placed_lowest a = record { main = least a; beside = pos 0; number = first_place (least a) a }
+-- the least cell, or the greatest, and its first place
+abbrev pub placed_best : Bool → List ℤ → Kept
+placed_best low a = record { main = best_of low a; beside = pos 0; number = first_place (best_of low a) a }
 
 -- nothing for a kind whose formula is computed anew
 abbrev pub kept_of_window : WindowKind → List ℤ → List ℤ → List ℤ → Kept
@@ -76,11 +67,11 @@ kept_of_window WeightedAverageValue a b c = weighted a b
 kept_of_window AverageDollarVolume a b c = weighted a b
 kept_of_window LinearWeightedMovingAverage a b c = placed a
 kept_of_window RSI a b c = swings a
-kept_of_window WindowMax a b c = highest a
-kept_of_window WindowMin a b c = lowest a
+kept_of_window WindowMax a b c = kept_best false a
+kept_of_window WindowMin a b c = kept_best true a
 kept_of_window FastStochasticOscillator a b c = range b c
-kept_of_window AroonUp a b c = placed_highest a
-kept_of_window AroonDown a b c = placed_lowest a
+kept_of_window AroonUp a b c = placed_best false a
+kept_of_window AroonDown a b c = placed_best true a
 kept_of_window k a b c = nothing
 
 unfoldable pub kept_of : Kind → List ℤ → List ℤ → List ℤ → Kept

@@ -34,7 +34,11 @@ pub record AreValues (k : Kind) (size : ℕ) (a b c : List ℤ) (done : ℕ) (ou
   pub each : (j : ℕ) → j < done → get_or out j (pos 0) ≡ formula_at k size a b c j
   pub cell : (j : ℕ) → j < done → IsCell (get_or out j (pos 0))
 
--- the first cells are the means of the first windows with these weights
-pub record AreWeighted (weights a : List ℤ) (done : ℕ) (out : List ℤ) : Type 0 where
-  pub each : (j : ℕ) → j < done → get_or out j (pos 0) ≡ mean_by weights (window_at (length weights) j a)
+-- the first cells are what f gives for their places
+pub record AreGiven (f : ℕ → ℤ) (done : ℕ) (out : List ℤ) : Type 0 where
+  pub each : (j : ℕ) → j < done → get_or out j (pos 0) ≡ f j
   pub cell : (j : ℕ) → j < done → IsCell (get_or out j (pos 0))
+
+-- the mean of the window of place j with these weights
+abbrev pub weighted_at : List ℤ → List ℤ → ℕ → ℤ
+weighted_at weights a j = mean_by weights (window_at (length weights) j a)

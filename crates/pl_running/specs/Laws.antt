@@ -1,10 +1,10 @@
 -- How the sums of a window move when it loses its first cell and gains a last one.
-use Rattle.std.specs.Prelude.{◌≡◌, ℕ, suc, ◌<◌, map, ◌+◌, ◌-◌, ◌≤◌, ℤ, pos, ◌+ℤ◌, ◌-ℤ◌, ◌*ℤ◌, List, length, get_or, ◌≢◌, ◌⊎◌, if◌then◌else◌}
+use Rattle.std.specs.Prelude.{◌≡◌, Bool, ℕ, suc, ◌<◌, map, ◌+◌, ◌-◌, ◌≤◌, ℤ, pos, ◌+ℤ◌, ◌-ℤ◌, List, length, get_or, ◌≢◌, ◌⊎◌, if◌then◌else◌}
 use Rattle.pl_spec.specs.Cells.{present_values, total, count, greatest, least}
 use Rattle.pl_pipeline.specs.Formula.{products, places, differences, gains, losses}
 use Rattle.std.specs.List.{All}
 use Rattle.std.specs.Int.{int_max, int_min}
-use Rattle.pl_spec.specs.Rounding.{IsCell, MISSING, is_missing}
+use Rattle.pl_spec.specs.Rounding.{IsCell, MISSING, is_missing, add, sub}
 use Rattle.pl_spec.specs.Window.{downward}
 use Rattle.pl_factors.specs.Terms.{product, gain, loss}
 use Rattle.pl_running.specs.Spans.{before, after, first, last, part, presence}
@@ -13,9 +13,9 @@ use Rattle.pl_running.specs.Spans.{before, after, first, last, part, presence}
 abbrev pub moved : ℤ → ℤ → ℤ → ℤ
 moved sum leaves enters = sum -ℤ leaves +ℤ enters
 
--- the sum of the squares about m, from those about 0, the sum and the count
-abbrev pub about : ℤ → ℤ → ℤ → ℤ → ℤ
-about m squares sum n = squares -ℤ (m *ℤ sum) +ℤ (m *ℤ ((m *ℤ n) -ℤ sum))
+-- the one less the other, or both
+abbrev pub shifted : Bool → ℤ → ℤ → ℤ
+shifted less x y = if less then sub x y else add x y
 
 abbrev pub SumSlides : Type 0
 SumSlides = (xs : List ℤ) → 1 ≤ length xs
@@ -49,6 +49,10 @@ LossesSlide = (xs : List ℤ) → 2 ≤ length xs
 -- the lesser of two cells, where MISSING stands for none
 abbrev pub least_of : ℤ → ℤ → ℤ
 least_of x y = if is_missing x then y else if is_missing y then x else int_min x y
+
+-- the better of two cells where the least one is the best, and where the greatest one is
+abbrev pub better : Bool → ℤ → ℤ → ℤ
+better low x y = if low then least_of x y else int_max x y
 
 -- the greatest cell, unless it leaves; where it is MISSING, none is present
 abbrev pub GreatestSlides : Type 0

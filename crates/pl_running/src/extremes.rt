@@ -5,32 +5,22 @@
 ghost use Rattle.std.specs.Prelude.{◌≡◌, ◌≤◌, length};
 ghost use Rattle.std.specs.List.{All};
 ghost use Rattle.pl_spec.specs.Rounding.{IsCell};
-ghost use Rattle.pl_spec.specs.Cells.{greatest, least};
-ghost use Rattle.pl_running.specs.Kept.{highest, lowest, range};
-ghost use Rattle.pl_running.specs.Laws.{least_of};
+ghost use Rattle.pl_lanes.specs.Heights.{best_of};
+ghost use Rattle.pl_running.specs.Kept.{kept_best, range};
+ghost use Rattle.pl_running.specs.Laws.{least_of, better};
 ghost use Rattle.pl_running.specs.Spans.{before, after};
 
 use crate::running::Running;
 use pl_fixed::MISSING;
-use pl_lanes::{max_present, min_present};
+use pl_lanes::{best_present, max_present, min_present};
 
-pub(crate) fn highest_of(a: &[i64]) -> Running
+// The least cell where `low` is true, else the greatest.
+pub(crate) fn best_kept(low: bool, a: &[i64]) -> Running
     requires cells { All IsCell a.now }
-    ensures { result ≡ highest a.now }
+    ensures { result ≡ kept_best low a.now }
 {
     Running {
-        main: max_present(a) as i128,
-        beside: 0,
-        number: 0,
-    }
-}
-
-pub(crate) fn lowest_of(a: &[i64]) -> Running
-    requires cells { All IsCell a.now }
-    ensures { result ≡ lowest a.now }
-{
-    Running {
-        main: min_present(a) as i128,
+        main: best_present(low, a) as i128,
         beside: 0,
         number: 0,
     }
@@ -48,27 +38,15 @@ pub(crate) fn range_of(low: &[i64], high: &[i64]) -> Running
     }
 }
 
-pub(crate) fn next_highest(kept: &Running, a: &[i64]) -> Running
+#[inline(always)]
+pub(crate) fn next_kept(low: bool, kept: &Running, a: &[i64]) -> Running
     requires cells { All IsCell a.now }
     requires some { 2 ≤ length a.now }
-    requires stands { kept.now ≡ highest (before a.now) }
-    ensures { result ≡ highest (after a.now) }
+    requires stands { kept.now ≡ kept_best low (before a.now) }
+    ensures { result ≡ kept_best low (after a.now) }
 {
     Running {
-        main: next_greatest(kept.main as i64, a) as i128,
-        beside: 0,
-        number: 0,
-    }
-}
-
-pub(crate) fn next_lowest(kept: &Running, a: &[i64]) -> Running
-    requires cells { All IsCell a.now }
-    requires some { 2 ≤ length a.now }
-    requires stands { kept.now ≡ lowest (before a.now) }
-    ensures { result ≡ lowest (after a.now) }
-{
-    Running {
-        main: next_least(kept.main as i64, a) as i128,
+        main: next_best(low, kept.main as i64, a) as i128,
         beside: 0,
         number: 0,
     }
@@ -82,8 +60,8 @@ pub(crate) fn next_range(kept: &Running, low: &[i64], high: &[i64]) -> Running
     requires stands { kept.now ≡ range (before low.now) (before high.now) }
     ensures { result ≡ range (after low.now) (after high.now) }
 {
-    let main = next_least(kept.main as i64, low) as i128;
-    let beside = next_greatest(kept.beside as i64, high) as i128;
+    let main = next_best(true, kept.main as i64, low) as i128;
+    let beside = next_best(false, kept.beside as i64, high) as i128;
     Running {
         main,
         beside,
@@ -91,30 +69,25 @@ pub(crate) fn next_range(kept: &Running, low: &[i64], high: &[i64]) -> Running
     }
 }
 
-fn next_greatest(best: i64, a: &[i64]) -> i64
+#[inline(always)]
+fn next_best(low: bool, best: i64, a: &[i64]) -> i64
     requires cells { All IsCell a.now }
     requires some { 2 ≤ length a.now }
-    requires is { best ≡ greatest (before a.now) }
-    ensures { result ≡ greatest (after a.now) }
+    requires is { best ≡ best_of low (before a.now) }
+    ensures { result ≡ best_of low (after a.now) }
 {
     if a[0] == best && best != MISSING {
-        max_present(&a[1..])
+        best_present(low, &a[1..])
     } else {
-        best.max(a[a.len() - 1])
+        better(low, best, a[a.len() - 1])
     }
 }
 
-fn next_least(best: i64, a: &[i64]) -> i64
-    requires cells { All IsCell a.now }
-    requires some { 2 ≤ length a.now }
-    requires is { best ≡ least (before a.now) }
-    ensures { result ≡ least (after a.now) }
+#[inline(always)]
+fn better(low: bool, best: i64, x: i64) -> i64
+    ensures { result ≡ better low best x }
 {
-    if a[0] == best && best != MISSING {
-        min_present(&a[1..])
-    } else {
-        lesser(best, a[a.len() - 1])
-    }
+    if low { lesser(best, x) } else { best.max(x) }
 }
 
 // The lesser of two cells; the other where one is missing.

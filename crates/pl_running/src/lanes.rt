@@ -9,7 +9,7 @@ ghost use Rattle.pl_pipeline.specs.Kind.WindowKind.{SimpleMovingAverage};
 ghost use Rattle.pl_terms.specs.Kinds.{kind_of};
 ghost use Rattle.pl_factors.specs.Kinds.{formula_of};
 ghost use Rattle.pl_running.specs.Kept.{kept_of};
-ghost use Rattle.pl_running.specs.Lanes.{AreValues, AreWeighted, TakesLanes, window_at};
+ghost use Rattle.pl_running.specs.Lanes.{AreGiven, AreValues, TakesLanes, weighted_at, window_at};
 ghost use Rattle.pl_running.specs.Spans.{TakesSpans, TakesWindows, after, before, takes_range};
 
 use crate::running::{Running, keeps};
@@ -186,7 +186,7 @@ fn fill_weighted(weights: &[i64], sum: i128, a: &[i64], out: &mut [i64])
     requires sum { sum ≡ total weights.now }
     requires small { unsigned_abs sum ≤ most_window * MILLION }
     requires long { length weights.now + length out.old ≤ length a.now + 1 }
-    ensures { AreWeighted weights.now a.now (length out.old) out.new }
+    ensures { AreGiven (weighted_at weights.now a.now) (length out.old) out.new }
 {
     for k in 0..out.len() {
         out[k] = mean_by(weights, sum, window_at(a, k, weights.len()));

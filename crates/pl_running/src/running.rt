@@ -7,11 +7,9 @@ ghost use Rattle.pl_factors.specs.Kinds.{formula_of};
 ghost use Rattle.pl_running.specs.Kept.{Kept, nothing, kept_of};
 ghost use Rattle.pl_running.specs.Spans.{TakesWindows, TakesSpans, before, after};
 
-use crate::deviations::{bollinger_lower, bollinger_upper, deviation};
-use crate::extremes::{highest_of, lowest_of, next_highest, next_lowest, next_range, range_of};
-use crate::places::{
-    next_placed_highest, next_placed_lowest, place_value, placed_highest_of, placed_lowest_of,
-};
+use crate::deviations::{bollinger, deviation};
+use crate::extremes::{best_kept, next_kept, next_range, range_of};
+use crate::places::{next_placed_best, place_value, placed_best};
 use crate::starts::{placed_of, spreads_of, sums_of, swings_of, weighted_of};
 use crate::steps::{next_placed, next_spreads, next_sums, next_swings, next_weighted};
 use crate::values::{
@@ -57,11 +55,11 @@ impl Running {
             TermKind::AverageDollarVolume => weighted_of(a, b),
             TermKind::LinearWeightedMovingAverage => placed_of(a),
             TermKind::RSI => swings_of(a),
-            TermKind::WindowMax => highest_of(a),
-            TermKind::WindowMin => lowest_of(a),
+            TermKind::WindowMax => best_kept(false, a),
+            TermKind::WindowMin => best_kept(true, a),
             TermKind::FastStochasticOscillator => range_of(b, c),
-            TermKind::AroonUp => placed_highest_of(a),
-            TermKind::AroonDown => placed_lowest_of(a),
+            TermKind::AroonUp => placed_best(false, a),
+            TermKind::AroonDown => placed_best(true, a),
             _ => nothing(),
         }
     }
@@ -87,11 +85,11 @@ impl Running {
             TermKind::AverageDollarVolume => next_weighted(self, a, b),
             TermKind::LinearWeightedMovingAverage => next_placed(self, a),
             TermKind::RSI => next_swings(self, a),
-            TermKind::WindowMax => next_highest(self, a),
-            TermKind::WindowMin => next_lowest(self, a),
+            TermKind::WindowMax => next_kept(false, self, a),
+            TermKind::WindowMin => next_kept(true, self, a),
             TermKind::FastStochasticOscillator => next_range(self, b, c),
-            TermKind::AroonUp => next_placed_highest(self, a),
-            TermKind::AroonDown => next_placed_lowest(self, a),
+            TermKind::AroonUp => next_placed_best(false, self, a),
+            TermKind::AroonDown => next_placed_best(true, self, a),
             _ => nothing(),
         };
     }
@@ -113,8 +111,8 @@ impl Running {
             TermKind::AtLeastN { n } => at_least(self, *n as usize, a),
             TermKind::AllPresent => all_present(self, a),
             TermKind::WindowStd => deviation(self, a),
-            TermKind::BollingerLower { k } => bollinger_lower(self, a, *k),
-            TermKind::BollingerUpper { k } => bollinger_upper(self, a, *k),
+            TermKind::BollingerLower { k } => bollinger(true, self, a, *k),
+            TermKind::BollingerUpper { k } => bollinger(false, self, a, *k),
             TermKind::VWAP | TermKind::WeightedAverageValue => weighted_mean(self, a, b),
             TermKind::AverageDollarVolume => average_dollar_volume(self, a, b),
             TermKind::LinearWeightedMovingAverage => linear_weighted(self, a),

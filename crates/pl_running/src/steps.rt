@@ -84,8 +84,8 @@ pub(crate) fn next_swings(kept: &Running, a: &[i64]) -> Running
     requires stands { kept.now ≡ swings (before a.now) }
     ensures { result ≡ swings (after a.now) }
 {
-    let main = sums::next_gains(kept.main, a);
-    let beside = sums::next_losses(kept.beside, a);
+    let main = sums::next_swings(false, kept.main, a);
+    let beside = sums::next_swings(true, kept.beside, a);
     Running {
         main,
         beside,

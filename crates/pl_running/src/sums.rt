@@ -6,11 +6,12 @@ ghost use Rattle.std.specs.List.{All};
 ghost use Rattle.pl_spec.specs.Limits.{most_window};
 ghost use Rattle.pl_spec.specs.Rounding.{IsCell};
 ghost use Rattle.pl_spec.specs.Cells.{present_values, total, count};
-ghost use Rattle.pl_pipeline.specs.Formula.{products, places, differences, gains, losses};
+ghost use Rattle.pl_pipeline.specs.Formula.{products, places, differences};
+ghost use Rattle.pl_factors.specs.Terms.{total_swings};
 ghost use Rattle.pl_running.specs.Spans.{before, after};
 
 use crate::parts::{moved, part, presence};
-use pl_factors::{gain, loss, product};
+use pl_factors::{product, swing};
 
 pub(crate) fn next_sum(sum: i128, a: &[i64]) -> i128
     requires cells { All IsCell a.now }
@@ -58,24 +59,19 @@ pub(crate) fn next_placed(placed: i128, sum: i128, a: &[i64]) -> i128
     moved(placed, sum, product(last as i64, a[last]))
 }
 
-pub(crate) fn next_gains(kept: i128, a: &[i64]) -> i128
+// How far the cells fell where `falls` is true, else how far they rose.
+#[inline(always)]
+pub(crate) fn next_swings(falls: bool, kept: i128, a: &[i64]) -> i128
     requires cells { All IsCell a.now }
     requires some { 2 ≤ length a.now }
     requires few { length a.now ≤ most_window + 1 }
-    requires is { kept ≡ gains (differences (before a.now)) }
-    ensures { result ≡ gains (differences (after a.now)) }
+    requires is { kept ≡ total_swings falls (differences (before a.now)) }
+    ensures { result ≡ total_swings falls (differences (after a.now)) }
 {
     let last = a.len() - 1;
-    moved(kept, gain(a[0], a[1]), gain(a[last - 1], a[last]))
-}
-
-pub(crate) fn next_losses(kept: i128, a: &[i64]) -> i128
-    requires cells { All IsCell a.now }
-    requires some { 2 ≤ length a.now }
-    requires few { length a.now ≤ most_window + 1 }
-    requires is { kept ≡ losses (differences (before a.now)) }
-    ensures { result ≡ losses (differences (after a.now)) }
-{
-    let last = a.len() - 1;
-    moved(kept, loss(a[0], a[1]), loss(a[last - 1], a[last]))
+    moved(
+        kept,
+        swing(falls, a[0], a[1]),
+        swing(falls, a[last - 1], a[last]),
+    )
 }

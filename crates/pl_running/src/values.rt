@@ -11,7 +11,8 @@ ghost use Rattle.pl_lanes.specs.Flags.{IsFlag};
 ghost use Rattle.pl_running.specs.Kept.{sums, weighted, placed, swings};
 
 use crate::running::Running;
-use pl_factors::{newest, stochastic_of};
+use pl_factors::{newest, stochastic_of, strength_of};
+use pl_filters::{all_present_of, at_least_of};
 use pl_fixed::{MISSING, quot, to_cell};
 
 // The sum of the present cells over their number.
@@ -86,7 +87,7 @@ pub(crate) fn relative_strength(kept: &Running, a: &[i64]) -> i64
         (gains (differences a.now) +ℤ losses (differences a.now)) }
     ensures cell { IsCell result }
 {
-    quot(kept.main * 100_000_000, kept.main + kept.beside)
+    strength_of(kept.main, kept.beside)
 }
 
 // Whether at least `n` values of a filter are true: their sum is the number of the true ones.
@@ -97,7 +98,7 @@ pub(crate) fn at_least(kept: &Running, n: usize, flags: &[i64]) -> i64
     ensures value { result ≡ truth (nat_le n (count_by is_true flags.now)) }
     ensures cell { IsCell result }
 {
-    if n <= kept.main as usize { 1 } else { 0 }
+    at_least_of(n, kept.main, flags)
 }
 
 // Whether no cell is missing.
@@ -106,7 +107,7 @@ pub(crate) fn all_present(kept: &Running, a: &[i64]) -> i64
     ensures value { result ≡ truth (list_all is_present a.now) }
     ensures cell { IsCell result }
 {
-    if kept.number == a.len() { 1 } else { 0 }
+    all_present_of(kept.number, a)
 }
 
 // The greatest cell, or the least.

@@ -9,13 +9,13 @@ use Rattle.pl_filters.proofs.windows.true_count.Goals as goal
 
 pub overflow_cast-result : goal.overflow_cast-result
 overflow_cast-result c =
-    let fits : FitsSigned w128 c.sum_present.result.0 = search rules in
+    let fits : FitsSigned w128 c.args.sum = c.ranges.sum in
     let few : count_by is_true c.args.flags.now ≤ 1260 =
     omega (arith, count_by-le-length is_true c.args.flags.now, c.requires.few) in
-    rw (to_z-of_z w128 _ fits, c.sum_present.ensures.sum, flags-total _ c.requires.flags)
+    rw (to_z-of_z w128 _ fits, c.requires.sum, flags-total _ c.requires.flags)
     (search (rules, few))
 
 pub returns : goal.returns
 returns c =
-    let fits : FitsSigned w128 c.sum_present.result.0 = search rules in
-    rw (to_z-of_z w128 _ fits, c.sum_present.ensures.sum, flags-total _ c.requires.flags) refl
+    let fits : FitsSigned w128 c.args.sum = c.ranges.sum in
+    rw (to_z-of_z w128 _ fits, c.requires.sum, flags-total _ c.requires.flags) refl

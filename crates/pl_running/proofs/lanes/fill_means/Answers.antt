@@ -3,7 +3,7 @@ use Rattle.std.proofs.lemmas.Int.{to_z-of_z}
 use Rattle.pl_pipeline.specs.Formula.{mean}
 use Rattle.pl_spec.specs.Rounding.{IsCell}
 use Rattle.pl_running.specs.Kept.{sums}
-use Rattle.pl_running.proofs.Following.{cells_at, means_are, no_means, one_mean, span_after}
+use Rattle.pl_running.proofs.Following.{cells_at, mean_at, means_are, none_given, one_given, span_after}
 use Rattle.pl_running.proofs.lanes.fill_means.Goals as goal
 
 pub mean-requires-in-loop-k-clause-cells : goal.mean-requires-in-loop-k-clause-cells
@@ -18,7 +18,7 @@ loop-k-init c =
     let r : FitsSigned w64 c.mean.result = search rules in
     rw (to_z-of_z w64 _ r) (record {
       stands = c.sums_of-kept.ensures ∙ ap sums c.window_at-first.ensures;
-      means = one_mean c.args.size c.args.a.now 0 c.args.out.now c.mean.result (no_means c.args.size c.args.a.now c.args.out.now) c.requires.windows
+      means = one_given (mean_at c.args.size c.args.a.now) 0 c.args.out.now c.mean.result (none_given _ c.args.out.now) c.requires.windows
           (c.mean.ensures.value ∙ ap mean c.window_at-first.ensures) c.mean.ensures.cell;
     })
 
@@ -32,7 +32,7 @@ loop-k-preserved c =
     let later : c.loop-k.k + 1 - 1 ≡ c.loop-k.k - 1 + 1 = omega (arith, c.loop-k.auto.k) in
     rw (to_z-of_z w64 _ r) (record {
       stands = c.next_sums-kept.ensures ∙ ap sums (span_after c.args.size c.loop-k.k (c.loop-k.k + 1 - 1) later c.args.a.now _ (λ some. room) c.window_at-span.ensures);
-      means = one_mean c.args.size c.args.a.now c.loop-k.k c.loop-k.out c.mean-in-loop-k.result c.loop-k.invariant.means inside
+      means = one_given (mean_at c.args.size c.args.a.now) c.loop-k.k c.loop-k.out c.mean-in-loop-k.result c.loop-k.invariant.means inside
           (c.mean-in-loop-k.ensures.value ∙ ap mean (c.after.ensures ∙ span_after c.args.size c.loop-k.k c.loop-k.k here c.args.a.now _ (λ some. room) c.window_at-span.ensures)) c.mean-in-loop-k.ensures.cell;
     })
 

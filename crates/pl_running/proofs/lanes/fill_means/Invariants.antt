@@ -1,11 +1,11 @@
 use Rattle.std.proofs.Common.{◌≡◌, ◌-◌}
 use Rattle.pl_running.specs.Kept.{sums}
-use Rattle.pl_running.specs.Lanes.{window_at}
-use Rattle.pl_running.proofs.Following.{AreMeans}
+use Rattle.pl_running.specs.Lanes.{AreGiven, window_at}
+use Rattle.pl_running.proofs.Following.{mean_at}
 use Rattle.pl_running.proofs.lanes.fill_means.Given as goal
 
 abbrev pub invariant-loop-k : goal.invariant-loop-k
 invariant-loop-k l = record {
   stands : l.kept ≡ sums (window_at l.size (l.k - 1) l.a);
-  means : AreMeans l.size l.a l.k l.out;
+  means : AreGiven (mean_at l.size l.a) l.k l.out;
 }
