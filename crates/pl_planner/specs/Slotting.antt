@@ -1,5 +1,5 @@
 -- Slots for the results of terms and for their bar columns, of those that are free the lowest ones.
-use Rattle.std.specs.Prelude.{◌≡◌, ℕ, ◌+◌, ◌<◌, ◌≤◌, ◌⊎◌, Bool, true, false, if◌then◌else◌, List, [], length, get_or, sum_by, count_by}
+use Rattle.std.specs.Prelude.{◌≡◌, ℕ, ◌+◌, ◌<◌, ◌≤◌, ◌⊎◌, Bool, true, false, if◌then◌else◌, List, [], length, get_or, set, sum_by, count_by}
 use Rattle.std.specs.List.{range_with_len}
 use Rattle.pl_spec.specs.Limits.{most_terms}
 use Rattle.pl_planner.specs.declared.uses.Use.{Use}
@@ -59,3 +59,11 @@ pub record IsTaken (uses : List Use) (slots : List TermSlots) (k n : ℕ) (taken
   pub size : length taken ≡ most_terms + 4
   pub tells : Tells (IsHad uses slots k n) taken
   pub few : sum_by one taken ≤ count_by (is_kept uses k) (range_with_len 0 n)
+
+-- the lowest slot that isn't taken is, and is taken then
+pub record Takes (old new : List Bool) (slot : ℕ) : Type 0 where
+  pub before : (i : ℕ) → i < slot → get_or old i false ≡ true
+  pub free : get_or old slot false ≡ false
+  pub taken : new ≡ set old slot true
+  pub count : sum_by one new ≡ sum_by one old + 1
+  pub size : length new ≡ length old

@@ -46,31 +46,20 @@ node-node-requires c =
     let long = ap (λ (l : List _). length l) c.graph-graph.ensures.value in
     omega (arith, c.requires.term, long, c.loop-k.invariant.within, c.loop-k-test.true)
 
-pub read_node-requires-clause-window : goal.read_node-requires-clause-window
-read_node-requires-clause-window c =
+pub read_node-requires : goal.read_node-requires
+read_node-requires c =
     let p = c.args.checked.now in
+    let k = c.loop-k.k - 1 in
     let n = c.node-node.result.now in
-    let is : slice_get p.graph (c.loop-k.k - 1) ≡ Some n = ap (λ ns. slice_get ns (c.loop-k.k - 1)) (sym c.graph-graph.ensures.value) ∙ c.node-node.ensures in
-    let size = sizes p c.requires.asked.checked (c.loop-k.k - 1) (node_of n) (graph-at p.graph (c.loop-k.k - 1) n is) in
-    omega (arith, size.0, window-is n)
-
-pub read_node-requires-clause-room : goal.read_node-requires-clause-room
-read_node-requires-clause-room c =
-    let p = c.args.checked.now in
-    let n = c.node-node.result.now in
-    let is : slice_get p.graph (c.loop-k.k - 1) ≡ Some n = ap (λ ns. slice_get ns (c.loop-k.k - 1)) (sym c.graph-graph.ensures.value) ∙ c.node-node.ensures in
-    let size = sizes p c.requires.asked.checked (c.loop-k.k - 1) (node_of n) (graph-at p.graph (c.loop-k.k - 1) n is) in
-    let at : get_or c.loop-k.depths (c.loop-k.k - 1) None ≡ Some c.in-Some.depth = sym c.depth_of.ensures ∙ c.in-Some.is in
+    let is = graph-at p.graph k n (ap (λ ns. slice_get ns k) (sym c.graph-graph.ensures.value) ∙ c.node-node.ensures) in
+    let size = sizes p c.requires.asked.checked k (node_of n) is in
+    let at : get_or c.loop-k.depths k None ≡ Some c.in-Some.depth = sym c.depth_of.ensures ∙ c.in-Some.is in
     let close : c.back_from-back.result ≤ max c.in-Some.depth c.args.session = near c.args.sessions.now c.args.session (node_of n).kind c.in-Some.depth c.back_from-back.result c.back_from-back.ensures in
-    omega (arith, size.1, window-is n, close, c.requires.session, c.requires.asked.days.few, c.loop-k.invariant.covers.room (c.loop-k.k - 1) c.in-Some.depth at, c.requires.term, graph-long p.graph, c.requires.asked.few)
-
-pub read_node-requires-clause-lower : goal.read_node-requires-clause-lower
-read_node-requires-clause-lower c =
-    let p = c.args.checked.now in
-    let n = c.node-node.result.now in
-    let is : slice_get p.graph (c.loop-k.k - 1) ≡ Some n = ap (λ ns. slice_get ns (c.loop-k.k - 1)) (sym c.graph-graph.ensures.value) ∙ c.node-node.ensures in
-    lower-more (node_of n) (c.loop-k.k - 1) _ (c.requires.asked.checked.graph.lower (c.loop-k.k - 1) (node_of n) (graph-at p.graph (c.loop-k.k - 1) n is))
-    (omega (arith, c.loop-k.invariant.covers.long, c.loop-k.invariant.within, c.loop-k-test.true))
+    record {
+      window = omega (arith, size.0, window-is n);
+      room = omega (arith, size.1, window-is n, close, c.requires.session, c.requires.asked.days.few, c.loop-k.invariant.covers.room k c.in-Some.depth at, c.requires.term, graph-long p.graph, c.requires.asked.few);
+      lower = lower-more (node_of n) k _ (c.requires.asked.checked.graph.lower k (node_of n) is) (omega (arith, c.loop-k.invariant.covers.long, c.loop-k.invariant.within, c.loop-k-test.true));
+    }
 
 pub loop-k-preserved : goal.loop-k-preserved
 loop-k-preserved c =
