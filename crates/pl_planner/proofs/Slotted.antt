@@ -7,7 +7,7 @@ use Rattle.std.proofs.lemmas.List.{length_push}
 use Rattle.pl_planner.specs.declared.uses.Use.{Use}
 use Rattle.pl_planner.specs.declared.slots.TermSlots.{TermSlots}
 use Rattle.pl_planner.specs.Uses.{is_kept}
-use Rattle.pl_planner.specs.Slotting.{no_slots, slots_at, own_slot, kept_below, one, IsHad, IsLowest, IsSlotted, AreSlotted, Takes, Tells, IsTaken}
+use Rattle.pl_planner.specs.Slotting.{no_slots, slots_at, own_slot, kept_below, one, IsHad, IsHadBefore, IsLowest, IsSlotted, AreSlotted, Takes, Tells, IsTaken}
 use Rattle.pl_planner.proofs.Counting.{count_more, one-or}
 
 none_in : (n : ℕ) → sum_by one (replicate n false) ≡ 0
@@ -161,24 +161,57 @@ module _ (T : ℕ → Type 0) (taken new : List Bool) (n slot : ℕ) (is : Stand
     few = (let m = is.few in let e = takes.count in omega arith);
   }
 
+stands_as : (T S : ℕ → Type 0) (taken : List Bool) (n : ℕ) → ((s : ℕ) → T s → S s) → ((s : ℕ) → S s → T s) → Stand T taken n → Stand S taken n
+stands_as T S taken n f g is = record { tells = record { yes = λ s h. is.tells.yes s (g s h); no = λ s h. f s (is.tells.no s h) }; size = is.size; few = is.few }
+
+module _ (uses : List Use) (slots : List TermSlots) (k : ℕ) (new : TermSlots) where
+  abbrev Before : ℕ → ℕ → Type 0
+  Before i s = IsHadBefore uses slots k new i s
+
+  none_before : (s : ℕ) → Before 0 s → IsHad uses slots k k s ⊎ (new.own ≡ s)
+  none_before s (inl h) = h
+  none_before s (inr r) = absurd (omega (arith, r.1))
+
+  one_before : (i s : ℕ) → Before i s ⊎ (get_or new.columns i 0 ≡ s) → Before (i + 1) s
+  one_before i s (inl (inl h)) = inl h
+  one_before i s (inl (inr r)) = inr (r.0, omega (arith, r.1), r.2)
+  one_before i s (inr e) = inr (i, omega arith, e)
+
+  last_before : (i s : ℕ) → Before (i + 1) s → Before i s ⊎ (get_or new.columns i 0 ≡ s)
+  last_before i s (inl h) = inl (inl h)
+  last_before i s (inr r) = elim (cases_lt r.0 i) [
+    | inl l ↦ inl (inr (r.0, l, r.2))
+    | inr l ↦ inr (let e : r.0 ≡ i = omega (arith, r.1, l) in ap (λ j. get_or new.columns j 0) (sym e) ∙ r.2)
+  ]
+
+  -- the i-th column takes its slot
+  column_taken : (i n : ℕ) (taken after : List Bool) → Stand (Before i) taken n → Takes taken after (get_or new.columns i 0) → n < 260 → Stand (Before (i + 1)) after (n + 1)
+  column_taken i n taken after is takes few =
+      stands_as (λ s. Before i s ⊎ (get_or new.columns i 0 ≡ s)) (Before (i + 1)) after (n + 1) (one_before i) (last_before i) (next (Before i) taken after n (get_or new.columns i 0) is takes few)
+
 pub slotted : (uses : List Use) (slots : List TermSlots) (k : ℕ) (taken t1 t2 t3 t4 : List Bool) (own first second third : ℕ) → IsTaken uses slots k k taken → k < 256
     → Takes taken t1 own → Takes t1 t2 first → Takes t2 t3 second → Takes t3 t4 third → IsSlotted uses slots k (record { own = own; columns = first ∷ second ∷ third ∷ [] })
 slotted uses slots k taken t1 t2 t3 t4 own first second third is few a b c d =
+    let new : TermSlots = record { own = own; columns = first ∷ second ∷ third ∷ [] } in
     let n = kept_below uses k in
     let m = count_few uses k k in
     let s0 : Stand (IsHad uses slots k k) taken (kept_below uses k) = record { tells = is.tells; size = is.size; few = is.few } in
-    let s1 = next _ _ _ _ _ s0 a (omega (arith, m)) in
-    let s2 = next _ _ _ _ _ s1 b (omega (arith, m)) in
-    let s3 = next _ _ _ _ _ s2 c (omega (arith, m)) in
+    let s1 : Stand (IsHadBefore uses slots k new 0) t1 (n + 1) = stands_as _ _ t1 (n + 1) (λ s h. inl h) (none_before uses slots k new) (next _ taken t1 n own s0 a (omega (arith, m))) in
+    let s2 : Stand (IsHadBefore uses slots k new 1) t2 (n + 1 + 1) = column_taken uses slots k new 0 (n + 1) t1 t2 s1 b (omega (arith, m)) in
+    let s3 : Stand (IsHadBefore uses slots k new 2) t3 (n + 1 + 1 + 1) = column_taken uses slots k new 1 (n + 1 + 1) t2 t3 s2 c (omega (arith, m)) in
     record {
       own = lowest _ _ _ _ _ s0 a;
-      first = lowest _ _ _ _ _ s1 b;
-      second = lowest _ _ _ _ _ s2 c;
-      third = lowest _ _ _ _ _ s3 d;
+      columns = columns (IsHadBefore uses slots k new) (lowest _ _ _ _ _ s1 b) (lowest _ _ _ _ _ s2 c) (lowest _ _ _ _ _ s3 d);
       below = low _ _ _ _ _ s0 a;
       columns_below = below n (low _ _ _ _ _ s1 b) (low _ _ _ _ _ s2 c) (low _ _ _ _ _ s3 d);
     }
   where
+    columns : (T : ℕ → ℕ → Type 0) → IsLowest (T 0) first → IsLowest (T 1) second → IsLowest (T 2) third → (i : ℕ) → i < 3 → IsLowest (T i) (get_or (first ∷ second ∷ third ∷ []) i 0)
+    columns T l1 l2 l3 zero h = l1
+    columns T l1 l2 l3 (suc zero) h = l2
+    columns T l1 l2 l3 (suc (suc zero)) h = l3
+    columns T l1 l2 l3 (suc (suc (suc i))) h = absurd (omega arith)
+
     below : (n : ℕ) → first ≤ n + 1 → second ≤ n + 1 + 1 → third ≤ n + 1 + 1 + 1 → (i : ℕ) → i < 3 → get_or (first ∷ second ∷ third ∷ []) i 0 ≤ n + 1 + i
     below n l1 l2 l3 zero h = omega arith
     below n l1 l2 l3 (suc zero) h = omega arith
@@ -215,16 +248,15 @@ module _ (uses : List Use) (slots : List TermSlots) (new : TermSlots) where
   same_lowest : (T S : ℕ → Type 0) → ((s : ℕ) → T s → S s) → ((s : ℕ) → S s → T s) → (slot : ℕ) → IsLowest T slot → IsLowest S slot
   same_lowest T S f g slot l = record { free = λ h. l.free (g slot h); lowest = λ s h. f s (l.lowest s h) }
 
-  either_same : (T S : ℕ → Type 0) (n : ℕ) → ((s : ℕ) → T s → S s) → (s : ℕ) → T s ⊎ (n ≡ s) → S s ⊎ (n ≡ s)
-  either_same T S n f s (inl h) = inl (f s h)
-  either_same T S n f s (inr e) = inr e
+  either_same : (T S Q : ℕ → Type 0) → ((s : ℕ) → T s → S s) → (s : ℕ) → T s ⊎ Q s → S s ⊎ Q s
+  either_same T S Q f s (inl h) = inl (f s h)
+  either_same T S Q f s (inr e) = inr e
 
   still_slotted : (k : ℕ) (own : TermSlots) → k ≤ length slots → IsSlotted uses slots k own → IsSlotted uses (slots ++ new ∷ []) k own
   still_slotted k own h is = record {
     own = same_lowest (IsHad uses slots k k) (IsHad uses (slots ++ new ∷ []) k k) f g own.own is.own;
-    first = same_lowest _ _ (either_same _ _ own.own f) (either_same _ _ own.own g) _ is.first;
-    second = same_lowest _ _ (either_same _ _ _ (either_same _ _ own.own f)) (either_same _ _ _ (either_same _ _ own.own g)) _ is.second;
-    third = same_lowest _ _ (either_same _ _ _ (either_same _ _ _ (either_same _ _ own.own f))) (either_same _ _ _ (either_same _ _ _ (either_same _ _ own.own g))) _ is.third;
+    columns = λ i h. same_lowest (IsHadBefore uses slots k own i) (IsHadBefore uses (slots ++ new ∷ []) k own i) (either_same _ _ (Before i) (either_same _ _ (λ s. own.own ≡ s) f))
+        (either_same _ _ (Before i) (either_same _ _ (λ s. own.own ≡ s) g)) _ (is.columns i h);
     below = is.below;
     columns_below = is.columns_below;
   }
@@ -234,6 +266,9 @@ module _ (uses : List Use) (slots : List TermSlots) (new : TermSlots) where
 
       g : (s : ℕ) → IsHad uses (slots ++ new ∷ []) k k s → IsHad uses slots k k s
       g s = had_back k s h
+
+      Before : ℕ → ℕ → Type 0
+      Before i s = (j : ℕ) × (j < i) × (get_or own.columns j 0 ≡ s)
 
   pub more_slotted : length slots < 256 → AreSlotted uses slots → IsSlotted uses slots (length slots) new → AreSlotted uses (slots ++ new ∷ [])
   more_slotted few so_far is = record {

@@ -34,13 +34,16 @@ pub record IsLowest (IsTaken : ℕ → Type 0) (slot : ℕ) : Type 0 where
   pub free : IsTaken slot → ⊥
   pub lowest : (s : ℕ) → s < slot → IsTaken s
 
+-- what term k finds taken for a column: what the terms below have that are kept, its own, and what its columns
+-- before have
+abbrev pub IsHadBefore : List Use → List TermSlots → ℕ → TermSlots → ℕ → ℕ → Type 0
+IsHadBefore uses slots k new i slot = (IsHad uses slots k k slot ⊎ (new.own ≡ slot)) ⊎ ((j : ℕ) × (j < i) × (get_or new.columns j 0 ≡ slot))
+
 -- The lowest slot that no term below has which is kept up to term k, and then the next ones. There are no
 -- more taken than such terms.
 pub record IsSlotted (uses : List Use) (slots : List TermSlots) (k : ℕ) (new : TermSlots) : Type 0 where
   pub own : IsLowest (IsHad uses slots k k) new.own
-  pub first : IsLowest (λ s. IsHad uses slots k k s ⊎ (new.own ≡ s)) (get_or new.columns 0 0)
-  pub second : IsLowest (λ s. (IsHad uses slots k k s ⊎ (new.own ≡ s)) ⊎ (get_or new.columns 0 0 ≡ s)) (get_or new.columns 1 0)
-  pub third : IsLowest (λ s. ((IsHad uses slots k k s ⊎ (new.own ≡ s)) ⊎ (get_or new.columns 0 0 ≡ s)) ⊎ (get_or new.columns 1 0 ≡ s)) (get_or new.columns 2 0)
+  pub columns : (i : ℕ) → i < 3 → IsLowest (IsHadBefore uses slots k new i) (get_or new.columns i 0)
   pub below : new.own ≤ kept_below uses k
   pub columns_below : (i : ℕ) → i < 3 → get_or new.columns i 0 ≤ kept_below uses k + 1 + i
 
