@@ -1,5 +1,5 @@
 -- A buffer in which nothing changes for a while, and windows of it on all the sessions.
-use Rattle.std.proofs.Common.{◌≡◌, Bool, true, false, cond, ℕ, zero, suc, ◌+◌, ◌-◌, ◌*◌, ◌<◌, ◌≤◌, ℤ, pos, ◌≤ℤ◌, List, [], ◌∷◌, All, length, filter, filter_map, take, drop, get_or, sum_by, Some, slice_get, refl, sym, ◌∙◌, ap, subst, arith, inl, inr, length-take, length-drop}
+use Rattle.std.proofs.Common.{◌≡◌, Bool, true, false, cond, ℕ, zero, suc, ◌+◌, ◌-◌, ◌*◌, ◌<◌, ◌≤◌, ℤ, pos, ◌≤ℤ◌, List, [], ◌∷◌, All, length, filter, filter_map, take, drop, get_or, sum_by, Some, slice_get, refl, sym, ◌∙◌, ap, subst, arith, inl, inr, length-take, length-drop, take_all}
 use Rattle.std.proofs.lemmas.Bool.{cases_lt}
 use Rattle.std.proofs.lemmas.List.{get_or_default, get_or-take, get_or-drop}
 use Rattle.std.proofs.lemmas.List.Sums.{sum_by-cons}
@@ -93,10 +93,6 @@ still_fewer b d n m h s = record {
 }
 
 module _ (b : Buffered) (cells : List ℤ) (d n : ℕ) (still : IsStill b d n) where
-  -- what is seen on the first session is seen on all
-  pub seen_on : (m : ℕ) → m ≤ n → AreSeen b cells d → AreSeen b cells (d + m)
-  seen_on m l seen i j h k = seen i j h k ∙ sym (still.seen i j m h k l)
-
   module _ (size i : ℕ) (begun : b.first + size ≤ d) (asset : i < length b.cols) (long : length cells ≡ b.rows * length b.cols) where
     abbrev start : ℕ
     start = i * b.rows + (d - b.first) - size
@@ -143,3 +139,30 @@ module _ (b : Buffered) (cells : List ℤ) (d n : ℕ) (still : IsStill b d n) w
         let l = reached_long in
         let inside : k < size + n = omega (arith, h, l) in
         subst IsCell (sym (reached_at k v inside)) (has i ((d - b.first - size) + k) asset (omega (arith, begun, w, inside)))
+
+-- on no session more nothing changes
+still_here : (b : Buffered) (d : ℕ) → d ≤ b.first + b.rows → IsStill b d 0
+still_here b d h = record {
+  within = omega (arith, h);
+  seen = λ i j m k r z. let e : d + m ≡ d = omega (arith, z) in ap (λ x. seen_cell (world_of b) (col_at b i) b.column (pos (b.first + j)) (pos x)) e;
+  applied = λ m z. let e : d + m ≡ d = omega (arith, z) in ap (applied_at b) e;
+}
+
+-- the window on a session alone
+module _ (b : Buffered) (cells : List ℤ) (d size i : ℕ) (begun : b.first + size ≤ d) (high : d ≤ b.first + b.rows) (asset : i < length b.cols) (long : length cells ≡ b.rows * length b.cols) where
+  abbrev end : ℕ
+  end = i * b.rows + (d - b.first)
+
+  same_end : end + 0 ≡ end
+  same_end = omega arith
+
+  pub window_is : AreSeen b cells d → take (i * b.rows + (d - b.first) - (i * b.rows + (d - b.first) - size)) (drop (i * b.rows + (d - b.first) - size) cells) ≡ bar_window (world_of b) b.column size (get_or b.cols i 0) (pos d)
+  window_is seen =
+      let still = still_here b d high in
+      let whole = take_all size (reached b cells d 0 still size i begun asset long) (let l = reached_long b cells d 0 still size i begun asset long in omega (arith, l)) in
+      let on : d + 0 ≡ d = omega arith in
+      subst (λ e. take (e - (end - size)) (drop (end - size) cells) ≡ bar_window (world_of b) b.column size (col_at b i) (pos d)) same_end
+      (sym whole ∙ reached_window b cells d 0 still size i begun asset long seen 0 (omega arith) ∙ ap (λ x. bar_window (world_of b) b.column size (col_at b i) (pos x)) on)
+
+  pub window_has_cells : HasCells b cells → All IsCell (take (i * b.rows + (d - b.first) - (i * b.rows + (d - b.first) - size)) (drop (i * b.rows + (d - b.first) - size) cells))
+  window_has_cells has = subst (λ e. All IsCell (take (e - (end - size)) (drop (end - size) cells))) same_end (reached_cells b cells d 0 (still_here b d high) size i begun asset long has)

@@ -1,22 +1,18 @@
 -- A buffer that goes to the next session: its rows, and a window of them.
-use Rattle.std.proofs.Common.{[], All, length-take, length-drop, ◌≡◌, ℕ, ◌+◌, ◌-◌, ◌*◌, ◌<◌, ◌≤◌, ℤ, pos, ◌+ℤ◌, ◌≤ℤ◌, List, length, get_or, take, drop, Some, slice_get, sym, ◌∙◌, ap, arith, inl, inr, subst, sum_by}
+use Rattle.std.proofs.Common.{[], ◌≡◌, ℕ, ◌+◌, ◌-◌, ◌*◌, ◌<◌, ◌≤◌, ℤ, pos, ◌+ℤ◌, ◌≤ℤ◌, List, length, get_or, Some, slice_get, sym, ◌∙◌, ap, arith, inl, inr, sum_by}
 use Rattle.std.proofs.lemmas.Int.{ints}
-use Rattle.std.proofs.lemmas.List.{get_or_default, get_or-take, get_or-drop}
 use Rattle.std.proofs.lemmas.Option.{get_or_from_slice_get, slice_get_within, slice_get-get_or}
 use Rattle.std.proofs.lemmas.Bool.{cases_lt}
 use Rattle.std.proofs.lemmas.List.Sums.{sum_by-append}
 use Rattle.pl_spec.specs.World.{World, IsWorld, day_of, bar_cell, events_of}
 use Rattle.pl_spec.specs.declared.Column.{Column}
-use Rattle.pl_spec.specs.Rounding.{IsCell}
-use Rattle.pl_spec.specs.Window.{seen_cell, after_all, effects, effects_in, step_count, step_of, bar_window}
+use Rattle.pl_spec.specs.Window.{seen_cell, after_all, effects, effects_in, step_count, step_of}
 use Rattle.pl_spec.proofs.Buffer.{effects-split, no_effects, seen_next}
 use Rattle.pl_spec.proofs.Steps.{bars-alike}
-use Rattle.pl_spec.proofs.Windows.{bar_window-sessions}
 use Rattle.pl_spec.specs.Limits.{saturated}
-use Rattle.pl_adjarray.specs.Buffered.{Buffered, AreSeen, HasCells, cell_at, ratio_count, row_count, applied_at, world_of}
+use Rattle.pl_adjarray.specs.Buffered.{Buffered, AreSeen, cell_at, ratio_count, row_count, applied_at, world_of}
 use Rattle.pl_adjarray.specs.Inside.{IsReadyBuffer}
 use Rattle.pl_adjarray.proofs.Counts.{rows_gain, no_rows, no_assets, assets_gain}
-use Rattle.pl_adjarray.proofs.Places.{part_is, rows_within}
 
 -- the days ascend with the sessions
 pub days_le : (w : World) → IsWorld w → (s d : ℕ) (low high : ℤ) → s ≤ d → slice_get w.days s ≡ Some low → slice_get w.days d ≡ Some high → low ≤ℤ high
@@ -114,43 +110,8 @@ module _ (b : Buffered) (ready : IsReadyBuffer b) where
         (λ s h k. counts_gain (world_of b) ready.world a b.column bar s d from to (omega arith) at_d at_next)
         (λ s h k. none_counted (world_of b) ready.world a b.column s (d + 1) (omega arith) (omega arith) ∙ sym (none_counted (world_of b) ready.world a b.column s d (omega arith) (omega arith)))))
 
-  pub window_is : (cells : List ℤ) (d size i : ℕ) → AreSeen b cells d → b.first + size ≤ d → d ≤ b.first + b.rows → i < length b.cols → length cells ≡ b.rows * length b.cols
-      → take (i * b.rows + (d - b.first) - (i * b.rows + (d - b.first) - size)) (drop (i * b.rows + (d - b.first) - size) cells) ≡ bar_window (world_of b) b.column size (get_or b.cols i 0) (pos d)
-  window_is cells d size i seen low high h long =
-      let a = get_or b.cols i 0 in
-      let m : i * b.rows + b.rows ≤ b.rows * length b.cols = rows_within i (length b.cols) b.rows h in
-      let room : (i * b.rows + (d - b.first) - size) + size ≤ length cells = omega arith in
-      let end : i * b.rows + (d - b.first) - (i * b.rows + (d - b.first) - size) ≡ size = omega arith in
-      rw end
-      (part_is cells (i * b.rows + (d - b.first) - size) size (d - size) (λ s. seen_cell (world_of b) a b.column (pos s) (pos d)) room
-      (λ k n.
-      let place : (i * b.rows + (d - b.first) - size) + k ≡ i * b.rows + ((d - b.first - size) + k) = omega arith in
-      let row : b.first + ((d - b.first - size) + k) ≡ d - size + k = omega arith in
-      let in_rows : (d - b.first - size) + k < b.rows = omega arith in
-      ap (cell_at cells) place ∙ seen i ((d - b.first - size) + k) h in_rows ∙ ap (λ s. seen_cell (world_of b) a b.column (pos s) (pos d)) row)
-      ∙ sym (bar_window-sessions (world_of b) b.column a d size (omega arith)))
-
 pub next_cut : (applied next before after gain : ℕ) → saturated applied ≡ saturated before → saturated next ≡ saturated (applied + gain) → after ≡ before + gain → saturated next ≡ saturated after
 next_cut applied next before after gain e f g = omega arith
 
 pub next_cost : (old new before after gain : ℕ) → new ≡ old + gain → after ≡ before + gain → new + before ≡ old + after
 next_cost old new before after gain e f = omega arith
-
--- the cells of a window are cells
-pub window_has_cells : (b : Buffered) (cells : List ℤ) (d size i : ℕ) → HasCells b cells → b.first + size ≤ d → d ≤ b.first + b.rows → i < length b.cols → length cells ≡ b.rows * length b.cols
-    → All IsCell (take (i * b.rows + (d - b.first) - (i * b.rows + (d - b.first) - size)) (drop (i * b.rows + (d - b.first) - size) cells))
-window_has_cells b cells d size i has low high h long k e inside =
-    let m : i * b.rows + b.rows ≤ b.rows * length b.cols = rows_within i (length b.cols) b.rows h in
-    let start = i * b.rows + (d - b.first) - size in
-    let end : i * b.rows + (d - b.first) - (i * b.rows + (d - b.first) - size) ≡ size = omega arith in
-    let taken = length-take size (drop (i * b.rows + (d - b.first) - size) cells) in
-    let dropped = length-drop (i * b.rows + (d - b.first) - size) cells in
-    let in_size : k < size = omega (arith, rw end at inside, taken, dropped) in
-    let place : (i * b.rows + (d - b.first) - size) + k ≡ i * b.rows + ((d - b.first - size) + k) = omega arith in
-    let in_cells : (i * b.rows + (d - b.first) - size) + k < length cells = omega arith in
-    rw end
-    (subst IsCell (sym (get_or-take size (drop (i * b.rows + (d - b.first) - size) cells) k e in_size
-    ∙ get_or-drop (i * b.rows + (d - b.first) - size) cells k e
-    ∙ get_or_default cells ((i * b.rows + (d - b.first) - size) + k) e (pos 0) in_cells
-    ∙ ap (cell_at cells) place))
-    (has i ((d - b.first - size) + k) h (omega arith)))

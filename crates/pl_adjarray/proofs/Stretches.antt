@@ -234,9 +234,6 @@ module _ (b : Buffered) (ready : IsReadyBuffer b) where
   -- and of all: nothing changes
   module _ (d most n : ℕ) (low : b.first ≤ d) (high : d + most ≤ b.first + b.rows)
       (all : IsGreatest (λ n. (j : ℕ) → j < length b.cols → effective_within b d n (col_at b j) ≡ []) most n) where
-    pub quiet_is : IsQuiet b d n
-    quiet_is = record { within = (let f = all.few in omega (arith, f, high)); none = all.holds }
-
     pub still_of : IsStill b d n
     still_of =
         let r = ready.range in

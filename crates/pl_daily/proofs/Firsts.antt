@@ -7,8 +7,6 @@ use Rattle.std.proofs.lemmas.Int.{ints, by_lt_z}
 use Rattle.std.proofs.lemmas.Option.{slice_get_within}
 use Rattle.std.specs.Cmp.{both_ways}
 use Rattle.std.proofs.lemmas.List.Folds.{list_all-append}
-use Rattle.pl_spec.specs.declared.Frequency.{Frequency}
-use Rattle.pl_spec.specs.Periods.{period_start}
 use Rattle.pl_pipeline.specs.Term.{Term, Node, term_at, IsGraph}
 use Rattle.pl_pipeline.specs.Graph.{contains, mentions, reach, reads_at, Used}
 use Rattle.pl_pipeline.specs.Graph.Used.{output, mentioned}
@@ -18,7 +16,6 @@ use Rattle.pl_pipeline.proofs.Unfolds.{past}
 use Rattle.pl_spec.proofs.Signed.{le-int_le, int_le-true}
 use Rattle.pl_laws.proofs.Calendars.{reach-same}
 use Rattle.pl_laws.proofs.Reaches.{AllFrom, below_least}
-use Rattle.pl_laws.proofs.Starts.{start-same}
 use Rattle.pl_laws.proofs.Uses.{used_terms-sound, used_terms-complete}
 use Rattle.pl_laws.proofs.Lows.{least_above}
 use Rattle.pl_terms.specs.Checked.{IsChecked, columns_of}
@@ -49,11 +46,7 @@ module _ (days : List ℤ) (day : ℤ) where
   append-same : (d i : ℕ) → d < length days → pos i ≤ℤ pos d → slice_get days i ≡ slice_get more i
   append-same d i l h = append-at days (day ∷ []) i (omega (arith, ints))
 
-  -- for an earlier session the period starts as before
-  pub start-more : (f : Frequency) (d : ℕ) → d < length days → period_start f more (pos d) ≡ period_start f days (pos d)
-  start-more f d l = sym (start-same f days more (pos d) (λ i h. append-same d i l h))
-
-  -- and a term reaches as far back
+  -- for an earlier session a term reaches as far back
   pub reach-more : (t : Term) (d : ℕ) → d < length days → reach days t (pos d) ≡ reach more t (pos d)
   reach-more t d l = reach-same days more (pos d) (λ i h. append-same d i l h) t (pos d) (omega (arith, ints))
 

@@ -121,12 +121,6 @@ module _ (l : Lent) (terms : List TermCells) (starts : List StartCells) where
   abbrev p : Pipeline
   p = pipeline_at l
 
-  pub nothing_done : FollowBelow l terms starts 0 terms starts
-  nothing_done next days placed = (
-    record { done = λ u t below used e. absurd (omega (arith, below)); left = λ u t above used e. placed.terms.each u t used e },
-    record { done = λ j s below e. absurd (omega (arith, below)); left = λ j s above e. placed.starts.each j s e },
-  )
-
   -- the day comes to a term
   pub comes_to : (cells : List TermCells) (firsts : List StartCells) (k : ℕ) (s : StartCells) (next : FedDay) (days : List FedDay) → FollowBelow l terms starts k cells firsts → slice_get firsts k ≡ Some s
       → IsPlaced l terms starts next days → IsAt l k cells s days next days

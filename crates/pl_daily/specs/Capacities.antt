@@ -2,7 +2,8 @@
 use Rattle.std.specs.Prelude.{ℕ, Bool, ◌&&◌, if◌then◌else◌, max, map, fold, filter_map, Option, Some, None, slice_get}
 use Rattle.pl_spec.specs.declared.Column.{Column}
 use Rattle.pl_spec.specs.World.{column_number}
-use Rattle.pl_pipeline.specs.Term.{Node}
+use Rattle.pl_pipeline.specs.Term.{Input, Node}
+use Rattle.pl_pipeline.specs.Term.Input.{BarColumn, TermInput}
 use Rattle.pl_pipeline.specs.Graph.{contains, input_column, input_number, used_terms}
 use Rattle.pl_pipeline.specs.Table.{Pipeline}
 use Rattle.pl_terms.specs.Sorts.{is_windowed}
@@ -15,6 +16,11 @@ reads_column c n = contains (filter_map input_column n.inputs) (column_number c)
 -- the node is of a windowed kind, and an input is the term
 abbrev pub reads_term : ℕ → Node → Bool
 reads_term t n = is_windowed n.kind && contains (filter_map input_number n.inputs) t
+
+-- of an input
+abbrev pub reads : Input → Node → Bool
+reads (BarColumn c) = reads_column c
+reads (TermInput t) = reads_term t
 
 -- the window of a node that passes, and 0 for another
 abbrev pub window_if : (Node → Bool) → Option Node → ℕ

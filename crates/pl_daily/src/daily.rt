@@ -18,7 +18,6 @@ ghost use Rattle.pl_daily.specs.Kept.{kept_places};
 ghost use Rattle.pl_daily.specs.Reaches.{FollowFirst};
 ghost use Rattle.pl_daily.specs.Steps.{Answers, IsMidway, TakeTerms, sessions_of};
 
-use crate::capacities::count;
 use crate::fill::{fill_terms, take_reaches};
 use crate::kept::{put_kept, screen_row};
 use crate::reaches::is_ready;
@@ -29,6 +28,7 @@ use pl_assets::{Assets, Labels};
 use pl_day_rows::TermCells;
 use pl_fixed::{Column, Memory, Steps};
 use pl_numbers::Numbers;
+use pl_planner::count;
 use pl_rings::{BarRings, Day, begin_rings};
 use pl_terms::{Checked, TermId};
 use std::alloc::Global;

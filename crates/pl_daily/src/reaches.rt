@@ -10,7 +10,8 @@ ghost use Rattle.pl_daily.specs.Inside.{IsNumber};
 ghost use Rattle.pl_daily.specs.Reaches.{AreFirst, FollowFirst};
 ghost use Rattle.pl_daily.specs.Ready as spec;
 
-use crate::capacities::{count, is_used, node_at};
+use crate::capacities::is_used;
+use pl_planner::{count, node_at};
 use pl_terms::{Checked, Input, Node, TermId, frequency_of};
 
 // Is the term's first session at least so many sessions before a session?

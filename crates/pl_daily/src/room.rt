@@ -10,11 +10,12 @@ ghost use Rattle.pl_daily.specs.Inside.{IsNumber};
 ghost use Rattle.pl_daily.specs.Room.{AreBegun, AreBegunStarts, HasColumns, IsBegun, IsRoom, no_session};
 ghost use Rattle.pl_daily.specs.Terms.{Downsamples, IsStartRoom};
 
-use crate::capacities::{column_window, count, is_used, node_at, term_window};
+use crate::capacities::{column_window, is_used, term_window};
 use crate::starts::StartCells;
 use pl_cross::Cross;
 use pl_day_rows::{TermCells, begin_term};
 use pl_fixed::{Column, Memory};
+use pl_planner::{count, node_at};
 use pl_rings::Capacities;
 use pl_terms::{Checked, TermId, frequency_of};
 use pl_values::empty_value;
@@ -76,7 +77,7 @@ fn cell_count(checked: &Checked, assets: usize, k: usize) -> usize
 }
 
 // What a term has for an asset that is not kept.
-fn none_of(checked: &Checked, k: usize) -> i64
+fn empty_of(checked: &Checked, k: usize) -> i64
     requires { IsNumber (pipeline_of checked.now) k }
     ensures value { result ≡ empty_cell (pipeline_of checked.now) k }
     ensures cell { IsCell result }
@@ -98,7 +99,7 @@ fn begin_one(alloc: Global, checked: &Checked, assets: usize, k: usize) -> Resul
     ensures { IfOk result (IsBegun assets (pipeline_of checked.now) k) }
 {
     let cells = cell_count(checked, assets, k);
-    begin_term(alloc, cells, ring_size(checked, k), none_of(checked, k))
+    begin_term(alloc, cells, ring_size(checked, k), empty_of(checked, k))
 }
 
 /// What is held of all terms before the first day.
@@ -174,9 +175,5 @@ pub(crate) fn begin_starts(
 pub(crate) fn begin_since(alloc: Global, terms: usize) -> Result<Vec<Option<usize>>, Memory>
     ensures { IfOk result (λ since. since.items ≡ replicate terms no_session) }
 {
-    let mut since = Vec::new(alloc);
-    for _ in 0..terms {
-        since.push(None)?;
-    }
-    Ok(since)
+    Ok(vec![in alloc; None; terms]?)
 }

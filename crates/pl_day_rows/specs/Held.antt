@@ -33,5 +33,5 @@ FollowTerm row old new =
 
 -- before the first day
 abbrev pub BeginsTerm : ℕ → ℤ → TermCells → Type 0
-BeginsTerm assets none t =
-    (g : Start) (p : Pipeline) (u : ℕ) → length g.assets ≡ assets → none ≡ empty_cell p u → HoldsTerm g [] p u t
+BeginsTerm assets empty t =
+    (g : Start) (p : Pipeline) (u : ℕ) → length g.assets ≡ assets → empty ≡ empty_cell p u → HoldsTerm g [] p u t

@@ -29,9 +29,9 @@ is_kept_by assets day None i = lives_at assets day i
 is_kept_by assets day (Some mask) i = lives_at assets day i && is_true (get_or mask i (pos 0))
 
 -- the row shows the cells of f where the asset is kept, and the empty value elsewhere
-pub record Shows (f : ℕ → ℤ) (none : ℤ) (keep row : List ℤ) : Type 0 where
+pub record Shows (f : ℕ → ℤ) (empty : ℤ) (keep row : List ℤ) : Type 0 where
   pub long : length row ≡ length keep
-  pub each : (i : ℕ) → i < length keep → get_or row i (pos 0) ≡ kept_or none keep f i
+  pub each : (i : ℕ) → i < length keep → get_or row i (pos 0) ≡ kept_or empty keep f i
   pub cell : (i : ℕ) → i < length keep → IsCell (get_or row i (pos 0))
 
 -- the rows of numbers that are lent, none where no numbers are

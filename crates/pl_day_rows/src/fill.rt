@@ -32,14 +32,14 @@ fn kind_row(
     ensures second { length second.new ≡ length second.old }
     ensures third { length third.new ≡ length third.old }
 {
-    let none = empty_value(term_day.checked.graph(), term_day.term);
+    let empty = empty_value(term_day.checked.graph(), term_day.term);
     let family = family_of(kind_of(term_day.node));
     match family {
-        Family::Window => window_row(term_day, first, second, third, none, keep, out),
+        Family::Window => window_row(term_day, first, second, third, empty, keep, out),
         Family::Section => section(term_day, cross, keep, out),
         _ => {
             given_row(term_day, family, out);
-            keep_values(keep, none, out);
+            keep_values(keep, empty, out);
         }
     }
 }

@@ -8,21 +8,21 @@ use pl_fixed::Memory;
 use pl_rings::{Rings, push_row};
 use std::alloc::Global;
 
-/// What is held of a term before the first day, whose empty value is `none`. The capacity is that of its
+/// What is held of a term before the first day, whose empty value is `empty`. The capacity is that of its
 /// rings, in sessions, 0 where no window is over it. The only error is want of memory.
 pub fn begin_term(
     alloc: Global,
     assets: usize,
     capacity: usize,
-    none: i64,
+    empty: i64,
 ) -> Result<TermCells, Memory>
-    requires { IsCell none }
+    requires { IsCell empty }
     ensures cells { IfOk result (AreTermCells assets) }
     ensures capacity { IfOk result (λ t. t.rings.capacity ≡ capacity) }
-    ensures begins { IfOk result (BeginsTerm assets none) }
+    ensures begins { IfOk result (BeginsTerm assets empty) }
 {
-    let row = vec![in alloc; none; assets]?;
-    let rings = Rings::new(alloc, ring_count(assets, capacity), capacity, none)?;
+    let row = vec![in alloc; empty; assets]?;
+    let rings = Rings::new(alloc, ring_count(assets, capacity), capacity, empty)?;
     Ok(TermCells { row, rings })
 }
 

@@ -51,7 +51,7 @@ fn window_cell(
     term_day: &TermDay<'_>,
     i: usize,
     keep: i64,
-    none: i64,
+    empty: i64,
     first: &mut [i64],
     second: &mut [i64],
     third: &mut [i64],
@@ -59,18 +59,18 @@ fn window_cell(
     requires term_day { (v : Moment) × IsTermDay term_day.now v }
     requires kind { is_windowed (node_at term_day.now).kind ≡ true }
     requires asset { i < assets_at term_day.now }
-    requires none { IsCell none }
+    requires none { IsCell empty }
     requires first { length first.old ≡ window_size (node_at term_day.now) 0 }
     requires second { length second.old ≡ window_size (node_at term_day.now) 1 }
     requires third { length third.old ≡ window_size (node_at term_day.now) 2 }
-    ensures value { result ≡ chosen (is_true keep) (windowed_by term_day.now i) none }
+    ensures value { result ≡ chosen (is_true keep) (windowed_by term_day.now i) empty }
     ensures cell { IsCell result }
     ensures first { length first.new ≡ length first.old }
     ensures second { length second.new ≡ length second.old }
     ensures third { length third.new ≡ length third.old }
 {
     if !is_one(keep) {
-        return none;
+        return empty;
     }
     read_window(term_day, 0, i, first);
     read_window(term_day, 1, i, second);
@@ -84,22 +84,22 @@ fn window_cells(
     first: &mut [i64],
     second: &mut [i64],
     third: &mut [i64],
-    none: i64,
+    empty: i64,
     keep: &[i64],
     out: &mut [i64],
 )
     requires term_day { (v : Moment) × IsTermDay term_day.now v }
     requires kind { is_windowed (node_at term_day.now).kind ≡ true }
-    requires none { IsCell none }
+    requires none { IsCell empty }
     requires first { length first.old ≡ window_size (node_at term_day.now) 0 }
     requires second { length second.old ≡ window_size (node_at term_day.now) 1 }
     requires third { length third.old ≡ window_size (node_at term_day.now) 2 }
     requires keep { length keep.now ≡ assets_at term_day.now }
     requires long { length out.old ≡ length keep.now }
-    ensures { Shows (windowed_by term_day.now) none keep.now out.new }
+    ensures { Shows (windowed_by term_day.now) empty keep.now out.new }
 {
     for i in 0..out.len() {
-        out[i] = window_cell(term_day, i, keep[i], none, first, second, third);
+        out[i] = window_cell(term_day, i, keep[i], empty, first, second, third);
     }
 }
 
@@ -109,13 +109,13 @@ pub(crate) fn window_row(
     first: &mut [i64],
     second: &mut [i64],
     third: &mut [i64],
-    none: i64,
+    empty: i64,
     keep: &[i64],
     out: &mut [i64],
 )
     requires term_day { (v : Moment) × IsTermDay term_day.now v }
     requires kind { is_windowed (node_at term_day.now).kind ≡ true }
-    requires none { none ≡ empty_cell (pipeline_at term_day.now) term_day.now.term.0 }
+    requires none { empty ≡ empty_cell (pipeline_at term_day.now) term_day.now.term.0 }
     requires first { (node_at term_day.now).window ≤ length first.old }
     requires second { (node_at term_day.now).window ≤ length second.old }
     requires third { (node_at term_day.now).window ≤ length third.old }
@@ -134,7 +134,7 @@ pub(crate) fn window_row(
         &mut first[..first_size],
         &mut second[..second_size],
         &mut third[..third_size],
-        none,
+        empty,
         keep,
         out,
     );

@@ -1,18 +1,25 @@
 -- What one term asks of those that it mentions.
-use Rattle.std.proofs.Common.{◌≡◌, ◌≢◌, ℕ, zero, suc, ◌+◌, ◌<◌, ◌≤◌, Bool, true, false, max, ℤ, List, [], ◌∷◌, ◌++◌, length, map, take, Some, option_map, refl, sym, ◌∙◌, ap, arith, inl, inr, slice_get, get_or, filter_map, option_to_list, length-set, get_or-set_same, get_or-set_other}
+use Rattle.std.proofs.Common.{◌≡◌, ◌≢◌, ℕ, zero, suc, ◌+◌, ◌-◌, ◌<◌, ◌≤◌, Bool, true, false, max, ℤ, List, [], ◌∷◌, ◌++◌, length, map, take, Option, Some, None, option_map, refl, sym, ◌∙◌, ap, arith, inl, inr, slice_get, get_or, filter_map, option_to_list, length-set, get_or-set_same, get_or-set_other}
 use Rattle.std.proofs.lemmas.Bool.{cases_lt, cases_eq}
 use Rattle.std.proofs.lemmas.List.{take_more, map-append}
 use Rattle.std.proofs.lemmas.List.Elements.{filter_map-append}
 use Rattle.std.proofs.lemmas.List.Sums.{fold-append}
-use Rattle.pl_pipeline.specs.Term.{Input, MentionsBelow}
+use Rattle.pl_pipeline.specs.Term.{Input, MentionsBelow, Node}
 use Rattle.pl_pipeline.specs.Term.Input.{BarColumn, TermInput}
 use Rattle.pl_terms.specs.Nodes.{input_of, node_of, number_of}
 use Rattle.pl_terms.specs.declared.node.Input as code
 use Rattle.pl_terms.specs.declared.node.Node as code_node
 use Rattle.pl_planner.specs.declared.uses.Use.{Use}
-use Rattle.pl_planner.specs.Extra.{Ask, IsBelow, back_from, input_ask, number_asks, asks}
+use Rattle.pl_planner.specs.Extra.{Ask, IsBelow, back_from, input_ask, number_asks, asks, asks_back}
+use Rattle.pl_spec.proofs.Each.{Each, each_both}
 use Rattle.pl_planner.specs.Uses.{unused, use_at, raised, asked, all_asked}
-use Rattle.pl_planner.proofs.Depths.{one_more}
+
+one_more : {X Y : Type 0} (f : X → Option Y) (x : X) → filter_map f (x ∷ []) ≡ option_to_list (f x)
+one_more f x = here (f x) refl
+  where
+    here : (o : Option _) → f x ≡ o → filter_map f (x ∷ []) ≡ option_to_list (f x)
+    here None e = rw e refl
+    here (Some y) e = rw e refl
 
 pub more_asked : (us : List Use) (by back w : ℕ) (items : List code.Input) (i : ℕ) (d : code.Input) → i < length items
     → all_asked (all_asked us by (filter_map (input_ask back w) (map input_of (take i items)))) by (option_to_list (input_ask back w (input_of (get_or items i d))))
@@ -47,6 +54,30 @@ node_asked days s n by extra back us inputs mask group e a b c =
     let first : inputs ≡ all_asked us by xs = a ∙ ap (λ m. all_asked us by (filter_map (input_ask m n.window) (map input_of n.inputs))) e in
     let second : mask ≡ all_asked us by (xs ++ ys) = b ∙ ap (λ us. all_asked us by ys) first ∙ sym (fold-append (asked by) us xs ys) in
     c ∙ ap (λ us. all_asked us by zs) second ∙ sym (fold-append (asked by) us (xs ++ ys) zs)
+
+-- what holds of all that a node asks
+module _ (P : Ask → Type 0) where
+  each-inputs : (b w : ℕ) (is : List Input) → ((i u : ℕ) → slice_get is i ≡ Some (TermInput u) → P (u, b + (w - 1))) → Each P (filter_map (input_ask b w) is)
+  each-inputs b w [] h = tt
+  each-inputs b w (BarColumn c ∷ is) h = each-inputs b w is (λ i u e. h (suc i) u e)
+  each-inputs b w (TermInput u ∷ is) h = (h 0 u refl, each-inputs b w is (λ i v e. h (suc i) v e))
+
+  each-number : (b : ℕ) (o : Option ℕ) → ((u : ℕ) → o ≡ Some u → P (u, b)) → Each P (number_asks b o)
+  each-number b None h = tt
+  each-number b (Some u) h = (h u refl, tt)
+
+  pub each-asks : (c b : ℕ) (n : Node) → ((i u : ℕ) → slice_get n.inputs i ≡ Some (TermInput u) → P (u, c + (n.window - 1))) → ((u : ℕ) → n.mask ≡ Some u → P (u, b))
+      → ((u : ℕ) → n.group ≡ Some u → P (u, b)) → Each P (asks_back c b n)
+  each-asks c b n x m g =
+      each_both P (filter_map (input_ask c n.window) n.inputs ++ number_asks b n.mask) (number_asks b n.group)
+      (each_both P (filter_map (input_ask c n.window) n.inputs) (number_asks b n.mask) (each-inputs c n.window n.inputs x) (each-number b n.mask m)) (each-number b n.group g)
+
+pub lower-more : (n : Node) (a b : ℕ) → MentionsBelow n a → a ≤ b → MentionsBelow n b
+lower-more n a b h l = record {
+  inputs = λ i k e. (let m : k < a = h.inputs i k e in omega arith);
+  mask = λ k e. (let m : k < a = h.mask k e in omega arith);
+  group = λ k e. (let m : k < a = h.group k e in omega arith);
+}
 
 -- ---- uses only grow
 

@@ -1,5 +1,5 @@
 -- What a plan says is what the definitions say.
-use Rattle.std.proofs.Common.{◌≡◌, ℕ, zero, suc, ◌+◌, ◌-◌, ◌*◌, ◌<◌, ◌≤◌, Bool, true, false, ◌&&◌, max, nat_le, nat_lt, if◌then◌else◌, ℤ, pos, negsuc, ◌-ℤ◌, ◌≤ℤ◌, ◌<ℤ◌, List, [], ◌∷◌, length, map, fold, filter, AllPairs, Option, Some, None, refl, sym, ◌∙◌, ap, subst, arith, inl, inr, ◌⊎◌, slice_get, get_or, ◌==◌, leb-true}
+use Rattle.std.proofs.Common.{◌≡◌, ℕ, suc, ◌+◌, ◌-◌, ◌*◌, ◌<◌, ◌≤◌, Bool, true, false, ◌&&◌, max, nat_le, nat_lt, if◌then◌else◌, ℤ, pos, negsuc, ◌-ℤ◌, ◌≤ℤ◌, ◌<ℤ◌, List, [], ◌∷◌, length, map, fold, filter, AllPairs, Option, Some, None, refl, sym, ◌∙◌, ap, subst, arith, inl, inr, ◌⊎◌, slice_get, get_or, ◌==◌, leb-true}
 use Rattle.std.specs.List.{list_any, range_with_len, count_by}
 use Rattle.std.proofs.lemmas.Bool.{true≢false, cases_lt, or_right, eqb-true, and_from, and_parts}
 use Rattle.std.proofs.lemmas.Bool.Decides.{nat_tests}
@@ -22,7 +22,7 @@ use Rattle.pl_planner.specs.Extra.{IsBack, IsExtra, asks_of}
 use Rattle.pl_planner.specs.Uses.{use_at, is_kept, IsLast, AreUses}
 use Rattle.pl_planner.specs.Columns.{held_at}
 use Rattle.pl_planner.specs.Rows.{extra_at, IsRow, AreRows, most_extra}
-use Rattle.pl_planner.specs.Slotting.{slots_at, own_slot, kept_below, one, IsHad, IsLowest, IsSlotted, AreSlotted}
+use Rattle.pl_planner.specs.Slotting.{slots_at, own_slot, kept_below, one, IsHad, IsHadBefore, IsLowest, IsSlotted, AreSlotted}
 use Rattle.pl_planner.specs.Plans as plans
 use Rattle.pl_planner.specs.Plans.{Planned, is_used, low_at, last_user, is_read_by, slot_of, column_slot, AreLows, AreLastUsers, IsLive, HasSlot, HasColumn, IsPlanOf, IsDeepest, KeepsLimits}
 use Rattle.pl_planner.specs.Laws.{ReadsAreCovered}
@@ -358,9 +358,6 @@ module _ (days : List ℤ) (rise : AllPairs (λ a b. a <ℤ b) days) (p : Pipeli
       abbrev own : ℕ
       own = own_slot slots k
 
-      abbrev column : ℕ → ℕ
-      column i = get_or (slots_at slots k).columns i 0
-
       had-slot : (n s : ℕ) → k ≤ n → IsHad uses slots k k s → HasSlot p plan k n s
       had-slot n s l i = record { term = i.term; below = (let b = i.below in omega arith); live = live-of k i.term inside (let b = i.below in omega arith) i.kept; has = slot-is i.term ∙ i.has }
 
@@ -379,54 +376,20 @@ module _ (days : List ℤ) (rise : AllPairs (λ a b. a <ℤ b) days) (p : Pipeli
       pub own-lowest : IsLowest (HasSlot p plan k k) (slot_of plan k)
       own-lowest = subst (IsLowest (HasSlot p plan k k)) (sym (slot-is k)) (same-lowest (IsHad uses slots k k) (HasSlot p plan k k) (λ s. had-slot k s (omega arith)) slot-had own slotted-here.own)
 
-      abbrev Front : ℕ → Type 0
-      Front s = IsHad uses slots k k s ⊎ (own ≡ s)
-
       abbrev Taken : ℕ → ℕ → Type 0
       Taken i s = HasSlot p plan k (k + 1) s ⊎ HasColumn plan k i s
 
-      front-in : (i s : ℕ) → Front s → Taken i s
-      front-in i s (inl h) = inl (had-slot (k + 1) s (omega arith) h)
-      front-in i s (inr e) = inl (own-had s e)
+      had-in : (i s : ℕ) → IsHadBefore uses slots k (slots_at slots k) i s → Taken i s
+      had-in i s (inl (inl h)) = inl (had-slot (k + 1) s (omega arith) h)
+      had-in i s (inl (inr e)) = inl (own-had s e)
+      had-in i s (inr r) = inr (r.0, r.1, column-is k r.0 ∙ r.2)
 
-      column-in : (i j s : ℕ) → j < i → column j ≡ s → Taken i s
-      column-in i j s l e = inr (j, l, column-is k j ∙ e)
-
-      first-in : (s : ℕ) → Front s → Taken 0 s
-      first-in s h = front-in 0 s h
-
-      first-out : (s : ℕ) → Taken 0 s → Front s
-      first-out s (inl h) = had-or-own s h
-      first-out s (inr c) = let l = c.1 in absurd (omega arith)
-
-      second-in : (s : ℕ) → Front s ⊎ (column 0 ≡ s) → Taken 1 s
-      second-in s (inl h) = front-in 1 s h
-      second-in s (inr e) = column-in 1 0 s (omega arith) e
-
-      at-column : (i j s : ℕ) → j ≡ i → column_slot plan k j ≡ s → column i ≡ s
-      at-column i j s e f = sym (column-is k i) ∙ ap (column_slot plan k) (sym e) ∙ f
-
-      second-out : (s : ℕ) → Taken 1 s → Front s ⊎ (column 0 ≡ s)
-      second-out s (inl h) = inl (had-or-own s h)
-      second-out s (inr c) = let l = c.1 in inr (at-column 0 c.0 s (omega arith) c.2)
-
-      third-in : (s : ℕ) → (Front s ⊎ (column 0 ≡ s)) ⊎ (column 1 ≡ s) → Taken 2 s
-      third-in s (inl (inl h)) = front-in 2 s h
-      third-in s (inl (inr e)) = column-in 2 0 s (omega arith) e
-      third-in s (inr e) = column-in 2 1 s (omega arith) e
-
-      third-out : (s : ℕ) → Taken 2 s → (Front s ⊎ (column 0 ≡ s)) ⊎ (column 1 ≡ s)
-      third-out s (inl h) = inl (inl (had-or-own s h))
-      third-out s (inr c) = let l = c.1 in elim (cases_lt c.0 1) [
-        | inl q ↦ inl (inr (at-column 0 c.0 s (omega arith) c.2))
-        | inr q ↦ inr (at-column 1 c.0 s (omega arith) c.2)
-      ]
+      had-out : (i s : ℕ) → Taken i s → IsHadBefore uses slots k (slots_at slots k) i s
+      had-out i s (inl h) = inl (had-or-own s h)
+      had-out i s (inr r) = inr (r.0, r.1, sym (column-is k r.0) ∙ r.2)
 
       pub column-lowest : (i : ℕ) → i < 3 → IsLowest (λ s. HasSlot p plan k (k + 1) s ⊎ HasColumn plan k i s) (column_slot plan k i)
-      column-lowest zero h = subst (IsLowest (Taken 0)) (sym (column-is k 0)) (same-lowest Front (Taken 0) first-in first-out (column 0) slotted-here.first)
-      column-lowest (suc zero) h = subst (IsLowest (Taken 1)) (sym (column-is k 1)) (same-lowest (λ s. Front s ⊎ (column 0 ≡ s)) (Taken 1) second-in second-out (column 1) slotted-here.second)
-      column-lowest (suc (suc zero)) h = subst (IsLowest (Taken 2)) (sym (column-is k 2)) (same-lowest (λ s. (Front s ⊎ (column 0 ≡ s)) ⊎ (column 1 ≡ s)) (Taken 2) third-in third-out (column 2) slotted-here.third)
-      column-lowest (suc (suc (suc i))) h = absurd (omega arith)
+      column-lowest i h = subst (IsLowest (Taken i)) (sym (column-is k i)) (same-lowest (IsHadBefore uses slots k (slots_at slots k) i) (Taken i) (had-in i) (had-out i) _ (slotted-here.columns i h))
 
       held-here : kept_below uses k + 1 + columns_at g k ≤ held
       held-here =

@@ -1,17 +1,15 @@
 -- How far back terms are read, and the least session that a value needs.
-use Rattle.std.proofs.Common.{◌≡◌, ℕ, zero, suc, ◌+◌, ◌-◌, ◌*◌, ◌<◌, ◌≤◌, Bool, true, false, max, ℤ, pos, ◌≤ℤ◌, ◌<ℤ◌, List, [], ◌∷◌, ◌++◌, length, map, take, filter_map, AllPairs, Option, Some, None, get_or, slice_get, slice_set, replicate, refl, sym, ◌∙◌, ap, subst, arith, inl, inr, ◌⊎◌, option_to_list}
+use Rattle.std.proofs.Common.{◌≡◌, ℕ, zero, suc, ◌+◌, ◌-◌, ◌-ℤ◌, ◌*◌, ◌<◌, ◌≤◌, Bool, true, false, max, ℤ, pos, ◌≤ℤ◌, ◌<ℤ◌, List, [], ◌∷◌, ◌++◌, length, map, filter_map, AllPairs, Option, Some, None, slice_get, replicate, refl, sym, ◌∙◌, ap, subst, arith, inl, inr, ◌⊎◌}
 use Rattle.std.specs.List.{list_any}
 use Rattle.std.specs.Int.{int_min}
 use Rattle.std.proofs.lemmas.Int.{ints}
-use Rattle.std.proofs.lemmas.Bool.{cases_lt, cases_eq}
-use Rattle.std.proofs.lemmas.List.{length-set, get_or-set_same, get_or-set_other, length-replicate, take_more, map-append}
-use Rattle.std.proofs.lemmas.List.Elements.{filter_map-append}
-use Rattle.std.proofs.lemmas.List.Sums.{fold-append}
+use Rattle.std.proofs.lemmas.Bool.{cases_lt, cases_eq, true≢false}
+use Rattle.std.proofs.lemmas.List.{length-set, get_or-set_same, get_or-set_other, length-replicate}
 use Rattle.std.proofs.lemmas.Option.{slice_get_within}
 use Rattle.std.specs.Int.Signed.{≤ℤ_refl}
 use Rattle.pl_spec.specs.declared.Column.{Column}
 use Rattle.pl_spec.specs.Window.{before, downward}
-use Rattle.pl_pipeline.specs.Term.{Input, Node, Graph, IsGraph, MentionsBelow, input_tree, number_tree, trees, term_at}
+use Rattle.pl_pipeline.specs.Term.{Input, Node, Graph, IsGraph, input_tree, number_tree, trees, term_at}
 use Rattle.pl_pipeline.specs.Term.Input.{BarColumn, TermInput}
 use Rattle.pl_pipeline.specs.Graph.{least_of, part_reach, reads_at, reach}
 use Rattle.pl_pipeline.proofs.Trees.{term_at-node}
@@ -19,126 +17,20 @@ use Rattle.pl_pipeline.proofs.Unfolds.{past}
 use Rattle.pl_laws.proofs.Reaches.{AllFrom, below_least, at_downward}
 use Rattle.pl_laws.proofs.Lows.{reaches-rise, reads_at-within}
 use Rattle.pl_planner.proofs.Pipelines.{ReadsTerms}
-use Rattle.pl_spec.proofs.Each.{Each, each_at, each_both, each_more}
+use Rattle.pl_spec.proofs.Each.{Each, each_at}
 use Rattle.pl_spec.proofs.Signed.{le-eq, min-either}
 use Rattle.pl_spec.proofs.Windows.{before-zero}
-use Rattle.pl_terms.specs.Nodes.{input_of}
-use Rattle.pl_terms.specs.declared.node.Input as code
-use Rattle.pl_planner.specs.Reaching.{asks, own_depth, deeper, asked, all_asked}
-use Rattle.pl_planner.specs.Extra.{Ask, input_ask, number_asks}
-use Rattle.pl_planner.specs.Columns.{is_bar}
-
--- ---- what is asked of the terms
-
-abbrev pub Depths : Type 0
-Depths = List (Option ℕ)
-
-abbrev pub AtLeast : Depths → ℕ → ℕ → Type 0
-AtLeast ds j x = (y : ℕ) × (x ≤ y) × (get_or ds j None ≡ Some y)
+use Rattle.pl_planner.specs.declared.uses.Use.{Use}
+use Rattle.pl_planner.specs.Uses.{all_asked, marked, unused, use_at}
+use Rattle.pl_planner.proofs.Asking.{Grows, all_given, all_grow, all_sound, each-asks}
+use Rattle.pl_planner.proofs.Gathers.{all_unused, back-few, back-of}
+use Rattle.pl_planner.specs.Extra.{Ask, asks, asks_back, back_from, input_ask, number_asks}
+use Rattle.pl_planner.specs.Columns.{is_bar, own_depth}
 
 abbrev pub Found : List Ask → ℕ → ℕ → Type 0
 Found list j x = (i : ℕ) × (slice_get list i ≡ Some (let a : Ask = (j, x) in a))
 
-asked-long : (ds : Depths) (a : Ask) → length (asked ds a) ≡ length ds
-asked-long ds a = length-set ds a.0 (Some (deeper (get_or ds a.0 None) a.1))
-
-pub long-asked : (list : List Ask) (ds : Depths) → length (all_asked ds list) ≡ length ds
-long-asked [] ds = refl
-long-asked (a ∷ list) ds = long-asked list (asked ds a) ∙ asked-long ds a
-
-deeper-least : (o : Option ℕ) (b : ℕ) → b ≤ deeper o b
-deeper-least None b = omega arith
-deeper-least (Some c) b = omega arith
-
-asked-own : (ds : Depths) (a : Ask) → a.0 < length ds → get_or (asked ds a) a.0 None ≡ Some (deeper (get_or ds a.0 None) a.1)
-asked-own ds a l = get_or-set_same ds a.0 (Some (deeper (get_or ds a.0 None) a.1)) None l
-
-asked-other : (ds : Depths) (a : Ask) (j : ℕ) → (j ≡ a.0 → ⊥) → get_or (asked ds a) j None ≡ get_or ds j None
-asked-other ds a j n = get_or-set_other ds a.0 j (Some (deeper (get_or ds a.0 None) a.1)) None n
-
--- what was read is read, at least as far
-kept-one : (ds : Depths) (a : Ask) (j x : ℕ) → a.0 < length ds → get_or ds j None ≡ Some x → AtLeast (asked ds a) j x
-kept-one ds a j x l e = elim (cases_eq j a.0) [
-  | inr n ↦ (x, omega arith, asked-other ds a j n ∙ e)
-  | inl same ↦
-      (let at : get_or (asked ds a) j None ≡ Some (deeper (get_or ds j None) a.1) = subst (λ k. get_or (asked ds a) k None ≡ Some (deeper (get_or ds k None) a.1)) (sym same) (asked-own ds a l) in
-      (max x a.1, omega arith, at ∙ ap (λ o. Some (deeper o a.1)) e))
-]
-
-told-one : (ds : Depths) (a : Ask) → a.0 < length ds → AtLeast (asked ds a) a.0 a.1
-told-one ds a l = (deeper (get_or ds a.0 None) a.1, deeper-least (get_or ds a.0 None) a.1, asked-own ds a l)
-
-came-one : (ds : Depths) (a : Ask) (j x : ℕ) → a.0 < length ds → get_or (asked ds a) j None ≡ Some x → (get_or ds j None ≡ Some x) ⊎ ((j ≡ a.0) × (x ≡ a.1))
-came-one ds a j x l e = elim (cases_eq j a.0) [
-  | inr n ↦ inl (sym (asked-other ds a j n) ∙ e)
-  | inl same ↦
-      (let at : get_or (asked ds a) j None ≡ Some (deeper (get_or ds j None) a.1) = subst (λ k. get_or (asked ds a) k None ≡ Some (deeper (get_or ds k None) a.1)) (sym same) (asked-own ds a l) in
-      here (get_or ds j None) refl same (sym at ∙ e))
-]
-  where
-    here : (o : Option ℕ) → get_or ds j None ≡ o → j ≡ a.0 → Some (deeper (get_or ds j None) a.1) ≡ Some x → (get_or ds j None ≡ Some x) ⊎ ((j ≡ a.0) × (x ≡ a.1))
-    here None f same h = let is : Some a.1 ≡ Some x = rw f at h in let y : a.1 ≡ x = cc in inr (same, sym y)
-    here (Some c) f same h = let is : Some (max c a.1) ≡ Some x = rw f at h in let y : max c a.1 ≡ x = cc in elim (cases_lt c a.1) [
-      | inl below ↦ inr (same, omega arith)
-      | inr above ↦ inl (f ∙ ap Some (omega arith))
-    ]
-
-abbrev AllIn : Depths → List Ask → Type 0
-AllIn ds list = Each (λ a. a.0 < length ds) list
-
-in-asked : (ds : Depths) (a : Ask) (list : List Ask) → AllIn ds list → AllIn (asked ds a) list
-in-asked ds a [] h = tt
-in-asked ds a (b ∷ list) h = let l : b.0 < length ds = h.0 in let m = asked-long ds a in (omega arith, in-asked ds a list h.1)
-
-kept-all : (list : List Ask) (ds : Depths) → AllIn ds list → (j x : ℕ) → get_or ds j None ≡ Some x → AtLeast (all_asked ds list) j x
-kept-all [] ds h j x e = (x, omega arith, e)
-kept-all (a ∷ list) ds h j x e =
-    let one = kept-one ds a j x h.0 e in
-    let rest = kept-all list (asked ds a) (in-asked ds a list h.1) j one.0 one.2 in
-    let first : x ≤ one.0 = one.1 in let second : one.0 ≤ rest.0 = rest.1 in
-    (rest.0, omega arith, rest.2)
-
-told-all : (list : List Ask) (ds : Depths) → AllIn ds list → (i : ℕ) (a : Ask) → slice_get list i ≡ Some a → AtLeast (all_asked ds list) a.0 a.1
-told-all [] ds h i a e = cc
-told-all (b ∷ list) ds h zero a e =
-    let same : b ≡ a = cc in
-    let one = told-one ds b h.0 in
-    let rest = kept-all list (asked ds b) (in-asked ds b list h.1) b.0 one.0 one.2 in
-    let first : b.1 ≤ one.0 = one.1 in let second : one.0 ≤ rest.0 = rest.1 in
-    let more : b.1 ≤ rest.0 = omega arith in
-    subst (λ (x : Ask). AtLeast (all_asked ds (b ∷ list)) x.0 x.1) same (rest.0, more, rest.2)
-told-all (b ∷ list) ds h (suc i) a e = told-all list (asked ds b) (in-asked ds b list h.1) i a e
-
-came-all : (list : List Ask) (ds : Depths) → AllIn ds list → (j x : ℕ) → get_or (all_asked ds list) j None ≡ Some x → (get_or ds j None ≡ Some x) ⊎ Found list j x
-came-all [] ds h j x e = inl e
-came-all (a ∷ list) ds h j x e = elim (came-all list (asked ds a) (in-asked ds a list h.1) j x e) [
-  | inr found ↦ inr (suc found.0, found.1)
-  | inl at ↦ elim (came-one ds a j x h.0 at) [
-    | inl old ↦ inl old
-    | inr own ↦ inr (0, ap Some (sym (pair j x a own.0 own.1)))
-  ]
-]
-  where
-    pair : (j x : ℕ) (a : Ask) → j ≡ a.0 → x ≡ a.1 → (let b : Ask = (j, x) in b) ≡ a
-    pair j x a e f = rw (e, f) refl
-
 -- ---- what a node reads
-
-module _ (P : Ask → Type 0) where
-  each-inputs : (b w : ℕ) (is : List Input) → ((i u : ℕ) → slice_get is i ≡ Some (TermInput u) → P (u, b + (w - 1))) → Each P (filter_map (input_ask b w) is)
-  each-inputs b w [] h = tt
-  each-inputs b w (BarColumn c ∷ is) h = each-inputs b w is (λ i u e. h (suc i) u e)
-  each-inputs b w (TermInput u ∷ is) h = (h 0 u refl, each-inputs b w is (λ i v e. h (suc i) v e))
-
-  each-number : (b : ℕ) (o : Option ℕ) → ((u : ℕ) → o ≡ Some u → P (u, b)) → Each P (number_asks b o)
-  each-number b None h = tt
-  each-number b (Some u) h = (h u refl, tt)
-
-  pub each-asks : (c b : ℕ) (n : Node) → ((i u : ℕ) → slice_get n.inputs i ≡ Some (TermInput u) → P (u, c + (n.window - 1))) → ((u : ℕ) → n.mask ≡ Some u → P (u, b))
-      → ((u : ℕ) → n.group ≡ Some u → P (u, b)) → Each P (asks c b n)
-  each-asks c b n x m g =
-      each_both P (number_asks b n.mask ++ number_asks b n.group) (filter_map (input_ask c n.window) n.inputs)
-      (each_both P (number_asks b n.mask) (number_asks b n.group) (each-number b n.mask m) (each-number b n.group g)) (each-inputs c n.window n.inputs x)
 
 in-front : (xs ys : List Ask) (j x : ℕ) → Found xs j x → Found (xs ++ ys) j x
 in-front xs ys j x f = (f.0, front xs f.0 f.1)
@@ -174,15 +66,10 @@ has-bar [] e = absurd (let bad : false ≡ true = e in cc)
 has-bar (BarColumn c ∷ is) e = (0, c, refl)
 has-bar (TermInput u ∷ is) e = let r = has-bar is e in (suc r.0, r.1, r.2)
 
-none-there : (n j : ℕ) → get_or (replicate n (let o : Option ℕ = None in o)) j None ≡ None
-none-there zero j = refl
-none-there (suc n) zero = refl
-none-there (suc n) (suc j) = none-there n j
-
-past-end : (ds : Depths) (k : ℕ) → length ds ≤ k → get_or ds k None ≡ None
-past-end [] k h = refl
-past-end (o ∷ ds) zero h = absurd (omega arith)
-past-end (o ∷ ds) (suc k) h = past-end ds k (omega arith)
+past_unused : (us : List Use) (k : ℕ) → length us ≤ k → use_at us k ≡ unused
+past_unused [] k h = refl
+past_unused (u ∷ us) zero h = absurd (omega arith)
+past_unused (u ∷ us) (suc k) h = past_unused us k (omega arith)
 
 -- ---- the least of some sessions is one of them
 
@@ -205,18 +92,18 @@ before-falls : (d : ℤ) (m n : ℕ) → m ≤ n → before d n ≤ℤ before d 
 before-falls d m n l = omega (arith, ints, l)
 
 -- by the deepest bars so far or by a term below k that is read, the least session is reached
-abbrev pub Meets : List ℤ → Graph → ℕ → ℕ → Depths → ℕ → ℕ → Type 0
-Meets days g t d ds k deepest =
+abbrev pub Meets : List ℤ → Graph → ℕ → ℕ → List Use → ℕ → ℕ → Type 0
+Meets days g t d us k deepest =
     (before (pos d) deepest ≤ℤ reach days (term_at g t) (pos d))
-    ⊎ ((j b : ℕ) × (j < k) × (get_or ds j None ≡ Some b) × (reach days (term_at g j) (before (pos d) b) ≤ℤ reach days (term_at g t) (pos d)))
+    ⊎ ((j : ℕ) × (j < k) × ((use_at us j).used ≡ true) × (reach days (term_at g j) (before (pos d) (use_at us j).extra) ≤ℤ reach days (term_at g t) (pos d)))
 
 -- what is read is needed, and what is needed is read
-pub record Covers (days : List ℤ) (g : Graph) (t d : ℕ) (ds : Depths) (k deepest : ℕ) : Type 0 where
-  pub long : length ds ≡ t + 1
+pub record Covers (days : List ℤ) (g : Graph) (t d : ℕ) (us : List Use) (k deepest : ℕ) : Type 0 where
+  pub long : length us ≡ t + 1
   pub own : reach days (term_at g t) (pos d) ≤ℤ before (pos d) deepest
-  pub marked : (j b : ℕ) → get_or ds j None ≡ Some b → reach days (term_at g t) (pos d) ≤ℤ reach days (term_at g j) (before (pos d) b)
-  pub met : Meets days g t d ds k deepest
-  pub room : (j b : ℕ) → get_or ds j None ≡ Some b → b + 1260 * j ≤ d + 1260 * t
+  pub marked : (j : ℕ) → (use_at us j).used ≡ true → reach days (term_at g t) (pos d) ≤ℤ reach days (term_at g j) (before (pos d) (use_at us j).extra)
+  pub met : Meets days g t d us k deepest
+  pub room : (j : ℕ) → (use_at us j).used ≡ true → (use_at us j).extra + 1260 * j ≤ d + 1260 * t
   pub room_own : deepest ≤ d + 1260 * t + 1260
 
 module _ (days : List ℤ) (up : AllPairs (λ a b. a <ℤ b) days) (g : Graph) (ok : IsGraph g)
@@ -336,7 +223,7 @@ module _ (days : List ℤ) (up : AllPairs (λ a b. a <ℤ b) days) (g : Graph) (
       abbrev Low : Ask → Type 0
       Low a = (a.0 < k) × (a.1 ≤ c + (n.window - 1)) × (R k (before d b) ≤ℤ R a.0 (before d a.1))
 
-      asks-low : Each Low (asks c b n)
+      asks-low : Each Low (asks_back c b n)
       asks-low =
           each-asks Low c b n
           (λ i u e.
@@ -364,18 +251,20 @@ module _ (days : List ℤ) (up : AllPairs (λ a b. a <ℤ b) days) (g : Graph) (
               rw e (le-eq _ _ _ h (ap (λ z. before z n.window) moved ∙ before-more d c n.window))
 
       abbrev Attains : Type 0
-      Attains = (before d (own_depth c b n) ≤ℤ R k (before d b)) ⊎ ((u x : ℕ) × Found (asks c b n) u x × (R u (before d x) ≤ℤ R k (before d b)))
+      Attains = (before d (own_depth c b n) ≤ℤ R k (before d b)) ⊎ ((u x : ℕ) × Found (asks_back c b n) u x × (R u (before d x) ≤ℤ R k (before d b)))
 
-      found-input : (i u : ℕ) → slice_get n.inputs i ≡ Some (TermInput u) → Found (asks c b n) u (c + (n.window - 1))
+      found-input : (i u : ℕ) → slice_get n.inputs i ≡ Some (TermInput u) → Found (asks_back c b n) u (c + (n.window - 1))
       found-input i u e =
-          behind (number_asks b n.mask ++ number_asks b n.group) (filter_map (input_ask c n.window) n.inputs) u (c + (n.window - 1)) (input-found c n.window n.inputs i u e)
+          in-front (filter_map (input_ask c n.window) n.inputs ++ number_asks b n.mask) (number_asks b n.group) u (c + (n.window - 1))
+          (in-front (filter_map (input_ask c n.window) n.inputs) (number_asks b n.mask) u (c + (n.window - 1)) (input-found c n.window n.inputs i u e))
 
-      found-number : (u : ℕ) → (n.mask ≡ Some u) ⊎ (n.group ≡ Some u) → Found (asks c b n) u b
+      found-number : (u : ℕ) → (n.mask ≡ Some u) ⊎ (n.group ≡ Some u) → Found (asks_back c b n) u b
       found-number u h =
-          in-front (number_asks b n.mask ++ number_asks b n.group) (filter_map (input_ask c n.window) n.inputs) u b (elim h [
-            | inl e ↦ in-front (number_asks b n.mask) (number_asks b n.group) u b (rw e (0, refl))
-            | inr e ↦ behind (number_asks b n.mask) (number_asks b n.group) u b (rw e (0, refl))
-          ])
+          let read = filter_map (input_ask c n.window) n.inputs in
+          elim h [
+            | inl e ↦ in-front (read ++ number_asks b n.mask) (number_asks b n.group) u b (behind read (number_asks b n.mask) u b (rw e (0, refl)))
+            | inr e ↦ behind (read ++ number_asks b n.mask) (number_asks b n.group) u b (rw e (0, refl))
+          ]
 
       own-more : b ≤ own_depth c b n
       own-more = here (list_any is_bar n.inputs) refl
@@ -405,35 +294,26 @@ module _ (days : List ℤ) (up : AllPairs (λ a b. a <ℤ b) days) (g : Graph) (
   -- ---- the pass from a term down
 
   module _ (t d : ℕ) where
-    abbrev Met : Depths → ℕ → ℕ → Type 0
-    Met ds k deepest = Meets days g t d ds k deepest
-
-    pub begun : (ds : Depths) → ds ≡ slice_set (replicate (t + 1) None) t (Some 0) → Covers days g t d ds (t + 1) 0
-    begun ds e = record {
-      long = size;
+    pub begun : (us : List Use) → us ≡ marked 0 (replicate (t + 1) unused) t → Covers days g t d us (t + 1) 0
+    begun us e = record {
+      long = ap (λ (l : List Use). length l) e ∙ length-set (replicate (t + 1) unused) t first ∙ length-replicate (t + 1) unused;
       own = le-eq _ _ _ (reaches-rise.within days (term_at g t) (pos d)) (sym (before-zero (pos d)));
-      marked = λ j b f. let is = one j b f in subst (λ s. R t (pos d) ≤ℤ s) (same j b is.0 is.1) (≤ℤ_refl (R t (pos d)));
-      met = inr (t, 0, omega arith, at, subst (λ s. R t s ≤ℤ R t (pos d)) (sym (before-zero (pos d))) (≤ℤ_refl (R t (pos d))));
-      room = λ j b f. let is = one j b f in let x : j ≡ t = is.0 in let y : b ≡ 0 = is.1 in omega (arith, x, y);
+      marked = λ j u. let is = one j u in subst (λ s. R t (pos d) ≤ℤ s) (same j (use_at us j).extra is.0 is.1) (≤ℤ_refl (R t (pos d)));
+      met = inr (t, omega arith, ap (λ (x : Use). x.used) at, le-eq _ _ _ (≤ℤ_refl (R t (before (pos d) (use_at us t).extra))) (sym (same t (use_at us t).extra refl (ap (λ (x : Use). x.extra) at))));
+      room = λ j u. let is = one j u in let x : j ≡ t = is.0 in let y : (use_at us j).extra ≡ 0 = is.1 in omega (arith, x, y);
       room_own = omega arith;
     }
       where
-        none : Depths
-        none = replicate (t + 1) None
+        first : Use
+        first = record { used = true; extra = 0; last = 0 }
 
-        long-none : length (replicate (t + 1) (let o : Option ℕ = None in o)) ≡ t + 1
-        long-none = length-replicate (t + 1) None
+        at : use_at us t ≡ record { used = true; extra = 0; last = 0 }
+        at = ap (λ l. use_at l t) e ∙ get_or-set_same (replicate (t + 1) unused) t first unused (let long = length-replicate (t + 1) unused in omega (arith, long))
 
-        size : length ds ≡ t + 1
-        size = ap (λ (l : Depths). length l) e ∙ length-set (replicate (t + 1) None) t (Some 0) ∙ long-none
-
-        at : get_or ds t None ≡ Some 0
-        at = ap (λ (l : Depths). get_or l t None) e ∙ get_or-set_same (replicate (t + 1) None) t (Some 0) None (omega (arith, long-none))
-
-        one : (j b : ℕ) → get_or ds j None ≡ Some b → (j ≡ t) × (b ≡ 0)
-        one j b f = elim (cases_eq j t) [
-          | inl s ↦ (s, let x : Some b ≡ Some 0 = sym f ∙ ap (λ i. get_or ds i None) s ∙ at in cc)
-          | inr n ↦ absurd (let x : None ≡ Some b = sym (none-there (t + 1) j) ∙ sym (get_or-set_other (replicate (t + 1) None) t j (Some 0) None n) ∙ sym (ap (λ (l : Depths). get_or l j None) e) ∙ f in cc)
+        one : (j : ℕ) → (use_at us j).used ≡ true → (j ≡ t) × ((use_at us j).extra ≡ 0)
+        one j u = elim (cases_eq j t) [
+          | inl s ↦ (s, ap (λ i. (use_at us i).extra) s ∙ ap (λ (x : Use). x.extra) at)
+          | inr n ↦ absurd (true≢false (sym u ∙ ap (λ (x : Use). x.used) (ap (λ l. use_at l j) e ∙ get_or-set_other (replicate (t + 1) unused) t j first unused n ∙ all_unused (t + 1) j)))
         ]
 
         same : (j b : ℕ) → j ≡ t → b ≡ 0 → R t (pos d) ≡ R j (before (pos d) b)
@@ -445,103 +325,108 @@ module _ (days : List ℤ) (up : AllPairs (λ a b. a <ℤ b) days) (g : Graph) (
       | inr l ↦ (let e : max m n ≡ m = omega arith in rw e h)
     ]
 
-    pub stepped : (ds new : Depths) (k deepest more b c : ℕ) (n : Node) → reads_at days n.kind (before (pos d) b) ≡ before (pos d) c → c ≤ max b d → Covers days g t d ds (k + 1) deepest → slice_get g k ≡ Some n → get_or ds k None ≡ Some b → new ≡ all_asked ds (asks c b n)
-        → more ≡ max deepest (own_depth c b n) → Covers days g t d new k more
-    stepped ds new k deepest more b c n moved near h at is made grown = record {
-      long = ap (λ (l : Depths). length l) made ∙ long-asked (asks c b n) ds ∙ h.long;
-      own = le-eq _ _ _ (max-own (R t (pos d)) deepest (own_depth c b n) h.own (through (before (pos d) (own_depth c b n)) (own-low k n at (pos d) b c moved))) (ap (before (pos d)) (sym grown));
-      marked = λ j x e. elim (came-all (asks c b n) ds inside j x (sym (ap (λ (l : Depths). get_or l j None) made) ∙ e)) [
-        | inl old ↦ h.marked j x old
-        | inr f ↦ through (R j (before (pos d) x)) (asked-is j x f).2
-      ];
-      met = meets h.met;
-      room = λ j x e. elim (came-all (asks c b n) ds inside j x (sym (ap (λ (l : Depths). get_or l j None) made) ∙ e)) [
-        | inl old ↦ h.room j x old
-        | inr f ↦ (let a = asked-is j x f in let lower : j < k = a.0 in let few : x ≤ c + (n.window - 1) = a.1 in let size : n.window ≤ 1260 = (sizes k n at).1 in omega (arith, lower, few, size, room-b, near, low-k))
-      ];
-      room_own = (let few : own_depth c b n ≤ c + 1260 = own-few k n at (pos d) b c moved in let old : deepest ≤ d + 1260 * t + 1260 = h.room_own in omega (arith, few, old, room-b, grown, near, low-k));
-    }
+    -- a term that is read asks
+    module _ (us : List Use) (k deepest : ℕ) (n : Node) (h : Covers days g t d us (k + 1) deepest) (at : slice_get g k ≡ Some n) (u : (use_at us k).used ≡ true) where
+      abbrev b : ℕ
+      b = (use_at us k).extra
+
+      abbrev c : ℕ
+      c = back_from days d n.kind b
+
+      abbrev list : List Ask
+      list = asks days d n b
+
+      abbrev after : List Use
+      after = all_asked us k list
+
+      abbrev more : ℕ
+      more = max deepest (own_depth c b n)
+
+      -- so many sessions back it reads its inputs
+      moved : reads_at days n.kind (before (pos d) b) ≡ before (pos d) c
+      moved =
+          let a : before (pos d) b ≡ pos d -ℤ pos b = omega (arith, ints) in
+          let z : pos d -ℤ pos c ≡ before (pos d) c = omega (arith, ints) in
+          ap (reads_at days n.kind) a ∙ back-of days d n.kind b ∙ z
+
+      -- what is read has a place among those up to t
+      low-k : k ≤ t
+      low-k = elim (cases_lt t k) [
+        | inr l ↦ l
+        | inl l ↦ absurd (true≢false (sym u ∙ ap (λ (x : Use). x.used) (past_unused us k (omega (arith, h.long, l)))))
+      ]
+
+      asked-low : (i : ℕ) (a : Ask) → slice_get list i ≡ Some a → (a.0 < k) × (a.1 ≤ c + (n.window - 1)) × (R k (before (pos d) b) ≤ℤ R a.0 (before (pos d) a.1))
+      asked-low i a e = each_at (Low k n at (pos d) b c moved) list i a (asks-low k n at (pos d) b c moved) e
+
+      low_in : (i : ℕ) (a : Ask) → slice_get list i ≡ Some a → a.0 < length us
+      low_in i a e = omega (arith, (asked-low i a e).0, h.long, low-k)
+
+      grows : Grows us after
+      grows = all_grow k list us low_in
+
+      through : (x : ℤ) → R k (before (pos d) b) ≤ℤ x → R t (pos d) ≤ℤ x
+      through x l = let m = h.marked k u in omega (arith, ints, m, l)
+
+      abbrev Needed : ℕ → ℕ → Type 0
+      Needed j x = (R t (pos d) ≤ℤ R j (before (pos d) x)) × (x + 1260 * j ≤ d + 1260 * t)
+
+      needed : (j : ℕ) → (use_at after j).used ≡ true → Needed j (use_at after j).extra
+      needed j v =
+          let room-b : b + 1260 * k ≤ d + 1260 * t = h.room k u in
+          let near : c ≤ max b d = back-few days d n.kind b in
+          let size : n.window ≤ 1260 = (sizes k n at).1 in
+          (all_sound k Needed (λ i l. Unit {0}) list us low_in
+          (λ i a e. let low = asked-low i a e in let less : a.0 < k = low.0 in let few : a.1 ≤ c + (n.window - 1) = low.1 in
+          ((through (R a.0 (before (pos d) a.1)) low.2, omega (arith, less, few, size, room-b, near, low-k)), tt))
+          (λ i w. ((h.marked i w, h.room i w), tt)) j v).0
+
+      known : (j x : ℕ) → (use_at after j).used ≡ true → x ≤ (use_at after j).extra → j < k → R j (before (pos d) x) ≤ℤ R t (pos d) → Meets days g t d after k more
+      known j x v deep l low =
+          let down : R j (before (pos d) (use_at after j).extra) ≤ℤ R j (before (pos d) x) = rises j (before (pos d) (use_at after j).extra) (before (pos d) x) (before-falls (pos d) x (use_at after j).extra deep) in
+          inr (j, l, v, omega (arith, ints, down, low))
+
+      from-k : R k (before (pos d) b) ≤ℤ R t (pos d) → Meets days g t d after k more
+      from-k low = elim (attains k n at (pos d) b c moved) [
+        | inl own ↦ (let falls = before-falls (pos d) (own_depth c b n) more (omega arith) in inl (omega (arith, ints, falls, own, low)))
+        | inr r ↦
+            (let a : Ask = (r.0, r.1) in
+            let given = all_given k list us low_in r.2.0 a r.2.1 in
+            let own : R r.0 (before (pos d) r.1) ≤ℤ R k (before (pos d) b) = r.3 in
+            known r.0 r.1 given.0 given.1 (asked-low r.2.0 a r.2.1).0 (omega (arith, ints, own, low)))
+      ]
+
+      meets : Meets days g t d us (k + 1) deepest → Meets days g t d after k more
+      meets (inl l) = (let falls = before-falls (pos d) deepest more (omega arith) in inl (omega (arith, ints, falls, l)))
+      meets (inr r) = elim (cases_lt r.0 k) [
+        | inl below ↦ known r.0 (use_at us r.0).extra (grows.used r.0 r.2) (grows.extra r.0 r.2) below r.3
+        | inr above ↦ (let last : r.0 ≡ k = (let l : r.0 < k + 1 = r.1 in omega arith) in from-k (subst (λ j. R j (before (pos d) (use_at us j).extra) ≤ℤ R t (pos d)) last r.3))
+      ]
+
+      pub stepped : (new : List Use) (now : ℕ) → new ≡ after → now ≡ more → Covers days g t d new k now
+      stepped new now made grown = rw (made, grown) (record {
+        long = grows.size ∙ h.long;
+        own = max-own (R t (pos d)) deepest (own_depth c b n) h.own (through (before (pos d) (own_depth c b n)) (own-low k n at (pos d) b c moved));
+        marked = λ j v. (needed j v).0;
+        met = meets h.met;
+        room = λ j v. (needed j v).1;
+        room_own = (let few : own_depth c b n ≤ c + 1260 = own-few k n at (pos d) b c moved in let room-b : b + 1260 * k ≤ d + 1260 * t = h.room k u in let near : c ≤ max b d = back-few days d n.kind b in
+            omega (arith, few, h.room_own, room-b, near, low-k));
+      })
+
+    pub passed : (us : List Use) (k deepest : ℕ) → Covers days g t d us (k + 1) deepest → (use_at us k).used ≡ false → Covers days g t d us k deepest
+    passed us k deepest h e = record { long = h.long; own = h.own; marked = h.marked; met = meets h.met; room = h.room; room_own = h.room_own }
       where
-        room-b : b + 1260 * k ≤ d + 1260 * t
-        room-b = h.room k b is
-
-        -- what is read has a place among those up to t
-        low-k : k ≤ t
-        low-k = elim (cases_lt t k) [
-          | inr l ↦ l
-          | inl l ↦ absurd (let none : get_or ds k None ≡ None = past-end ds k (let s : length ds ≡ t + 1 = h.long in omega arith) in let bad : None ≡ Some b = sym none ∙ is in cc)
-        ]
-
-        asked-is : (j x : ℕ) → Found (asks c b n) j x → (j < k) × (x ≤ c + (n.window - 1)) × (R k (before (pos d) b) ≤ℤ R j (before (pos d) x))
-        asked-is j x f = each_at (Low k n at (pos d) b c moved) (asks c b n) f.0 (let a : Ask = (j, x) in a) (asks-low k n at (pos d) b c moved) f.1
-
-        through : (x : ℤ) → R k (before (pos d) b) ≤ℤ x → R t (pos d) ≤ℤ x
-        through x l = let m = h.marked k b is in omega (arith, ints, m, l)
-
-        inside : Each (λ (a : Ask). a.0 < length ds) (asks c b n)
-        inside = each_more (Low k n at (pos d) b c moved) (λ (a : Ask). a.0 < length ds) (asks c b n) (λ a low. (let l : a.0 < k = low.0 in let s : length ds ≡ t + 1 = h.long in omega (arith, l, s, low-k))) (asks-low k n at (pos d) b c moved)
-
-        known : (j x : ℕ) → AtLeast (all_asked ds (asks c b n)) j x → j < k → R j (before (pos d) x) ≤ℤ R t (pos d) → Met new k more
-        known j x y l low =
-            let deep : x ≤ y.0 = y.1 in
-            let down : R j (before (pos d) y.0) ≤ℤ R j (before (pos d) x) = rises j (before (pos d) y.0) (before (pos d) x) (before-falls (pos d) x y.0 deep) in
-            inr (j, y.0, l, ap (λ (l : Depths). get_or l j None) made ∙ y.2, omega (arith, ints, down, low))
-
-        from-k : (x : ℕ) → x ≡ b → R k (before (pos d) x) ≤ℤ R t (pos d) → Met new k more
-        from-k x e low = elim (attains k n at (pos d) b c moved) [
-          | inl own ↦
-              (let deep : own_depth c b n ≤ more = omega (arith, grown) in
-              let falls = before-falls (pos d) (own_depth c b n) more deep in
-              let low-b : R k (before (pos d) b) ≤ℤ R t (pos d) = subst (λ y. R k (before (pos d) y) ≤ℤ R t (pos d)) e low in
-              inl (omega (arith, ints, falls, own, low-b)))
-          | inr r ↦
-              (let low-b : R k (before (pos d) b) ≤ℤ R t (pos d) = subst (λ y. R k (before (pos d) y) ≤ℤ R t (pos d)) e low in
-              let own : R r.0 (before (pos d) r.1) ≤ℤ R k (before (pos d) b) = r.3 in
-              known r.0 r.1 (told-all (asks c b n) ds inside r.2.0 (let a : Ask = (r.0, r.1) in a) r.2.1) (asked-is r.0 r.1 r.2).0 (omega (arith, ints, own, low-b)))
-        ]
-
-        meets : Met ds (k + 1) deepest → Met new k more
-        meets (inl l) = (let falls = before-falls (pos d) deepest more (omega (arith, grown)) in inl (omega (arith, ints, falls, l)))
-        meets (inr r) = elim (cases_lt r.0 k) [
-          | inl below ↦ known r.0 r.1 (kept-all (asks c b n) ds inside r.0 r.1 r.3) below r.4
-          | inr above ↦
-              (let last : r.0 ≡ k = (let l : r.0 < k + 1 = r.2 in omega arith) in
-              let same : Some r.1 ≡ Some b = sym r.3 ∙ ap (λ j. get_or ds j None) last ∙ is in
-              from-k r.1 (cc) (subst (λ j. R j (before (pos d) r.1) ≤ℤ R t (pos d)) last r.4))
-        ]
-
-    pub passed : (ds : Depths) (k deepest : ℕ) → Covers days g t d ds (k + 1) deepest → get_or ds k None ≡ None → Covers days g t d ds k deepest
-    passed ds k deepest h e = record { long = h.long; own = h.own; marked = h.marked; met = meets h.met; room = h.room; room_own = h.room_own }
-      where
-        meets : Met ds (k + 1) deepest → Met ds k deepest
+        meets : Meets days g t d us (k + 1) deepest → Meets days g t d us k deepest
         meets (inl l) = inl l
         meets (inr r) = elim (cases_lt r.0 k) [
-          | inl below ↦ inr (r.0, r.1, below, r.3, r.4)
-          | inr above ↦ absurd (let last : r.0 ≡ k = (let l : r.0 < k + 1 = r.2 in omega arith) in let bad : None ≡ Some r.1 = sym e ∙ sym (ap (λ j. get_or ds j None) last) ∙ r.3 in cc)
+          | inl below ↦ inr (r.0, below, r.2, r.3)
+          | inr above ↦ absurd (let last : r.0 ≡ k = (let l : r.0 < k + 1 = r.1 in omega arith) in true≢false (sym r.2 ∙ ap (λ j. (use_at us j).used) last ∙ e))
         ]
 
-    pub ended : (ds : Depths) (deepest : ℕ) → Covers days g t d ds 0 deepest → before (pos d) deepest ≡ R t (pos d)
-    ended ds deepest h = here h.met
+    pub ended : (us : List Use) (deepest : ℕ) → Covers days g t d us 0 deepest → before (pos d) deepest ≡ R t (pos d)
+    ended us deepest h = here h.met
       where
-        here : Met ds 0 deepest → before (pos d) deepest ≡ R t (pos d)
+        here : Meets days g t d us 0 deepest → before (pos d) deepest ≡ R t (pos d)
         here (inl l) = (let m = h.own in omega (arith, ints, l, m))
-        here (inr r) = absurd (omega (arith, r.2))
-
-pub one_more : {X Y : Type 0} (f : X → Option Y) (x : X) → filter_map f (x ∷ []) ≡ option_to_list (f x)
-one_more f x = here (f x) refl
-  where
-    here : (o : Option _) → f x ≡ o → filter_map f (x ∷ []) ≡ option_to_list (f x)
-    here None e = rw e refl
-    here (Some y) e = rw e refl
-
-pub more-asked : (ds : Depths) (b w : ℕ) (items : List code.Input) (i : ℕ) (d : code.Input) → i < length items
-    → all_asked (all_asked ds (filter_map (input_ask b w) (map input_of (take i items)))) (option_to_list (input_ask b w (input_of (get_or items i d))))
-    ≡ all_asked ds (filter_map (input_ask b w) (map input_of (take (i + 1) items)))
-more-asked ds b w items i d h = rw (take_more items i d h, map-append, filter_map-append, fold-append, one_more) refl
-
-pub lower-more : (n : Node) (a b : ℕ) → MentionsBelow n a → a ≤ b → MentionsBelow n b
-lower-more n a b h l = record {
-  inputs = λ i k e. (let m : k < a = h.inputs i k e in omega arith);
-  mask = λ k e. (let m : k < a = h.mask k e in omega arith);
-  group = λ k e. (let m : k < a = h.group k e in omega arith);
-}
+        here (inr r) = absurd (omega (arith, r.1))

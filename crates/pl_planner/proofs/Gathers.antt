@@ -1,5 +1,5 @@
 -- The uses gathered from the last term down are the uses of the definitions.
-use Rattle.std.proofs.Common.{◌≡◌, ◌≢◌, ℕ, zero, suc, ◌+◌, ◌*◌, ◌-◌, ◌<◌, ◌≤◌, Bool, true, false, max, ℤ, pos, negsuc, ◌-ℤ◌, ◌≤ℤ◌, ◌<ℤ◌, unsigned_abs, List, [], ◌∷◌, ◌++◌, length, map, AllPairs, Option, Some, None, refl, sym, ◌∙◌, ap, subst, arith, inl, inr, ◌⊎◌, slice_get, filter_map, option_to_list, ◌==◌, replicate, length-set, get_or-set_same, get_or-set_other}
+use Rattle.std.proofs.Common.{◌≡◌, ◌≢◌, ℕ, zero, suc, ◌+◌, ◌*◌, ◌<◌, ◌≤◌, Bool, true, false, max, ℤ, pos, negsuc, ◌-ℤ◌, ◌≤ℤ◌, ◌<ℤ◌, unsigned_abs, List, [], ◌∷◌, ◌++◌, length, map, AllPairs, Option, Some, None, refl, sym, ◌∙◌, ap, subst, arith, inl, inr, ◌⊎◌, slice_get, filter_map, option_to_list, ◌==◌, replicate, length-set, get_or-set_same, get_or-set_other}
 use Rattle.std.proofs.lemmas.Bool.{cases_lt, cases_eq, true≢false, or_cases, or_left, or_right, eqb-true, eq-eqb}
 use Rattle.std.proofs.lemmas.Int.{ints}
 use Rattle.std.proofs.lemmas.List.{map-append, length-replicate}
@@ -16,7 +16,8 @@ use Rattle.pl_planner.specs.declared.uses.Use.{Use}
 use Rattle.pl_planner.specs.Extra as extra
 use Rattle.pl_planner.specs.Extra.{Ask, back_from, input_ask, number_asks, asks, asks_of, asks_at, IsBack, IsExtra}
 use Rattle.pl_planner.specs.Uses.{unused, use_at, all_asked, marked, all_marked, AreUses, HaveExtras}
-use Rattle.pl_planner.proofs.Asking.{Grows, all_grow, all_given, all_sound, all_else}
+use Rattle.pl_spec.proofs.Each.{each_at}
+use Rattle.pl_planner.proofs.Asking.{Grows, all_grow, all_given, all_sound, all_else, each-asks}
 
 -- ---- what a node asks of is what it mentions
 
@@ -165,18 +166,6 @@ module _ (days : List ℤ) (rise : AllPairs (λ a b. a <ℤ b) days) (s : ℕ) (
   ask_lower u m i a e = lower g outputs ok u a.0 (mention_of_ask days s g u m i a e)
 
   module _ (us : List Use) (k : ℕ) (so_far : AreGathered days s g outputs (suc k) us) where
-    -- an unused term asks nothing
-    pub unasked : (use_at us k).used ≡ false → AreGathered days s g outputs k us
-    unasked e = record {
-      size = so_far.size;
-      sound = so_far.sound;
-      outs = so_far.outs;
-      given = λ u i t back l used at. elim (cases_eq u k) [
-        | inl p ↦ absurd (true≢false (sym used ∙ ap (λ n. (use_at us n).used) p ∙ e))
-        | inr p ↦ so_far.given u i t back (omega arith) used at
-      ];
-    }
-
     module _ (used : (use_at us k).used ≡ true) (within : k < length g) where
       abbrev list : List Ask
       list = asks_at days s g k (use_at us k).extra
@@ -320,7 +309,7 @@ marked_at count (o ∷ outs) us t within =
       | inr p ↦ tail p
     ]
 
-all_unused : (n t : ℕ) → use_at (replicate n unused) t ≡ unused
+pub all_unused : (n t : ℕ) → use_at (replicate n unused) t ≡ unused
 all_unused zero t = refl
 all_unused (suc n) zero = refl
 all_unused (suc n) (suc t) = all_unused n t
@@ -352,25 +341,6 @@ begun days s g outputs within =
 
 -- ---- the sums stay small
 
-abbrev Short : ℕ → List Ask → Type 0
-Short b list = (i : ℕ) (a : Ask) → slice_get list i ≡ Some a → a.1 ≤ b
-
-short-append : (b : ℕ) (xs ys : List Ask) → Short b xs → Short b ys → Short b (xs ++ ys)
-short-append b [] ys h k i a e = k i a e
-short-append b (x ∷ xs) ys h k zero a e = h 0 a e
-short-append b (x ∷ xs) ys h k (suc i) a e = short-append b xs ys (λ j c f. h (suc j) c f) k i a e
-
-short_inputs : (back w b : ℕ) → back + w ≤ b → (is : List Input) → Short b (filter_map (input_ask back w) is)
-short_inputs back w b h [] i a e = cc
-short_inputs back w b h (BarColumn c ∷ is) i a e = short_inputs back w b h is i a e
-short_inputs back w b h (TermInput k ∷ is) zero a e = let is : (let x : Ask = (k, back + (w - 1)) in x) ≡ a = cc in let r : back + (w - 1) ≡ a.1 = ap (λ (x : Ask). x.1) is in omega arith
-short_inputs back w b h (TermInput k ∷ is) (suc i) a e = short_inputs back w b h is i a e
-
-short_number : (m b : ℕ) → m ≤ b → (o : Option ℕ) → Short b (number_asks m o)
-short_number m b h None i a e = cc
-short_number m b h (Some k) zero a e = let is : (let x : Ask = (k, m) in x) ≡ a = cc in let r : m ≡ a.1 = ap (λ (x : Ask). x.1) is in omega arith
-short_number m b h (Some k) (suc i) a e = cc
-
 ask_short : (days : List ℤ) (s : ℕ) (g : Graph) (b : ℕ) → ((k : ℕ) (n : Node) → slice_get g k ≡ Some n → n.window ≤ b) → (u m i : ℕ) (a : Ask) → slice_get (asks_at days s g u m) i ≡ Some a → a.1 ≤ max m s + b
 ask_short days s g b short u m i a e = here (slice_get g u) refl
   where
@@ -380,9 +350,8 @@ ask_short days s g b short u m i a e = here (slice_get g u) refl
         let some = rw f at e in
         let w : n.window ≤ b = short u n f in
         let few = back-few days s n.kind m in
-        short-append (max m s + b) (filter_map (input_ask (back_from days s n.kind m) n.window) n.inputs ++ number_asks m n.mask) (number_asks m n.group)
-        (short-append (max m s + b) (filter_map (input_ask (back_from days s n.kind m) n.window) n.inputs) (number_asks m n.mask)
-        (short_inputs (back_from days s n.kind m) n.window (max m s + b) (omega arith) n.inputs) (short_number m (max m s + b) (omega arith) n.mask)) (short_number m (max m s + b) (omega arith) n.group) i a some
+        each_at (λ (x : Ask). x.1 ≤ max m s + b) (asks days s n m) i a
+        (each-asks (λ (x : Ask). x.1 ≤ max m s + b) (back_from days s n.kind m) m n (λ j v e. omega (arith, w, few)) (λ v e. omega arith) (λ v e. omega arith)) some
 
 pub needed_few : (days : List ℤ) (rise : AllPairs (λ a b. a <ℤ b) days) (s : ℕ) (g : Graph) (outputs : List ℕ) (ok : IsGraph g) → ((t : ℕ) → contains outputs t ≡ true → t < length g) → ((k : ℕ) (n : Node) → slice_get g k ≡ Some n → n.window ≤ 1260)
     → (t n : ℕ) → IsBack days s g outputs t n → (n + 1260 * t ≤ s + 1260 * length g) × (t < length g)

@@ -21,24 +21,20 @@ unfolding period_start
 start-before f days (negsuc d) h = refl
 start-before f days (pos d) h = absurd (omega (arith, ints))
 
+-- what holds of a session, and of the first one of its period, holds of the one that is read
+still : (P : ℤ → Type 0) (days : List ℤ) (k : Kind) (d : ℤ) → P d → ((f : Frequency) → P (period_start f days d)) → P (reads_at days k d)
+still P days (Constant cell) d h s = h
+still P days (Label n) d h s = h
+still P days (Number n) d h s = h
+still P days (StaticSids sids) d h s = h
+still P days (Window k) d h s = h
+still P days (Point k) d h s = h
+still P days (LabelTest k) d h s = h
+still P days (Cross k) d h s = h
+still P days (Downsample f) d h s = s f
+
 pub late-still : (days : List ℤ) (k : Kind) (d : ℤ) → pos 0 ≤ℤ d → pos 0 ≤ℤ reads_at days k d
-late-still days (Constant cell) d h = h
-late-still days (Label n) d h = h
-late-still days (Number n) d h = h
-late-still days (StaticSids sids) d h = h
-late-still days (Window k) d h = h
-late-still days (Point k) d h = h
-late-still days (LabelTest k) d h = h
-late-still days (Cross k) d h = h
-late-still days (Downsample f) d h = start-in f days d h
+late-still days k d h = still (λ s. pos 0 ≤ℤ s) days k d h (λ f. start-in f days d h)
 
 pub early-still : (days : List ℤ) (k : Kind) (d : ℤ) → d <ℤ pos 0 → reads_at days k d ≡ d
-early-still days (Constant cell) d h = refl
-early-still days (Label n) d h = refl
-early-still days (Number n) d h = refl
-early-still days (StaticSids sids) d h = refl
-early-still days (Window k) d h = refl
-early-still days (Point k) d h = refl
-early-still days (LabelTest k) d h = refl
-early-still days (Cross k) d h = refl
-early-still days (Downsample f) d h = start-before f days d h
+early-still days k d h = still (λ s. s ≡ d) days k d refl (λ f. start-before f days d h)

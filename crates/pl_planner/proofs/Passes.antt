@@ -11,7 +11,8 @@ use Rattle.pl_planner.specs.Extra.{asks, asks_of, asks_at, back_from, IsBack}
 use Rattle.pl_planner.specs.Columns.{is_bar, bars_back}
 use Rattle.pl_planner.specs.Uses.{unused, use_at, all_asked, all_marked, AreUses, HaveExtras}
 use Rattle.pl_planner.proofs.Pipelines.{IsPipeline}
-use Rattle.pl_planner.proofs.Gathers.{AreGathered, begun, step, unasked, gathered, extras, needed_few, back-few}
+use Rattle.pl_planner.proofs.Asking.{lower-more}
+use Rattle.pl_planner.proofs.Gathers.{AreGathered, begun, step, gathered, extras, needed_few, back-few}
 
 module _ (days : List ℤ) (rise : AllPairs (λ a b. a <ℤ b) days) (s : ℕ) (g : Graph) (outs : List ℕ) (ok : IsPipeline g outs) where
   outputs_in : (i o : ℕ) → slice_get outs i ≡ Some o → o < length g
@@ -54,25 +55,11 @@ module _ (days : List ℤ) (rise : AllPairs (λ a b. a <ℤ b) days) (s : ℕ) (
       let list : asks_at days s g k (use_at us k).extra ≡ asks days s n (use_at us k).extra = ap (λ o. asks_of days s o (use_at us k).extra) at in
       rw (less, is) (subst (λ l. AreGathered days s g outs k (all_asked us k l)) list (step days rise s g outs ok.graph us k h used (slice_get_within g k n at)))
 
-  pub pass_skipped : (us : List Use) (k : ℕ) → AreGathered days s g outs k us → 0 < k → (use_at us (k - 1)).used ≡ false → AreGathered days s g outs (k - 1) us
-  pass_skipped us zero h l u = absurd (omega arith)
-  pass_skipped us (suc k) h l u =
-      let less : suc k - 1 ≡ k = omega arith in
-      rw less (unasked days rise s g outs ok.graph us k h (rw less at u))
-
   pub pass_ended : (us : List Use) → AreGathered days s g outs 0 us → AreUses g outs us × HaveExtras days s g outs us
   pass_ended us h = (gathered days rise s g outs ok.graph us h, extras days rise s g outs ok.graph us h)
 
   pub pass_lower : (us : List Use) (j k : ℕ) (n : Node) → AreGathered days s g outs j us → slice_get g k ≡ Some n → MentionsBelow n (length us)
-  pass_lower us j k n h e =
-      let low : MentionsBelow n k = ok.graph.lower k n e in
-      let here : k < length g = slice_get_within g k n e in
-      let size = h.size in
-      record {
-        inputs = λ i t f. let l : t < k = low.inputs i t f in omega arith;
-        mask = λ t f. let l : t < k = low.mask t f in omega arith;
-        group = λ t f. let l : t < k = low.group t f in omega arith;
-      }
+  pass_lower us j k n h e = lower-more n k (length us) (ok.graph.lower k n e) (omega (arith, slice_get_within g k n e, h.size))
 
   pub extra-few : length g ≤ 256 → (us : List Use) → AreUses g outs us → HaveExtras days s g outs us → (t : ℕ) (kind : Kind) → (use_at us t).used ≡ true
       → back_from days s kind (use_at us t).extra ≤ s + 1260 * 256

@@ -7,7 +7,7 @@ use Rattle.std.proofs.lemmas.List.{length_push}
 use Rattle.pl_planner.specs.declared.uses.Use.{Use}
 use Rattle.pl_planner.specs.declared.slots.TermSlots.{TermSlots}
 use Rattle.pl_planner.specs.Uses.{is_kept}
-use Rattle.pl_planner.specs.Slotting.{no_slots, slots_at, own_slot, kept_below, one, IsHad, IsLowest, IsSlotted, AreSlotted, Tells, IsTaken}
+use Rattle.pl_planner.specs.Slotting.{no_slots, slots_at, own_slot, kept_below, one, IsHad, IsHadBefore, IsLowest, IsSlotted, AreSlotted, Takes, Tells, IsTaken}
 use Rattle.pl_planner.proofs.Counting.{count_more, one-or}
 
 none_in : (n : ℕ) → sum_by one (replicate n false) ≡ 0
@@ -108,7 +108,7 @@ one_taken taken s h free =
     let z : one (get_or taken s false) ≡ 0 = ap one free in
     omega arith
 
-pub count_few : (uses : List Use) (k n : ℕ) → count_by (is_kept uses k) (range_with_len 0 n) ≤ n
+count_few : (uses : List Use) (k n : ℕ) → count_by (is_kept uses k) (range_with_len 0 n) ≤ n
 count_few uses k zero = omega arith
 count_few uses k (suc n) =
     let ih = count_few uses k n in
@@ -122,12 +122,6 @@ count_few uses k (suc n) =
     one_few false = omega arith
 
 -- ---- one slot after another
-
-lowest : (T : ℕ → Type 0) (taken : List Bool) (slot : ℕ) → Tells T taken → ((i : ℕ) → i < slot → get_or taken i false ≡ true) → get_or taken slot false ≡ false → IsLowest T slot
-lowest T taken slot tells before free = record {
-  free = λ h. true≢false (sym (tells.yes slot h) ∙ free);
-  lowest = λ s l. tells.no s (before s l);
-}
 
 tells_more : (T : ℕ → Type 0) (taken : List Bool) (slot : ℕ) → Tells T taken → slot < length taken → Tells (λ s. T s ⊎ (slot ≡ s)) (set taken slot true)
 tells_more T taken slot tells inside = record {
@@ -144,62 +138,89 @@ tells_more T taken slot tells inside = record {
   ];
 }
 
--- what a call that takes the lowest free slot answers
-pub record Takes (old new : List Bool) (slot : ℕ) : Type 0 where
-  pub before : (i : ℕ) → i < slot → get_or old i false ≡ true
-  pub free : get_or old slot false ≡ false
-  pub taken : new ≡ set old slot true
-  pub count : sum_by one new ≡ sum_by one old + 1
+-- the marks tell which slots are taken, n at most
+record Stand (T : ℕ → Type 0) (taken : List Bool) (n : ℕ) : Type 0 where
+  pub tells : Tells T taken
+  pub size : length taken ≡ 260
+  pub few : sum_by one taken ≤ n
 
-module _ (uses : List Use) (slots : List TermSlots) (k : ℕ) (taken t1 t2 t3 t4 : List Bool) (own first second third : ℕ) (is : IsTaken uses slots k k taken)
-    (few : k < 256) (a : Takes taken t1 own) (b : Takes t1 t2 first) (c : Takes t2 t3 second) (d : Takes t3 t4 third) where
-  size1 : length t1 ≡ 260
-  size1 = ap length a.taken ∙ length-set taken own true ∙ is.size
+module _ (T : ℕ → Type 0) (taken new : List Bool) (n slot : ℕ) (is : Stand T taken n) (takes : Takes taken new slot) where
+  low : slot ≤ n
+  low = let f = front_taken taken slot takes.before in let m = is.few in omega arith
 
-  size2 : length t2 ≡ 260
-  size2 = ap length b.taken ∙ length-set t1 first true ∙ size1
-
-  size3 : length t3 ≡ 260
-  size3 = ap length c.taken ∙ length-set t2 second true ∙ size2
-
-  low : own ≤ kept_below uses k
-  low = let f = front_taken taken own a.before in let n = is.few in omega arith
-
-  low1 : first ≤ kept_below uses k + 1
-  low1 = let f = front_taken t1 first b.before in let n = is.few in let s = a.count in omega arith
-
-  low2 : second ≤ kept_below uses k + 2
-  low2 = let f = front_taken t2 second c.before in let n = is.few in let s = a.count in let r = b.count in omega arith
-
-  low3 : third ≤ kept_below uses k + 3
-  low3 = let f = front_taken t3 third d.before in let n = is.few in let s = a.count in let r = b.count in let q = c.count in omega arith
-
-  tells1 : Tells (λ s. IsHad uses slots k k s ⊎ (own ≡ s)) t1
-  tells1 = subst (Tells (λ s. IsHad uses slots k k s ⊎ (own ≡ s))) (sym a.taken) (tells_more (IsHad uses slots k k) taken own is.tells (let l = low in let m = count_few uses k k in let z = is.size in omega arith))
-
-  tells2 : Tells (λ s. (IsHad uses slots k k s ⊎ (own ≡ s)) ⊎ (first ≡ s)) t2
-  tells2 = subst (Tells (λ s. (IsHad uses slots k k s ⊎ (own ≡ s)) ⊎ (first ≡ s))) (sym b.taken)
-      (tells_more (λ s. IsHad uses slots k k s ⊎ (own ≡ s)) t1 first tells1 (let l = low1 in let m = count_few uses k k in let z = size1 in omega arith))
-
-  tells3 : Tells (λ s. ((IsHad uses slots k k s ⊎ (own ≡ s)) ⊎ (first ≡ s)) ⊎ (second ≡ s)) t3
-  tells3 = subst (Tells (λ s. ((IsHad uses slots k k s ⊎ (own ≡ s)) ⊎ (first ≡ s)) ⊎ (second ≡ s))) (sym c.taken)
-      (tells_more (λ s. (IsHad uses slots k k s ⊎ (own ≡ s)) ⊎ (first ≡ s)) t2 second tells2 (let l = low2 in let m = count_few uses k k in let z = size2 in omega arith))
-
-  pub slotted : IsSlotted uses slots k (record { own = own; columns = first ∷ second ∷ third ∷ [] })
-  slotted = record {
-    own = lowest (IsHad uses slots k k) taken own is.tells a.before a.free;
-    first = lowest (λ s. IsHad uses slots k k s ⊎ (own ≡ s)) t1 first tells1 b.before b.free;
-    second = lowest (λ s. (IsHad uses slots k k s ⊎ (own ≡ s)) ⊎ (first ≡ s)) t2 second tells2 c.before c.free;
-    third = lowest (λ s. ((IsHad uses slots k k s ⊎ (own ≡ s)) ⊎ (first ≡ s)) ⊎ (second ≡ s)) t3 third tells3 d.before d.free;
-    below = low;
-    columns_below = below;
+  lowest : IsLowest T slot
+  lowest = record {
+    free = λ h. true≢false (sym (is.tells.yes slot h) ∙ takes.free);
+    lowest = λ s l. is.tells.no s (takes.before s l);
   }
-    where
-      below : (i : ℕ) → i < 3 → get_or (first ∷ second ∷ third ∷ []) i 0 ≤ kept_below uses k + 1 + i
-      below zero h = let l = low1 in omega arith
-      below (suc zero) h = let l = low2 in omega arith
-      below (suc (suc zero)) h = let l = low3 in omega arith
-      below (suc (suc (suc i))) h = absurd (omega arith)
+
+  next : n < 260 → Stand (λ s. T s ⊎ (slot ≡ s)) new (n + 1)
+  next few = record {
+    tells = subst (Tells (λ s. T s ⊎ (slot ≡ s))) (sym takes.taken) (tells_more T taken slot is.tells (let l = low in let z = is.size in omega arith));
+    size = takes.size ∙ is.size;
+    few = (let m = is.few in let e = takes.count in omega arith);
+  }
+
+stands_as : (T S : ℕ → Type 0) (taken : List Bool) (n : ℕ) → ((s : ℕ) → T s → S s) → ((s : ℕ) → S s → T s) → Stand T taken n → Stand S taken n
+stands_as T S taken n f g is = record { tells = record { yes = λ s h. is.tells.yes s (g s h); no = λ s h. f s (is.tells.no s h) }; size = is.size; few = is.few }
+
+module _ (uses : List Use) (slots : List TermSlots) (k : ℕ) (new : TermSlots) where
+  abbrev Before : ℕ → ℕ → Type 0
+  Before i s = IsHadBefore uses slots k new i s
+
+  none_before : (s : ℕ) → Before 0 s → IsHad uses slots k k s ⊎ (new.own ≡ s)
+  none_before s (inl h) = h
+  none_before s (inr r) = absurd (omega (arith, r.1))
+
+  one_before : (i s : ℕ) → Before i s ⊎ (get_or new.columns i 0 ≡ s) → Before (i + 1) s
+  one_before i s (inl (inl h)) = inl h
+  one_before i s (inl (inr r)) = inr (r.0, omega (arith, r.1), r.2)
+  one_before i s (inr e) = inr (i, omega arith, e)
+
+  last_before : (i s : ℕ) → Before (i + 1) s → Before i s ⊎ (get_or new.columns i 0 ≡ s)
+  last_before i s (inl h) = inl (inl h)
+  last_before i s (inr r) = elim (cases_lt r.0 i) [
+    | inl l ↦ inl (inr (r.0, l, r.2))
+    | inr l ↦ inr (let e : r.0 ≡ i = omega (arith, r.1, l) in ap (λ j. get_or new.columns j 0) (sym e) ∙ r.2)
+  ]
+
+  -- the i-th column takes its slot
+  column_taken : (i n : ℕ) (taken after : List Bool) → Stand (Before i) taken n → Takes taken after (get_or new.columns i 0) → n < 260 → Stand (Before (i + 1)) after (n + 1)
+  column_taken i n taken after is takes few =
+      stands_as (λ s. Before i s ⊎ (get_or new.columns i 0 ≡ s)) (Before (i + 1)) after (n + 1) (one_before i) (last_before i) (next (Before i) taken after n (get_or new.columns i 0) is takes few)
+
+pub slotted : (uses : List Use) (slots : List TermSlots) (k : ℕ) (taken t1 t2 t3 t4 : List Bool) (own first second third : ℕ) → IsTaken uses slots k k taken → k < 256
+    → Takes taken t1 own → Takes t1 t2 first → Takes t2 t3 second → Takes t3 t4 third → IsSlotted uses slots k (record { own = own; columns = first ∷ second ∷ third ∷ [] })
+slotted uses slots k taken t1 t2 t3 t4 own first second third is few a b c d =
+    let new : TermSlots = record { own = own; columns = first ∷ second ∷ third ∷ [] } in
+    let n = kept_below uses k in
+    let m = count_few uses k k in
+    let s0 : Stand (IsHad uses slots k k) taken (kept_below uses k) = record { tells = is.tells; size = is.size; few = is.few } in
+    let s1 : Stand (IsHadBefore uses slots k new 0) t1 (n + 1) = stands_as _ _ t1 (n + 1) (λ s h. inl h) (none_before uses slots k new) (next _ taken t1 n own s0 a (omega (arith, m))) in
+    let s2 : Stand (IsHadBefore uses slots k new 1) t2 (n + 1 + 1) = column_taken uses slots k new 0 (n + 1) t1 t2 s1 b (omega (arith, m)) in
+    let s3 : Stand (IsHadBefore uses slots k new 2) t3 (n + 1 + 1 + 1) = column_taken uses slots k new 1 (n + 1 + 1) t2 t3 s2 c (omega (arith, m)) in
+    record {
+      own = lowest _ _ _ _ _ s0 a;
+      columns = columns (IsHadBefore uses slots k new) (lowest _ _ _ _ _ s1 b) (lowest _ _ _ _ _ s2 c) (lowest _ _ _ _ _ s3 d);
+      below = low _ _ _ _ _ s0 a;
+      columns_below = below n (low _ _ _ _ _ s1 b) (low _ _ _ _ _ s2 c) (low _ _ _ _ _ s3 d);
+    }
+  where
+    columns : (T : ℕ → ℕ → Type 0) → IsLowest (T 0) first → IsLowest (T 1) second → IsLowest (T 2) third → (i : ℕ) → i < 3 → IsLowest (T i) (get_or (first ∷ second ∷ third ∷ []) i 0)
+    columns T l1 l2 l3 zero h = l1
+    columns T l1 l2 l3 (suc zero) h = l2
+    columns T l1 l2 l3 (suc (suc zero)) h = l3
+    columns T l1 l2 l3 (suc (suc (suc i))) h = absurd (omega arith)
+
+    below : (n : ℕ) → first ≤ n + 1 → second ≤ n + 1 + 1 → third ≤ n + 1 + 1 + 1 → (i : ℕ) → i < 3 → get_or (first ∷ second ∷ third ∷ []) i 0 ≤ n + 1 + i
+    below n l1 l2 l3 zero h = omega arith
+    below n l1 l2 l3 (suc zero) h = omega arith
+    below n l1 l2 l3 (suc (suc zero)) h = omega arith
+    below n l1 l2 l3 (suc (suc (suc i))) h = absurd (omega arith)
+
+-- there is room for four slots more
+pub four_free : (uses : List Use) (slots : List TermSlots) (k : ℕ) (taken : List Bool) → IsTaken uses slots k k taken → k < 256 → sum_by one taken + 3 < length taken
+four_free uses slots k taken is few = omega (arith, is.few, is.size, few, count_few uses k k)
 
 -- ---- the slots of the terms before stay
 
@@ -227,16 +248,15 @@ module _ (uses : List Use) (slots : List TermSlots) (new : TermSlots) where
   same_lowest : (T S : ℕ → Type 0) → ((s : ℕ) → T s → S s) → ((s : ℕ) → S s → T s) → (slot : ℕ) → IsLowest T slot → IsLowest S slot
   same_lowest T S f g slot l = record { free = λ h. l.free (g slot h); lowest = λ s h. f s (l.lowest s h) }
 
-  either_same : (T S : ℕ → Type 0) (n : ℕ) → ((s : ℕ) → T s → S s) → (s : ℕ) → T s ⊎ (n ≡ s) → S s ⊎ (n ≡ s)
-  either_same T S n f s (inl h) = inl (f s h)
-  either_same T S n f s (inr e) = inr e
+  either_same : (T S Q : ℕ → Type 0) → ((s : ℕ) → T s → S s) → (s : ℕ) → T s ⊎ Q s → S s ⊎ Q s
+  either_same T S Q f s (inl h) = inl (f s h)
+  either_same T S Q f s (inr e) = inr e
 
   still_slotted : (k : ℕ) (own : TermSlots) → k ≤ length slots → IsSlotted uses slots k own → IsSlotted uses (slots ++ new ∷ []) k own
   still_slotted k own h is = record {
     own = same_lowest (IsHad uses slots k k) (IsHad uses (slots ++ new ∷ []) k k) f g own.own is.own;
-    first = same_lowest _ _ (either_same _ _ own.own f) (either_same _ _ own.own g) _ is.first;
-    second = same_lowest _ _ (either_same _ _ _ (either_same _ _ own.own f)) (either_same _ _ _ (either_same _ _ own.own g)) _ is.second;
-    third = same_lowest _ _ (either_same _ _ _ (either_same _ _ _ (either_same _ _ own.own f))) (either_same _ _ _ (either_same _ _ _ (either_same _ _ own.own g))) _ is.third;
+    columns = λ i h. same_lowest (IsHadBefore uses slots k own i) (IsHadBefore uses (slots ++ new ∷ []) k own i) (either_same _ _ (Before i) (either_same _ _ (λ s. own.own ≡ s) f))
+        (either_same _ _ (Before i) (either_same _ _ (λ s. own.own ≡ s) g)) _ (is.columns i h);
     below = is.below;
     columns_below = is.columns_below;
   }
@@ -246,6 +266,9 @@ module _ (uses : List Use) (slots : List TermSlots) (new : TermSlots) where
 
       g : (s : ℕ) → IsHad uses (slots ++ new ∷ []) k k s → IsHad uses slots k k s
       g s = had_back k s h
+
+      Before : ℕ → ℕ → Type 0
+      Before i s = (j : ℕ) × (j < i) × (get_or own.columns j 0 ≡ s)
 
   pub more_slotted : length slots < 256 → AreSlotted uses slots → IsSlotted uses slots (length slots) new → AreSlotted uses (slots ++ new ∷ [])
   more_slotted few so_far is = record {

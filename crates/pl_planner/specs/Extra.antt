@@ -21,10 +21,12 @@ abbrev pub number_asks : ℕ → Option ℕ → List Ask
 number_asks n None = []
 number_asks n (Some k) = (k, n) ∷ []
 
--- inputs are read over the window, a mask and a group on the session itself
+-- inputs are read over the window up to so many sessions before, a mask and a group on the session itself
+abbrev pub asks_back : ℕ → ℕ → Node → List Ask
+asks_back back n node = filter_map (input_ask back node.window) node.inputs ++ number_asks n node.mask ++ number_asks n node.group
+
 abbrev pub asks : List ℤ → ℕ → Node → ℕ → List Ask
-asks days s node n =
-    filter_map (input_ask (back_from days s node.kind n) node.window) node.inputs ++ number_asks n node.mask ++ number_asks n node.group
+asks days s node n = asks_back (back_from days s node.kind n) n node
 
 abbrev pub IsBelow : ℕ → Input → Type 0
 IsBelow b (BarColumn c) = Unit {0}

@@ -4,7 +4,6 @@ pub mod Extra
 pub mod Inside
 pub mod Laws
 pub mod Plans
-pub mod Reaching
 pub mod Rows
 pub mod Slotting
 pub mod Uses

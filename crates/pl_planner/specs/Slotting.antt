@@ -1,5 +1,5 @@
 -- Slots for the results of terms and for their bar columns, of those that are free the lowest ones.
-use Rattle.std.specs.Prelude.{◌≡◌, ℕ, ◌+◌, ◌<◌, ◌≤◌, ◌⊎◌, Bool, true, false, if◌then◌else◌, List, [], length, get_or, sum_by, count_by}
+use Rattle.std.specs.Prelude.{◌≡◌, ℕ, ◌+◌, ◌<◌, ◌≤◌, ◌⊎◌, Bool, true, false, if◌then◌else◌, List, [], length, get_or, set, sum_by, count_by}
 use Rattle.std.specs.List.{range_with_len}
 use Rattle.pl_spec.specs.Limits.{most_terms}
 use Rattle.pl_planner.specs.declared.uses.Use.{Use}
@@ -34,13 +34,16 @@ pub record IsLowest (IsTaken : ℕ → Type 0) (slot : ℕ) : Type 0 where
   pub free : IsTaken slot → ⊥
   pub lowest : (s : ℕ) → s < slot → IsTaken s
 
+-- what term k finds taken for a column: what the terms below have that are kept, its own, and what its columns
+-- before have
+abbrev pub IsHadBefore : List Use → List TermSlots → ℕ → TermSlots → ℕ → ℕ → Type 0
+IsHadBefore uses slots k new i slot = (IsHad uses slots k k slot ⊎ (new.own ≡ slot)) ⊎ ((j : ℕ) × (j < i) × (get_or new.columns j 0 ≡ slot))
+
 -- The lowest slot that no term below has which is kept up to term k, and then the next ones. There are no
 -- more taken than such terms.
 pub record IsSlotted (uses : List Use) (slots : List TermSlots) (k : ℕ) (new : TermSlots) : Type 0 where
   pub own : IsLowest (IsHad uses slots k k) new.own
-  pub first : IsLowest (λ s. IsHad uses slots k k s ⊎ (new.own ≡ s)) (get_or new.columns 0 0)
-  pub second : IsLowest (λ s. (IsHad uses slots k k s ⊎ (new.own ≡ s)) ⊎ (get_or new.columns 0 0 ≡ s)) (get_or new.columns 1 0)
-  pub third : IsLowest (λ s. ((IsHad uses slots k k s ⊎ (new.own ≡ s)) ⊎ (get_or new.columns 0 0 ≡ s)) ⊎ (get_or new.columns 1 0 ≡ s)) (get_or new.columns 2 0)
+  pub columns : (i : ℕ) → i < 3 → IsLowest (IsHadBefore uses slots k new i) (get_or new.columns i 0)
   pub below : new.own ≤ kept_below uses k
   pub columns_below : (i : ℕ) → i < 3 → get_or new.columns i 0 ≤ kept_below uses k + 1 + i
 
@@ -59,3 +62,11 @@ pub record IsTaken (uses : List Use) (slots : List TermSlots) (k n : ℕ) (taken
   pub size : length taken ≡ most_terms + 4
   pub tells : Tells (IsHad uses slots k n) taken
   pub few : sum_by one taken ≤ count_by (is_kept uses k) (range_with_len 0 n)
+
+-- the lowest slot that isn't taken is, and is taken then
+pub record Takes (old new : List Bool) (slot : ℕ) : Type 0 where
+  pub before : (i : ℕ) → i < slot → get_or old i false ≡ true
+  pub free : get_or old slot false ≡ false
+  pub taken : new ≡ set old slot true
+  pub count : sum_by one new ≡ sum_by one old + 1
+  pub size : length new ≡ length old

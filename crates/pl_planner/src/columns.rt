@@ -109,7 +109,7 @@ pub(crate) fn bound_of(checked: &Checked, uses: &[Use]) -> usize
     bound
 }
 
-fn reads_bars(inputs: &[Input]) -> bool
+pub(crate) fn reads_bars(inputs: &[Input]) -> bool
     ensures { result ≡ list_any is_bar (map input_of inputs.now) }
 {
     match inputs {

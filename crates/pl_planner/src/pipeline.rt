@@ -18,7 +18,7 @@ pub(crate) fn are_asked(checked: &Checked, sessions: &Sessions)
 }
 
 /// How many terms there are.
-pub(crate) fn count(checked: &Checked) -> usize
+pub fn count(checked: &Checked) -> usize
     ensures count { result ≡ length (pipeline_of checked.now).graph }
     ensures few { result ≤ most_terms }
     ensures checked { IsChecked (pipeline_of checked.now) }
@@ -27,7 +27,7 @@ pub(crate) fn count(checked: &Checked) -> usize
 }
 
 /// The node of a number.
-pub(crate) fn node_at(checked: &Checked, k: usize) -> &Node
+pub fn node_at(checked: &Checked, k: usize) -> &Node
     requires within { k < length (pipeline_of checked.now).graph }
     requires few { length (pipeline_of checked.now).graph ≤ most_terms }
     ensures { slice_get (pipeline_of checked.now).graph k ≡ Some (node_of result.now) }

@@ -1,8 +1,8 @@
 //! The slot of each term and of its bar columns: of those that are free the lowest.
 
-ghost use Rattle.std.specs.Prelude.{◌≡◌, ℕ, ◌+◌, ◌<◌, ◌≤◌, ◌^◌, IfOk, false, true, get_or, length, replicate, slice_set, sum_by};
+ghost use Rattle.std.specs.Prelude.{◌≡◌, ℕ, ◌+◌, ◌<◌, ◌≤◌, ◌^◌, IfOk, false, true, get_or, length, replicate, sum_by};
 ghost use Rattle.pl_spec.specs.Limits.{most_terms};
-ghost use Rattle.pl_planner.specs.Slotting.{AreSlotted, IsSlotted, IsTaken, one, own_slot};
+ghost use Rattle.pl_planner.specs.Slotting.{AreSlotted, IsSlotted, IsTaken, Takes, one, own_slot};
 
 use crate::columns::{either, is_kept};
 use crate::uses::Use;
@@ -48,10 +48,7 @@ fn first_free(taken: &[bool]) -> usize
 // The lowest slot that isn't taken, which is then.
 fn take_free(taken: &mut [bool]) -> usize
     requires { sum_by one taken.old < length taken.old }
-    ensures before { (i : ℕ) → i < result → get_or taken.old i false ≡ true }
-    ensures free { get_or taken.old result false ≡ false }
-    ensures taken { taken.new ≡ slice_set taken.old result true }
-    ensures count { sum_by one taken.new ≡ sum_by one taken.old + 1 }
+    ensures { Takes taken.old taken.new result }
 {
     let slot = first_free(taken);
     taken[slot] = true;

@@ -118,8 +118,9 @@ fn ask_number(uses: &mut [Use], number: Option<TermId>, by: usize, extra: usize)
     }
 }
 
+/// What a node asks of the terms that it mentions, where it is computed `extra` sessions early.
 #[tactic(auto, unfolding(pl_terms::specs::Nodes::node_of))]
-fn ask_all(
+pub(crate) fn ask_all(
     uses: &mut [Use],
     node: &Node,
     sessions: &Sessions,

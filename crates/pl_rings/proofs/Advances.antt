@@ -13,6 +13,8 @@ use Rattle.pl_rings.specs.declared.day.DayEvent.{DayEvent}
 use Rattle.pl_rings.specs.declared.rings.Rings.{Rings}
 use Rattle.pl_rings.specs.Days.{Start, FedDay, IsStart, AreFed, cell_brought, day_back, day_window}
 use Rattle.pl_rings.specs.Rings.{bar_ring, changed_cells, known_days}
+use Rattle.pl_rings.specs.declared.columns.BarRings.{BarRings}
+use Rattle.pl_rings.specs.Columns.{AreBarRings, MayAdvance, rings_of}
 use Rattle.pl_rings.specs.Changes.{Ring, AreRings, IsRing, ring_at, pushed, changed, column_event, HoldBars, Brings, FollowBars, IsHandedIn}
 use Rattle.pl_rings.proofs.Moves.{bars_move, slides, ends}
 use Rattle.pl_rings.proofs.Cells.{length-known}
@@ -126,14 +128,19 @@ known_more days next calendar size day same known =
 
 -- ---- a column among the others
 
-pub column_follows : (bars : List DayBar) (events : List DayEvent) (fed size : ℕ) (lent calendar : List ℤ) (c : Column) (old made : Rings)
-    → FollowBars bars events fed (drop (length lent - old.capacity) lent) c old.capacity old.rings.items made.rings.items → made.capacity ≡ old.capacity → lent ≡ calendar
-    → length calendar ≡ size → old.capacity ≤ size
+-- what a day made of the rings of a column
+pub record IsAdvanced (assets fed : ℕ) (calendar : List ℤ) (bars : List DayBar) (events : List DayEvent) (c : Column) (old new : Rings) : Type 0 where
+  pub capacity : new.capacity ≡ old.capacity
+  pub follow : FollowBars bars events fed (drop (length calendar - old.capacity) calendar) c old.capacity old.rings.items new.rings.items
+  pub rings : AreRings assets new.capacity new.rings.items
+
+pub column_follows : (bars : List DayBar) (events : List DayEvent) (assets fed size : ℕ) (lent calendar : List ℤ) (c : Column) (old made : Rings)
+    → IsAdvanced assets fed lent bars events c old made → lent ≡ calendar → length calendar ≡ size → old.capacity ≤ size
     → (g : Start) (next : FedDay) (days : List FedDay) → IsStart g → AreFed g (next ∷ days) → length days ≡ fed → Brings bars events next → known_days (length days) calendar ≡ day_window days size
     → HoldBars g days c old.capacity old.rings.items → HoldBars g (next ∷ days) c made.capacity made.rings.items
-column_follows bars events fed size lent calendar c old made follow room same long fits g next days start are count brings known hold =
-    subst (λ n. HoldBars g (next ∷ days) c n made.rings.items) (sym room)
-    (follow g next days start are
+column_follows bars events assets fed size lent calendar c old made is same long fits g next days start are count brings known hold =
+    subst (λ n. HoldBars g (next ∷ days) c n made.rings.items) (sym is.capacity)
+    (is.follow g next days start are
     (ap (λ l. known_days fed (drop (length l - old.capacity) l)) same
     ∙ ap (λ n. known_days n (drop (length calendar - old.capacity) calendar)) (sym count)
     ∙ known_last (length days) days calendar old.capacity size long fits known)
@@ -142,5 +149,8 @@ column_follows bars events fed size lent calendar c old made follow room same lo
 pub column_are : (size other : ℕ) (r : Rings) → size ≡ other → AreRings size r.capacity r.rings.items → AreRings other r.capacity r.rings.items
 column_are size other r e are = subst (λ n. AreRings n r.capacity r.rings.items) e are
 
-pub handed_in : (size other fed : ℕ) (bars : List DayBar) (events : List DayEvent) → size ≡ other → IsHandedIn size fed bars events → IsHandedIn other fed bars events
-handed_in size other fed bars events e day = subst (λ n. IsHandedIn n fed bars events) e day
+pub may_advance : (b : BarRings) (c : Column) (assets size fed : ℕ) (bars : List DayBar) (events : List DayEvent) → AreBarRings (length b.row.items) b → IsHandedIn (length b.row.items) fed bars events
+    → size ≡ length b.calendar.items → assets ≡ length b.row.items → MayAdvance assets size fed bars events (rings_of b c)
+may_advance b c assets size fed bars events are day long rows =
+    subst (λ n. MayAdvance n size fed bars events (rings_of b c)) (sym rows)
+    (record { rings = are.rings c; fits = omega (arith, are.fits c, are.calendar, long); handed_in = day })

@@ -9,7 +9,7 @@ use Rattle.pl_rings.specs.declared.day.DayBar.{DayBar}
 use Rattle.pl_rings.specs.declared.day.DayEvent.{DayEvent}
 use Rattle.pl_rings.specs.Days.{Start, FedDay, IsStart, AreFed, day_window}
 use Rattle.pl_rings.specs.Rings.{known_days, scaling}
-use Rattle.pl_rings.specs.Changes.{Ring, AreRings, HoldBars, Brings}
+use Rattle.pl_rings.specs.Changes.{Ring, AreRings, HoldBars, Brings, IsHandedIn}
 
 abbrev pub rings_of : BarRings → Column → Rings
 rings_of b OpenPrice = b.open_price
@@ -24,6 +24,12 @@ pub record AreBarRings (assets : ℕ) (b : BarRings) : Type 0 where
   pub rings : (c : Column) → AreRings assets (rings_of b c).capacity (rings_of b c).rings.items
   pub fits : (c : Column) → (rings_of b c).capacity ≤ b.calendar.capacity
   pub row : length b.row.items ≡ assets
+
+-- what the rings of a column ask of a day, with a row of so many assets and a calendar of so many days
+pub record MayAdvance (assets size fed : ℕ) (bars : List DayBar) (events : List DayEvent) (r : Rings) : Type 0 where
+  pub rings : AreRings assets r.capacity r.rings.items
+  pub fits : r.capacity ≤ size
+  pub handed_in : IsHandedIn assets fed bars events
 
 -- they stand for the days
 pub record HoldColumns (g : Start) (days : List FedDay) (b : BarRings) : Type 0 where

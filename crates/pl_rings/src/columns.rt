@@ -3,7 +3,7 @@ ghost use Rattle.std.specs.Prelude.{◌≡◌, ◌+◌, ◌-◌, ◌*◌, ◌≤
 ghost use Rattle.circular_buffer.specs.Buffer.{buffer, keep_last};
 ghost use Rattle.pl_rings.specs.Rings.{scaling};
 ghost use Rattle.pl_rings.specs.Changes.{AreRings, FollowBars, IsHandedIn};
-ghost use Rattle.pl_rings.specs.Columns.{AreBarRings, FollowColumns, SameRoom, day_steps, rings_of};
+ghost use Rattle.pl_rings.specs.Columns.{AreBarRings, FollowColumns, MayAdvance, SameRoom, day_steps, rings_of};
 
 use crate::bars::read_bars;
 use crate::day::Day;
@@ -76,9 +76,8 @@ fn advance_column<L: Ledger>(
     row: &mut [i64],
     steps: &mut Steps<L>,
 )
-    requires rings { AreRings (length row.old) rings.old.capacity rings.old.rings.items }
-    requires fits { rings.old.capacity ≤ length calendar.now }
-    requires handed_in { IsHandedIn (length row.old) fed day.now.bars.now day.now.events.now }
+    requires { MayAdvance (length row.old) (length calendar.now) fed day.now.bars.now day.now.events.now
+        rings.old }
     ensures capacity { rings.new.capacity ≡ rings.old.capacity }
     ensures follow { FollowBars day.now.bars.now day.now.events.now fed
         (drop (length calendar.now - rings.old.capacity) calendar.now) column rings.old.capacity

@@ -19,16 +19,16 @@ pub fn is_one(cell: i64) -> bool
 }
 
 /// Puts the empty value where the asset is not kept, and leaves the rest as it is.
-/// `none` is that value, 0 or `MISSING`; `keep` is 1 where the asset exists and passes the mask, else 0.
-pub fn keep_values(keep: &[i64], none: i64, out: &mut [i64])
+/// `empty` is that value, 0 or `MISSING`; `keep` is 1 where the asset exists and passes the mask, else 0.
+pub fn keep_values(keep: &[i64], empty: i64, out: &mut [i64])
     requires { length keep.now ≡ length out.old }
     ensures length { length out.new ≡ length out.old }
     ensures each { (i : ℕ) → i < length out.old → get_or out.new i (pos 0)
-        ≡ kept_or none keep.now (λ j. get_or out.old j (pos 0)) i }
+        ≡ kept_or empty keep.now (λ j. get_or out.old j (pos 0)) i }
 {
     for i in 0..keep.len() {
         if keep[i] != 1 {
-            out[i] = none;
+            out[i] = empty;
         }
     }
 }

@@ -21,8 +21,8 @@ copy_from_slice-requires c =
     let to : length c.args.start.now.row.items ≡ assets_at c.args.lent.now = (c.requires.start down.0 u down.1).row in
     omega (arith, from, to, c.args.start.now.row.ok.0)
 
-pub returns-in-Some-clause-follow : goal.returns-in-Some-clause-follow
-returns-in-Some-clause-follow c =
+pub returns-in-Some : goal.returns-in-Some
+returns-in-Some c =
     let l = c.args.lent.now in
     let terms = c.args.terms.now in
     let u = c.in-Some.input.0 in
@@ -30,20 +30,11 @@ returns-in-Some-clause-follow c =
     let t : TermCells = get_or terms u c.index-terms-input.result in
     let is = slice_get-get_or terms u c.index-terms-input.result inside in
     let down = c.in-Some.ensures.some in
-    let old = c.args.start.now in
     let row = c.copy_from_slice.ensures.items ∙ c.deref.ensures.value in
-    start_taken l c.args.term.0 terms old _ down.0 u t c.in-Some.ensures.below.0 c.in-Some.ensures.below.1 down.1 down.2 is refl row
-
-pub returns-in-Some-clause-start : goal.returns-in-Some-clause-start
-returns-in-Some-clause-start c =
-    let l = c.args.lent.now in
-    let terms = c.args.terms.now in
-    let u = c.in-Some.input.0 in
-    let inside : u < length terms = omega (arith, c.in-Some.ensures.below.0, c.requires.known, c.requires.terms.many, graph-long c.args.lent.now.checked.now.graph) in
-    let t : TermCells = get_or terms u c.index-terms-input.result in
-    let is = slice_get-get_or terms u c.index-terms-input.result inside in
-    let row = c.copy_from_slice.ensures.items ∙ c.deref.ensures.value in
-    start_fills l c.args.term.0 terms _ u t c.in-Some.ensures.below.1 c.requires.terms is row
+    record {
+      follow = start_taken l c.args.term.0 terms c.args.start.now _ down.0 u t c.in-Some.ensures.below.0 c.in-Some.ensures.below.1 down.1 down.2 is refl row;
+      start = start_fills l c.args.term.0 terms _ u t c.in-Some.ensures.below.1 c.requires.terms is row;
+    }
 
 pub returns-in_default-clause-follow : goal.returns-in_default-clause-follow
 returns-in_default-clause-follow c = start_kept c.args.lent.now c.args.term.0 c.args.terms.now c.args.start.now c.in_default.ensures.none

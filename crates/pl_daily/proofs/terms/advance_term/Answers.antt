@@ -19,32 +19,21 @@ put_term-requires-clause-cells c =
     let is = slice_get-get_or terms k c.index-terms-term.result inside in
     subst (λ n. AreTermCells n was) (sym (ap length c.deref.ensures.value ∙ c.term_row.ensures.room.out)) (c.requires.terms.full k was c.requires.used is)
 
-pub returns-clause-follow : goal.returns-clause-follow
-returns-clause-follow c =
-    let terms = c.args.terms.now in
-    let k = c.args.term.0 in
-    let inside : k < length terms = omega (arith, c.requires.known, c.requires.terms.many, graph-long c.args.lent.now.checked.now.graph) in
-    let was : TermCells = get_or terms k c.index-terms-term.result in
-    let is = slice_get-get_or terms k c.index-terms-term.result inside in
-    term_followed c.args.lent.now k terms c.args.start.now c.take_start.new.start was c.put_term.new.cells c.deref.result.now is inside c.requires.used c.put_term.ensures.follow
-    (sym (ap length c.deref.ensures.value ∙ c.term_row.ensures.room.out)) c.take_start.ensures.follow
-    (subst (IsRowOf c.args.lent.now k terms c.take_start.new.start) (sym c.deref.ensures.value) c.term_row.ensures.row)
-
-pub returns-clause-terms : goal.returns-clause-terms
-returns-clause-terms c =
+pub returns : goal.returns
+returns c =
     let l = c.args.lent.now in
     let terms = c.args.terms.now in
     let k = c.args.term.0 in
     let inside : k < length terms = omega (arith, c.requires.known, c.requires.terms.many, graph-long c.args.lent.now.checked.now.graph) in
     let was : TermCells = get_or terms k c.index-terms-term.result in
     let is = slice_get-get_or terms k c.index-terms-term.result inside in
-    terms_more (assets_at l) (pipeline_at l) l.bars.now terms k was c.put_term.new.cells c.requires.terms is inside
-    (subst (λ n. AreTermCells n c.put_term.new.cells) (ap length c.deref.ensures.value ∙ c.term_row.ensures.room.out) c.put_term.ensures.cells) c.put_term.ensures.capacity
-
-pub returns-clause-rooms : goal.returns-clause-rooms
-returns-clause-rooms c =
-    let terms = c.args.terms.now in
-    let k = c.args.term.0 in
-    let inside : k < length terms = omega (arith, c.requires.known, c.requires.terms.many, graph-long c.args.lent.now.checked.now.graph) in
-    let was : TermCells = get_or terms k c.index-terms-term.result in
-    rooms_stay terms k was c.put_term.new.cells (slice_get-get_or terms k c.index-terms-term.result inside) c.put_term.ensures.capacity
+    let new = c.put_term.new.cells in
+    let long = ap length c.deref.ensures.value ∙ c.term_row.ensures.room.out in
+    record {
+      follow = term_followed l k terms c.args.start.now c.take_start.new.start was new c.deref.result.now is inside c.requires.used c.put_term.ensures.follow
+          (sym long) c.take_start.ensures.follow (subst (IsRowOf l k terms c.take_start.new.start) (sym c.deref.ensures.value) c.term_row.ensures.row);
+      terms = terms_more (assets_at l) (pipeline_at l) l.bars.now terms k was new c.requires.terms is inside (subst (λ n. AreTermCells n new) long c.put_term.ensures.cells) c.put_term.ensures.capacity;
+      start = c.take_start.ensures.start;
+      rooms = rooms_stay terms k was new is c.put_term.ensures.capacity;
+      room = c.term_row.ensures.room;
+    }

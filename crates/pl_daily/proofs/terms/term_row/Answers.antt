@@ -9,46 +9,30 @@ use Rattle.pl_daily.specs.Terms.{IsRowOf, pipeline_at}
 use Rattle.pl_daily.proofs.Placed.{cells_at, moment_of, row_at, stands_at}
 use Rattle.pl_daily.proofs.terms.term_row.Goals as goal
 
-pub fill_row-requires-clause-term_day : goal.fill_row-requires-clause-term_day
-fill_row-requires-clause-term_day c =
+pub fill_row-requires : goal.fill_row-requires
+fill_row-requires c =
     let l = c.args.lent.now in
     let k = c.args.term.0 in
     let n = c.node.result.now in
     let next = c.requires.placed.0 in
     let days = c.requires.placed.1 in
+    let room = c.requires.room in
     let fits : FitsSigned w32 c.args.lent.now.day = search rules in
-    let at = graph-at l.checked.now.graph k n (ap (λ g. slice_get g k) (sym c.graph.ensures.value) ∙ c.node.ensures) in (
-      moment_of l next days,
-      stands_at l c.args.terms c.args.term c.node.result c.deref.result _ c.args.start.now (to_z-of_z w32 l.day fits) c.deref.ensures.value c.requires.start c.requires.terms
-          c.requires.lent.checked c.requires.used at c.requires.lent.few c.requires.lent.labels next days c.requires.placed.2,
-    )
-
-pub fill_row-requires-clause-first : goal.fill_row-requires-clause-first
-fill_row-requires-clause-first c =
-    let l = c.args.lent.now in
-    let k = c.args.term.0 in
-    let n = c.node.result.now in
     let at = graph-at l.checked.now.graph k n (ap (λ g. slice_get g k) (sym c.graph.ensures.value) ∙ c.node.ensures) in
     let w : (node_of n).window ≤ 1260 = ((is-pipeline (pipeline_at l) c.requires.lent.checked).windows k (node_of n) at).1 in
-    omega (arith, w, c.requires.room.first, ap length c.deref_mut.ensures.value)
-
-pub fill_row-requires-clause-second : goal.fill_row-requires-clause-second
-fill_row-requires-clause-second c =
-    let l = c.args.lent.now in
-    let k = c.args.term.0 in
-    let n = c.node.result.now in
-    let at = graph-at l.checked.now.graph k n (ap (λ g. slice_get g k) (sym c.graph.ensures.value) ∙ c.node.ensures) in
-    let w : (node_of n).window ≤ 1260 = ((is-pipeline (pipeline_at l) c.requires.lent.checked).windows k (node_of n) at).1 in
-    omega (arith, w, c.requires.room.second, ap length c.deref_mut-2.ensures.value)
-
-pub fill_row-requires-clause-third : goal.fill_row-requires-clause-third
-fill_row-requires-clause-third c =
-    let l = c.args.lent.now in
-    let k = c.args.term.0 in
-    let n = c.node.result.now in
-    let at = graph-at l.checked.now.graph k n (ap (λ g. slice_get g k) (sym c.graph.ensures.value) ∙ c.node.ensures) in
-    let w : (node_of n).window ≤ 1260 = ((is-pipeline (pipeline_at l) c.requires.lent.checked).windows k (node_of n) at).1 in
-    omega (arith, w, c.requires.room.third, ap length c.deref_mut-3.ensures.value)
+    record {
+      term_day = (
+        moment_of l next days,
+        stands_at l c.args.terms c.args.term c.node.result c.deref.result _ c.args.start.now (to_z-of_z w32 l.day fits) c.deref.ensures.value c.requires.start c.requires.terms
+            c.requires.lent.checked c.requires.used at c.requires.lent.few c.requires.lent.labels next days c.requires.placed.2,
+      );
+      cross = room.cross;
+      first = omega (arith, w, room.first, ap length c.deref_mut.ensures.value);
+      second = omega (arith, w, room.second, ap length c.deref_mut-2.ensures.value);
+      third = omega (arith, w, room.third, ap length c.deref_mut-3.ensures.value);
+      keep = ap length c.deref_mut-4.ensures.value ∙ room.keep;
+      long = ap length c.deref_mut-5.ensures.value ∙ room.out;
+    }
 
 pub returns-clause-row : goal.returns-clause-row
 returns-clause-row c =

@@ -1,11 +1,11 @@
-use Rattle.std.proofs.Common.{◌∙◌, ap, arith, sym, subst, get_or, length, pos, List, ℤ, FitsSigned, w64, w32, rules}
+use Rattle.std.proofs.Common.{◌≡◌, true, ◌∙◌, ap, arith, sym, subst, get_or, length, pos, List, ℤ, FitsSigned, w64, w32, rules}
 use Rattle.std.proofs.lemmas.Int.{to_z-of_z}
 use Rattle.std.proofs.lemmas.List.{get_or-replicate}
 use Rattle.pl_pipeline.specs.Kind.{Kind}
 use Rattle.pl_terms.specs.Kinds.{kind_of}
 use Rattle.pl_pointwise.specs.Operands.{AreOperands, IsOperation, operation}
 use Rattle.pl_cross.specs.Arrays.{sid_in}
-use Rattle.pl_values.specs.Families.{IsOf, sid_flag, code_flag}
+use Rattle.pl_values.specs.Families.{IsOf, is_label_test, sid_flag, code_flag}
 use Rattle.pl_values.proofs.Rows.{constant-given, sid-given, label-known, number-known, codes-long, code-read, test-given, point-asks, point-given}
 use Rattle.pl_day_rows.specs.TermDays.{assets_at, node_at, pipeline_at, sids_at}
 use Rattle.pl_day_rows.proofs.Given.{node_is, input_read, rows_read, label_given, number_given, start_long, start_given}
@@ -25,47 +25,35 @@ label_name-requires-in-Number c =
     let kind = subst (IsOf (node_at c.args.term_day.now).kind) c.in-Number.is c.requires.family in
     number-known _ _ _ (node_is c.args.term_day.now v is) c.in-Number.name kind
 
-pub label_test_values-requires-clause-codes : goal.label_test_values-requires-clause-codes
-label_test_values-requires-clause-codes c j h =
+pub label_test_values-requires : goal.label_test_values-requires
+label_test_values-requires c =
+    let t = c.args.term_day.now in
     let v = c.requires.term_day.0 in
     let is = c.requires.term_day.1 in
-    let kind = subst (IsOf (node_at c.args.term_day.now).kind) c.in-LabelTest.is c.requires.family in
-    let l = codes-long v.world (pipeline_at c.args.term_day.now) (sids_at c.args.term_day.now) c.args.term_day.now.term.0 (node_at c.args.term_day.now) (node_is c.args.term_day.now v is) (λ j. j) (λ j. v.session)
-    (assets_at c.args.term_day.now) c.row_at-codes.result.now
-    (input_read c.args.term_day.now v is 0 _ c.row_at-codes.ensures) kind is.here.coded _ is.here.texts in
-    code-read v.world (pipeline_at c.args.term_day.now) (sids_at c.args.term_day.now) c.args.term_day.now.term.0 (node_at c.args.term_day.now) (node_is c.args.term_day.now v is) (λ j. j) (λ j. v.session)
-    (assets_at c.args.term_day.now) c.row_at-codes.result.now
-    (input_read c.args.term_day.now v is 0 _ c.row_at-codes.ensures) kind is.here.coded _ is.here.texts j (omega (arith, h, l))
+    let kind = subst (IsOf (node_at t).kind) c.in-LabelTest.is c.requires.family in
+    let long = codes-long v.world (pipeline_at t) (sids_at t) t.term.0 (node_at t) (node_is t v is) (λ j. j) (λ j. v.session) (assets_at t) c.row_at-codes.result.now
+    (input_read t v is 0 _ c.row_at-codes.ensures) kind is.here.coded _ is.here.texts in
+    record {
+      kind = subst (λ (k : Kind). is_label_test k ≡ true) (sym c.kind_of-kind.ensures) kind;
+      codes = λ j h. code-read v.world (pipeline_at t) (sids_at t) t.term.0 (node_at t) (node_is t v is) (λ j. j) (λ j. v.session) (assets_at t) c.row_at-codes.result.now
+          (input_read t v is 0 _ c.row_at-codes.ensures) kind is.here.coded _ is.here.texts j (omega (arith, h, long));
+      many = long ∙ sym c.requires.long;
+    }
 
-pub label_test_values-requires-clause-many : goal.label_test_values-requires-clause-many
-label_test_values-requires-clause-many c =
+pub pointwise-requires : goal.pointwise-requires
+pointwise-requires c =
+    let t = c.args.term_day.now in
     let v = c.requires.term_day.0 in
     let is = c.requires.term_day.1 in
-    let kind = subst (IsOf (node_at c.args.term_day.now).kind) c.in-LabelTest.is c.requires.family in
-    codes-long v.world (pipeline_at c.args.term_day.now) (sids_at c.args.term_day.now) c.args.term_day.now.term.0 (node_at c.args.term_day.now) (node_is c.args.term_day.now v is) (λ j. j) (λ j. v.session)
-    (assets_at c.args.term_day.now) c.row_at-codes.result.now
-    (input_read c.args.term_day.now v is 0 _ c.row_at-codes.ensures) kind is.here.coded _ is.here.texts ∙ sym c.requires.long
-
-pub pointwise-requires-clause-kind : goal.pointwise-requires-clause-kind
-pointwise-requires-clause-kind c =
-    let v = c.requires.term_day.0 in
-    let is = c.requires.term_day.1 in
-    let kind = subst (IsOf (node_at c.args.term_day.now).kind) c.in-Point.is c.requires.family in
-    subst IsOperation (sym c.kind_of-kind.ensures) (point-asks v.world (pipeline_at c.args.term_day.now) (sids_at c.args.term_day.now) c.args.term_day.now.term.0 (node_at c.args.term_day.now)
-    (node_is c.args.term_day.now v is) (λ j. j) (λ j. v.session)
-    (assets_at c.args.term_day.now) c.row_at-first.result.now c.row_at-second.result.now c.row_at-third.result.now
-    (rows_read c.args.term_day.now v is _ _ _ c.row_at-first.ensures c.row_at-second.ensures c.row_at-third.ensures) kind).0
-
-pub pointwise-requires-clause-operands : goal.pointwise-requires-clause-operands
-pointwise-requires-clause-operands c =
-    let v = c.requires.term_day.0 in
-    let is = c.requires.term_day.1 in
-    let kind = subst (IsOf (node_at c.args.term_day.now).kind) c.in-Point.is c.requires.family in
-    subst (λ m. AreOperands (kind_of c.kind_of-kind.result.now) c.row_at-first.result.now c.row_at-second.result.now c.row_at-third.result.now m) (sym c.requires.long)
-    (subst (λ (k : Kind). AreOperands k c.row_at-first.result.now c.row_at-second.result.now c.row_at-third.result.now (assets_at c.args.term_day.now)) (sym c.kind_of-kind.ensures)
-    (point-asks v.world (pipeline_at c.args.term_day.now) (sids_at c.args.term_day.now) c.args.term_day.now.term.0 (node_at c.args.term_day.now) (node_is c.args.term_day.now v is) (λ j. j) (λ j. v.session)
-    (assets_at c.args.term_day.now) c.row_at-first.result.now c.row_at-second.result.now c.row_at-third.result.now
-    (rows_read c.args.term_day.now v is _ _ _ c.row_at-first.ensures c.row_at-second.ensures c.row_at-third.ensures) kind).1)
+    let kind = subst (IsOf (node_at t).kind) c.in-Point.is c.requires.family in
+    let asks = point-asks v.world (pipeline_at t) (sids_at t) t.term.0 (node_at t) (node_is t v is) (λ j. j) (λ j. v.session)
+    (assets_at t) c.row_at-first.result.now c.row_at-second.result.now c.row_at-third.result.now
+    (rows_read t v is _ _ _ c.row_at-first.ensures c.row_at-second.ensures c.row_at-third.ensures) kind in
+    record {
+      kind = subst IsOperation (sym c.kind_of-kind.ensures) asks.0;
+      operands = subst (λ m. AreOperands (kind_of c.kind_of-kind.result.now) c.row_at-first.result.now c.row_at-second.result.now c.row_at-third.result.now m) (sym c.requires.long)
+          (subst (λ (k : Kind). AreOperands k c.row_at-first.result.now c.row_at-second.result.now c.row_at-third.result.now (assets_at t)) (sym c.kind_of-kind.ensures) asks.1);
+    }
 
 pub copy_from_slice-requires : goal.copy_from_slice-requires
 copy_from_slice-requires c =

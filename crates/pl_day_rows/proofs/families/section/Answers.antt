@@ -1,5 +1,6 @@
-use Rattle.std.proofs.Common.{◌∙◌, sym, subst, ap, length, arith}
-use Rattle.pl_cross.specs.Section.{HasParameters}
+use Rattle.std.proofs.Common.{◌≡◌, true, ◌∙◌, sym, subst, ap, length, arith}
+use Rattle.pl_pipeline.specs.Kind.{Kind}
+use Rattle.pl_cross.specs.Section.{HasParameters, is_section}
 use Rattle.pl_cross.specs.Listing.{labels_in, Fits}
 use Rattle.pl_values.proofs.Rows.{section-long, section-right, section-cells, section-out}
 use Rattle.pl_day_rows.specs.TermDays.{number_row}
@@ -9,59 +10,22 @@ use Rattle.pl_day_rows.proofs.families.section.Goals as goal
 pub number_row-groups-requires : goal.number_row-groups-requires
 number_row-groups-requires c = group_known c.args.term_day.now c.requires.term_day.0 c.requires.term_day.1 c.group_of.result c.group_of.ensures
 
-pub section_values-requires-clause-parameters : goal.section_values-requires-clause-parameters
-section_values-requires-clause-parameters c =
+pub section_values-requires : goal.section_values-requires
+section_values-requires c =
     let groups = c.number_row-groups.ensures ∙ ap (number_row c.args.term_day.now.terms.now) c.group_of.ensures in
     let own = section_is c.args.term_day.now c.requires.term_day.0 c.requires.term_day.1 c.row_at-values.result.now c.args.keep.now
     (labels_in c.number_row-groups.result) c.row_at-values.ensures groups c.requires.keep c.requires.kind in
-    subst HasParameters (sym c.kind_of.ensures) (section-right _ _ _ _ _ _ _ _ _ _ own)
-
-pub section_values-requires-clause-room : goal.section_values-requires-clause-room
-section_values-requires-clause-room c =
-    let groups = c.number_row-groups.ensures ∙ ap (number_row c.args.term_day.now.terms.now) c.group_of.ensures in
-    let own = section_is c.args.term_day.now c.requires.term_day.0 c.requires.term_day.1 c.row_at-values.result.now c.args.keep.now
-    (labels_in c.number_row-groups.result) c.row_at-values.ensures groups c.requires.keep c.requires.kind in
-    let l = section-long _ _ _ _ _ _ _ _ _ _ own in
-    omega (arith, l, c.requires.cross)
-
-pub section_values-requires-clause-few : goal.section_values-requires-clause-few
-section_values-requires-clause-few c =
-    let groups = c.number_row-groups.ensures ∙ ap (number_row c.args.term_day.now.terms.now) c.group_of.ensures in
-    let own = section_is c.args.term_day.now c.requires.term_day.0 c.requires.term_day.1 c.row_at-values.result.now c.args.keep.now
-    (labels_in c.number_row-groups.result) c.row_at-values.ensures groups c.requires.keep c.requires.kind in
-    let l = section-long _ _ _ _ _ _ _ _ _ _ own in
-    omega (arith, l, c.requires.term_day.1.few)
-
-pub section_values-requires-clause-cells : goal.section_values-requires-clause-cells
-section_values-requires-clause-cells c =
-    let groups = c.number_row-groups.ensures ∙ ap (number_row c.args.term_day.now.terms.now) c.group_of.ensures in
-    let own = section_is c.args.term_day.now c.requires.term_day.0 c.requires.term_day.1 c.row_at-values.result.now c.args.keep.now
-    (labels_in c.number_row-groups.result) c.row_at-values.ensures groups c.requires.keep c.requires.kind in
-    section-cells _ _ _ _ _ _ _ _ _ _ own
-
-pub section_values-requires-clause-keep : goal.section_values-requires-clause-keep
-section_values-requires-clause-keep c =
-    let groups = c.number_row-groups.ensures ∙ ap (number_row c.args.term_day.now.terms.now) c.group_of.ensures in
-    let own = section_is c.args.term_day.now c.requires.term_day.0 c.requires.term_day.1 c.row_at-values.result.now c.args.keep.now
-    (labels_in c.number_row-groups.result) c.row_at-values.ensures groups c.requires.keep c.requires.kind in
-    let l = section-long _ _ _ _ _ _ _ _ _ _ own in
-    c.requires.keep.long ∙ sym l
-
-pub section_values-requires-clause-groups : goal.section_values-requires-clause-groups
-section_values-requires-clause-groups c =
-    let groups = c.number_row-groups.ensures ∙ ap (number_row c.args.term_day.now.terms.now) c.group_of.ensures in
-    let own = section_is c.args.term_day.now c.requires.term_day.0 c.requires.term_day.1 c.row_at-values.result.now c.args.keep.now
-    (labels_in c.number_row-groups.result) c.row_at-values.ensures groups c.requires.keep c.requires.kind in
-    let l = section-long _ _ _ _ _ _ _ _ _ _ own in
-    subst (λ m. Fits m (labels_in c.number_row-groups.result)) (sym l) (groups_fit c.args.term_day.now c.requires.term_day.0 c.requires.term_day.1 _ groups)
-
-pub section_values-requires-clause-out : goal.section_values-requires-clause-out
-section_values-requires-clause-out c =
-    let groups = c.number_row-groups.ensures ∙ ap (number_row c.args.term_day.now.terms.now) c.group_of.ensures in
-    let own = section_is c.args.term_day.now c.requires.term_day.0 c.requires.term_day.1 c.row_at-values.result.now c.args.keep.now
-    (labels_in c.number_row-groups.result) c.row_at-values.ensures groups c.requires.keep c.requires.kind in
-    let l = section-long _ _ _ _ _ _ _ _ _ _ own in
-    c.requires.long ∙ sym l
+    let long = section-long _ _ _ _ _ _ _ _ _ _ own in
+    record {
+      kind = subst (λ (k : Kind). is_section k ≡ true) (sym c.kind_of.ensures) c.requires.kind;
+      parameters = subst HasParameters (sym c.kind_of.ensures) (section-right _ _ _ _ _ _ _ _ _ _ own);
+      room = omega (arith, long, c.requires.cross);
+      few = omega (arith, long, c.requires.term_day.1.few);
+      cells = section-cells _ _ _ _ _ _ _ _ _ _ own;
+      keep = c.requires.keep.long ∙ sym long;
+      groups = subst (λ m. Fits m (labels_in c.number_row-groups.result)) (sym long) (groups_fit c.args.term_day.now c.requires.term_day.0 c.requires.term_day.1 _ groups);
+      out = c.requires.long ∙ sym long;
+    }
 
 pub returns-clause-out : goal.returns-clause-out
 returns-clause-out c = λ v is.

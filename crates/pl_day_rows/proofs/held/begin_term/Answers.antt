@@ -10,11 +10,11 @@ use Rattle.pl_day_rows.proofs.held.begin_term.Goals as goal
 
 pub returns-clause-cells : goal.returns-clause-cells
 returns-clause-cells c =
-    let e : FitsSigned w64 c.args.none = c.ranges.none in
+    let e : FitsSigned w64 c.args.empty = c.ranges.empty in
     let row = simp to_z-of_z at (c.in_ok-row.ensures.items_if_clones_equal (λ y same. same)) in
     record {
-      row = ap length row ∙ length-replicate c.args.assets c.args.none;
-      cells = subst (All IsCell) (sym row) (all_one c.args.assets c.args.none c.requires);
+      row = ap length row ∙ length-replicate c.args.assets c.args.empty;
+      cells = subst (All IsCell) (sym row) (all_one c.args.assets c.args.empty c.requires);
       rings = λ some.
           let has : 0 < c.args.capacity = omega (arith, some, c.in_ok-rings.ensures.capacity) in
           subst (λ n. AreRings c.args.assets n c.in_ok-rings.rings.rings.items) (sym c.in_ok-rings.ensures.capacity)
@@ -23,8 +23,8 @@ returns-clause-cells c =
 
 pub returns-clause-begins : goal.returns-clause-begins
 returns-clause-begins c =
-    let e : FitsSigned w64 c.args.none = c.ranges.none in
+    let e : FitsSigned w64 c.args.empty = c.ranges.empty in
     let row = simp to_z-of_z at (c.in_ok-row.ensures.items_if_clones_equal (λ y same. same)) in
     let rings = simp to_z-of_z at c.in_ok-rings.ensures.items in
-    begin_term c.args.assets c.args.capacity c.args.none (record { row = c.in_ok-row.row; rings = c.in_ok-rings.rings }) row c.in_ok-rings.ensures.capacity
-    (λ some. rings ∙ ap (λ n. replicate n (buffer (replicate c.args.capacity c.args.none) c.args.capacity)) (c.ring_count.ensures some))
+    begin_term c.args.assets c.args.capacity c.args.empty (record { row = c.in_ok-row.row; rings = c.in_ok-rings.rings }) row c.in_ok-rings.ensures.capacity
+    (λ some. rings ∙ ap (λ n. replicate n (buffer (replicate c.args.capacity c.args.empty) c.args.capacity)) (c.ring_count.ensures some))

@@ -1,17 +1,14 @@
-use Rattle.std.proofs.Common.{rules, ◌≡◌, ℕ, ◌+◌, ◌-◌, ◌<◌, ◌≤◌, ◌^◌, max, ℤ, List, Some, None, length, get_or, slice_get, sym, ◌∙◌, ap, subst, arith}
+use Rattle.std.proofs.Common.{rules, ◌≡◌, ℕ, ◌+◌, ◌-◌, ◌*◌, ◌<◌, ◌≤◌, ◌^◌, max, ℤ, List, Some, slice_get, ◌∙◌, ap, subst, arith}
 use Rattle.pl_pipeline.specs.Term.{Node}
-use Rattle.pl_pipeline.specs.Graph.{reads_at}
 use Rattle.pl_terms.specs.Nodes.{graph_of, node_of}
 use Rattle.pl_terms.specs.Checked.{Parts, pipeline_of, IsChecked}
-use Rattle.pl_terms.proofs.Graphs.{graph-at, graph-long}
+use Rattle.pl_terms.proofs.Graphs.{graph-long}
 use Rattle.pl_planner.proofs.Pipelines.{ReadsTerms, is-pipeline, window-is}
-use Rattle.pl_planner.proofs.Gathers.{back-of, back-few}
+use Rattle.pl_planner.proofs.Gathers.{back-few}
 use Rattle.pl_planner.specs.Extra.{back_from}
 use Rattle.pl_pipeline.specs.Kind.{Kind}
-use Rattle.pl_spec.specs.Window.{before}
-use Rattle.std.proofs.lemmas.Int.{ints}
-use Rattle.std.proofs.Common.{pos, ◌-ℤ◌}
-use Rattle.pl_planner.proofs.Depths.{Covers, begun, stepped, passed, ended, lower-more}
+use Rattle.pl_planner.proofs.Asking.{lower-more}
+use Rattle.pl_planner.proofs.Depths.{Covers, begun, stepped, ended}
 use Rattle.pl_planner.proofs.reach.deepest_read.Goals as goal
 
 sizes : (p : Parts) → IsChecked (pipeline_of p) → (k : ℕ) (n : Node) → slice_get (graph_of p.graph) k ≡ Some n → (1 ≤ n.window) × (n.window ≤ 1260)
@@ -20,86 +17,56 @@ sizes p ok k n e = (is-pipeline (pipeline_of p) ok).windows k n e
 reads : (p : Parts) → IsChecked (pipeline_of p) → (k : ℕ) (n : Node) → slice_get (graph_of p.graph) k ≡ Some n → ReadsTerms n
 reads p ok k n e = (is-pipeline (pipeline_of p) ok).reads k n e
 
--- how many sessions back a node reads its inputs
-moved : (days : List ℤ) (s : ℕ) (k : Kind) (b c : ℕ) → c ≡ back_from days s k b → reads_at days k (before (pos s) b) ≡ before (pos s) c
-moved days s k b c e = let m = back-of days s k b in let z : before (pos s) b ≡ pos s -ℤ pos b = omega (arith, ints) in let y : pos s -ℤ pos (back_from days s k b) ≡ before (pos s) c = rw e (omega (arith, ints)) in ap (reads_at days k) z ∙ m ∙ y
-
-near : (days : List ℤ) (s : ℕ) (k : Kind) (b c : ℕ) → c ≡ back_from days s k b → c ≤ max b s
-near days s k b c e = subst (λ x. x ≤ max b s) (sym e) (back-few days s k b)
+-- what a node reads lies within the numbers of the machine
+room : (days : List ℤ) (s t j extra window : ℕ) (k : Kind) → extra + 1260 * j ≤ s + 1260 * t → window ≤ 1260 → s < 16000 → t ≤ 256 → back_from days s k extra + window < 2 ^ 63
+room days s t j extra window k h w a b = omega (arith, back-few days s k extra, h, w, a, b)
 
 pub loop-k-init : goal.loop-k-init
 loop-k-init c =
     let p = c.args.checked.now in
     let ok = c.requires.asked.checked in
     record {
-      covers = begun c.args.sessions.now c.requires.asked.days.ascend (graph_of p.graph) ok.graph (sizes p ok) (reads p ok) c.args.t.0 c.args.session _ c.requires.depths;
+      covers = begun c.args.sessions.now c.requires.asked.days.ascend (graph_of p.graph) ok.graph (sizes p ok) (reads p ok) c.args.t.0 c.args.session _ c.requires.uses;
       within = omega arith;
     }
 
-pub overflow_cast-k-in-Some : goal.overflow_cast-k-in-Some
-overflow_cast-k-in-Some c =
-    let few : c.loop-k.k - 1 < 2 ^ 8 = omega (arith, c.requires.term, graph-long c.args.checked.now.graph, c.requires.asked.few, c.loop-k.invariant.within, c.loop-k-test.true) in
-    search rules
+pub node_at-node-requires-clause-within : goal.node_at-node-requires-clause-within
+node_at-node-requires-clause-within c = omega (arith, c.requires.term, graph-long c.args.checked.now.graph, c.loop-k.invariant.within, c.loop-k-test.true)
 
-pub node-node-requires : goal.node-node-requires
-node-node-requires c =
-    let long = ap (λ (l : List _). length l) c.graph-graph.ensures.value in
-    omega (arith, c.requires.term, long, c.loop-k.invariant.within, c.loop-k-test.true)
-
-pub read_node-requires-clause-window : goal.read_node-requires-clause-window
-read_node-requires-clause-window c =
-    let p = c.args.checked.now in
-    let n = c.node-node.result.now in
-    let is : slice_get p.graph (c.loop-k.k - 1) ≡ Some n = ap (λ ns. slice_get ns (c.loop-k.k - 1)) (sym c.graph-graph.ensures.value) ∙ c.node-node.ensures in
-    let size = sizes p c.requires.asked.checked (c.loop-k.k - 1) (node_of n) (graph-at p.graph (c.loop-k.k - 1) n is) in
-    omega (arith, size.0, window-is n)
-
-pub read_node-requires-clause-room : goal.read_node-requires-clause-room
-read_node-requires-clause-room c =
-    let p = c.args.checked.now in
-    let n = c.node-node.result.now in
-    let is : slice_get p.graph (c.loop-k.k - 1) ≡ Some n = ap (λ ns. slice_get ns (c.loop-k.k - 1)) (sym c.graph-graph.ensures.value) ∙ c.node-node.ensures in
-    let size = sizes p c.requires.asked.checked (c.loop-k.k - 1) (node_of n) (graph-at p.graph (c.loop-k.k - 1) n is) in
-    let at : get_or c.loop-k.depths (c.loop-k.k - 1) None ≡ Some c.in-Some.depth = sym c.depth_of.ensures ∙ c.in-Some.is in
-    let close : c.back_from-back.result ≤ max c.in-Some.depth c.args.session = near c.args.sessions.now c.args.session (node_of n).kind c.in-Some.depth c.back_from-back.result c.back_from-back.ensures in
-    omega (arith, size.1, window-is n, close, c.requires.session, c.requires.asked.days.few, c.loop-k.invariant.covers.room (c.loop-k.k - 1) c.in-Some.depth at, c.requires.term, graph-long p.graph, c.requires.asked.few)
-
-pub read_node-requires-clause-lower : goal.read_node-requires-clause-lower
-read_node-requires-clause-lower c =
-    let p = c.args.checked.now in
-    let n = c.node-node.result.now in
-    let is : slice_get p.graph (c.loop-k.k - 1) ≡ Some n = ap (λ ns. slice_get ns (c.loop-k.k - 1)) (sym c.graph-graph.ensures.value) ∙ c.node-node.ensures in
-    lower-more (node_of n) (c.loop-k.k - 1) _ (c.requires.asked.checked.graph.lower (c.loop-k.k - 1) (node_of n) (graph-at p.graph (c.loop-k.k - 1) n is))
-    (omega (arith, c.loop-k.invariant.covers.long, c.loop-k.invariant.within, c.loop-k-test.true))
-
-pub loop-k-preserved : goal.loop-k-preserved
-loop-k-preserved c =
-    let p = c.args.checked.now in
-    let ok = c.requires.asked.checked in
-    let n = c.node-node.result.now in
-    let is : slice_get p.graph (c.loop-k.k - 1) ≡ Some n = ap (λ ns. slice_get ns (c.loop-k.k - 1)) (sym c.graph-graph.ensures.value) ∙ c.node-node.ensures in
-    let at : get_or c.loop-k.depths (c.loop-k.k - 1) None ≡ Some c.in-Some.depth = sym c.depth_of.ensures ∙ c.in-Some.is in
-    let same : c.loop-k.k ≡ (c.loop-k.k - 1) + 1 = omega (arith, c.loop-k-test.true) in
-    let covers = subst (λ j. Covers c.args.sessions.now (graph_of p.graph) c.args.t.0 c.args.session c.loop-k.depths j c.loop-k.deepest) same c.loop-k.invariant.covers in
-    let m : c.max-deepest.result ≡ max c.loop-k.deepest c.read_node.result = search rules in
+pub ask_all-requires : goal.ask_all-requires
+ask_all-requires c =
+    let k = c.loop-k.k - 1 in
+    let n = c.node_at-node.result.now in
+    let size = sizes c.args.checked.now c.requires.asked.checked k (node_of n) c.node_at-node.ensures in
     record {
-      covers = stepped c.args.sessions.now c.requires.asked.days.ascend (graph_of p.graph) ok.graph (sizes p ok) (reads p ok) c.args.t.0 c.args.session c.loop-k.depths _
-          (c.loop-k.k - 1) c.loop-k.deepest _ c.in-Some.depth c.back_from-back.result (node_of n)
-          (moved c.args.sessions.now c.args.session (node_of n).kind c.in-Some.depth c.back_from-back.result c.back_from-back.ensures)
-          (near c.args.sessions.now c.args.session (node_of n).kind c.in-Some.depth c.back_from-back.result c.back_from-back.ensures) covers (graph-at p.graph (c.loop-k.k - 1) n is) at c.read_node.ensures.asked (m ∙ ap (λ (x : ℕ). max c.loop-k.deepest x) c.read_node.ensures.own);
-      within = omega (arith, c.loop-k.invariant.within);
+      within = c.requires.session;
+      window = omega (arith, size.0, window-is n);
+      room = room c.args.sessions.now c.args.session c.args.t.0 k _ _ _ (c.loop-k.invariant.covers.room k c.if-own.true) (omega (arith, size.1, window-is n)) (omega (arith, c.requires.session, c.requires.asked.days.few))
+          (omega (arith, c.requires.term, graph-long c.args.checked.now.graph, c.requires.asked.few));
+      lower = lower-more (node_of n) k _ (c.requires.asked.checked.graph.lower k (node_of n) c.node_at-node.ensures) (omega (arith, c.loop-k.invariant.covers.long, c.loop-k.invariant.within, c.loop-k-test.true));
     }
 
-pub loop-k-preserved-in-None : goal.loop-k-preserved-in-None
-loop-k-preserved-in-None c =
+pub own_depth-requires : goal.own_depth-requires
+own_depth-requires c =
+    let k = c.loop-k.k - 1 in
+    let n = c.node_at-node.result.now in
+    let size = sizes c.args.checked.now c.requires.asked.checked k (node_of n) c.node_at-node.ensures in
+    record {
+      within = c.requires.session;
+      room = room c.args.sessions.now c.args.session c.args.t.0 k _ _ _ (c.loop-k.invariant.covers.room k c.if-own.true) (omega (arith, size.1, window-is n)) (omega (arith, c.requires.session, c.requires.asked.days.few))
+          (omega (arith, c.requires.term, graph-long c.args.checked.now.graph, c.requires.asked.few));
+    }
+
+pub loop-k-preserved-then-own : goal.loop-k-preserved-then-own
+loop-k-preserved-then-own c =
     let p = c.args.checked.now in
     let ok = c.requires.asked.checked in
-    let at : get_or c.loop-k.depths (c.loop-k.k - 1) None ≡ None = sym c.depth_of.ensures ∙ c.in-None.is in
     let same : c.loop-k.k ≡ (c.loop-k.k - 1) + 1 = omega (arith, c.loop-k-test.true) in
-    let covers = subst (λ j. Covers c.args.sessions.now (graph_of p.graph) c.args.t.0 c.args.session c.loop-k.depths j c.loop-k.deepest) same c.loop-k.invariant.covers in
+    let covers = subst (λ j. Covers c.args.sessions.now (graph_of p.graph) c.args.t.0 c.args.session c.loop-k.uses j c.loop-k.deepest) same c.loop-k.invariant.covers in
+    let m : c.max-deepest.result ≡ max c.loop-k.deepest c.own_depth.result = search rules in
     record {
-      covers = passed c.args.sessions.now c.requires.asked.days.ascend (graph_of p.graph) ok.graph (sizes p ok) (reads p ok) c.args.t.0 c.args.session c.loop-k.depths
-          (c.loop-k.k - 1) c.loop-k.deepest covers at;
+      covers = stepped c.args.sessions.now c.requires.asked.days.ascend (graph_of p.graph) ok.graph (sizes p ok) (reads p ok) c.args.t.0 c.args.session c.loop-k.uses (c.loop-k.k - 1) c.loop-k.deepest
+          (node_of c.node_at-node.result.now) covers c.node_at-node.ensures c.if-own.true _ _ c.ask_all.ensures (m ∙ ap (λ (x : ℕ). max c.loop-k.deepest x) c.own_depth.ensures);
       within = omega (arith, c.loop-k.invariant.within);
     }
 
@@ -108,8 +75,8 @@ returns-clause-value c =
     let p = c.args.checked.now in
     let ok = c.requires.asked.checked in
     let none : c.loop-k.k ≡ 0 = omega (arith, c.loop-k-test.false) in
-    let covers = subst (λ j. Covers c.args.sessions.now (graph_of p.graph) c.args.t.0 c.args.session c.loop-k.depths j c.loop-k.deepest) none c.loop-k.invariant.covers in
-    ended c.args.sessions.now c.requires.asked.days.ascend (graph_of p.graph) ok.graph (sizes p ok) (reads p ok) c.args.t.0 c.args.session c.loop-k.depths c.loop-k.deepest covers
+    let covers = subst (λ j. Covers c.args.sessions.now (graph_of p.graph) c.args.t.0 c.args.session c.loop-k.uses j c.loop-k.deepest) none c.loop-k.invariant.covers in
+    ended c.args.sessions.now c.requires.asked.days.ascend (graph_of p.graph) ok.graph (sizes p ok) (reads p ok) c.args.t.0 c.args.session c.loop-k.uses c.loop-k.deepest covers
 
 pub returns-clause-few : goal.returns-clause-few
 returns-clause-few c =

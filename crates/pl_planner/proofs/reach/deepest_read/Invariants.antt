@@ -5,7 +5,7 @@ use Rattle.pl_planner.proofs.reach.deepest_read.Given as goal
 
 abbrev pub invariant-loop-k : goal.invariant-loop-k
 invariant-loop-k l = record {
-  covers : Covers l.sessions (graph_of l.checked.graph) l.fn.t.0 l.session l.depths l.k l.deepest;
+  covers : Covers l.sessions (graph_of l.checked.graph) l.fn.t.0 l.session l.uses l.k l.deepest;
   within : l.k ≤ l.fn.t.0 + 1;
 }
 

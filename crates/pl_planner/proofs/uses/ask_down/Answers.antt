@@ -16,29 +16,19 @@ loop-k-init c =
       within = (let e = c.count-k.ensures.count in omega arith);
     }
 
-pub ask_all-requires-clause-window : goal.ask_all-requires-clause-window
-ask_all-requires-clause-window c =
+pub ask_all-requires : goal.ask_all-requires
+ask_all-requires c =
     let ok = is-pipeline (pipeline_of c.args.checked.now) c.requires.asked.checked in
-    let w = pass_node c.args.sessions.now c.requires.asked.days.ascend c.args.session (pipeline_of c.args.checked.now).graph (outputs (pipeline_of c.args.checked.now)) ok (c.loop-k.k - 1) (node_of c.node_at-node.result.now) c.node_at-node.ensures in
+    let n = node_of c.node_at-node.result.now in
+    let w = pass_node c.args.sessions.now c.requires.asked.days.ascend c.args.session (pipeline_of c.args.checked.now).graph (outputs (pipeline_of c.args.checked.now)) ok (c.loop-k.k - 1) n c.node_at-node.ensures in
     let e = window-is c.node_at-node.result.now in
-    let l = w.0 in
-    omega arith
-
-pub ask_all-requires-clause-room : goal.ask_all-requires-clause-room
-ask_all-requires-clause-room c =
-    let ok = is-pipeline (pipeline_of c.args.checked.now) c.requires.asked.checked in
-    let w = pass_node c.args.sessions.now c.requires.asked.days.ascend c.args.session (pipeline_of c.args.checked.now).graph (outputs (pipeline_of c.args.checked.now)) ok (c.loop-k.k - 1) (node_of c.node_at-node.result.now) c.node_at-node.ensures in
-    let e = window-is c.node_at-node.result.now in
-    let l = w.1 in
-    let r = pass_room c.args.sessions.now c.requires.asked.days.ascend c.args.session (pipeline_of c.args.checked.now).graph (outputs (pipeline_of c.args.checked.now)) ok c.requires.asked.few c.loop-k.uses c.loop-k.k (c.loop-k.k - 1) (node_of c.node_at-node.result.now).kind c.loop-k.invariant.gathered c.if-own.true in
-    let few = c.requires.asked.days.few in
-    let inside = c.requires.within in
-    omega arith
-
-pub ask_all-requires-clause-lower : goal.ask_all-requires-clause-lower
-ask_all-requires-clause-lower c =
-    let ok = is-pipeline (pipeline_of c.args.checked.now) c.requires.asked.checked in
-    pass_lower c.args.sessions.now c.requires.asked.days.ascend c.args.session (pipeline_of c.args.checked.now).graph (outputs (pipeline_of c.args.checked.now)) ok c.loop-k.uses c.loop-k.k (c.loop-k.k - 1) (node_of c.node_at-node.result.now) c.loop-k.invariant.gathered c.node_at-node.ensures
+    let r = pass_room c.args.sessions.now c.requires.asked.days.ascend c.args.session (pipeline_of c.args.checked.now).graph (outputs (pipeline_of c.args.checked.now)) ok c.requires.asked.few c.loop-k.uses c.loop-k.k (c.loop-k.k - 1) n.kind c.loop-k.invariant.gathered c.if-own.true in
+    record {
+      within = c.requires.within;
+      window = omega (arith, w.0, e);
+      room = omega (arith, w.1, e, r, c.requires.asked.days.few, c.requires.within);
+      lower = pass_lower c.args.sessions.now c.requires.asked.days.ascend c.args.session (pipeline_of c.args.checked.now).graph (outputs (pipeline_of c.args.checked.now)) ok c.loop-k.uses c.loop-k.k (c.loop-k.k - 1) n c.loop-k.invariant.gathered c.node_at-node.ensures;
+    }
 
 pub loop-k-preserved-then-own : goal.loop-k-preserved-then-own
 loop-k-preserved-then-own c =
@@ -49,14 +39,9 @@ loop-k-preserved-then-own c =
       within = (let l = c.loop-k.invariant.within in omega arith);
     }
 
-pub returns-clause-uses : goal.returns-clause-uses
-returns-clause-uses c =
+pub returns : goal.returns
+returns c =
     let ok = is-pipeline (pipeline_of c.args.checked.now) c.requires.asked.checked in
     let zero_left : c.loop-k.k ≡ 0 = omega (arith, c.loop-k-test.false) in
-    (pass_ended c.args.sessions.now c.requires.asked.days.ascend c.args.session (pipeline_of c.args.checked.now).graph (outputs (pipeline_of c.args.checked.now)) ok c.loop-k.uses (rw zero_left at c.loop-k.invariant.gathered)).0
-
-pub returns-clause-extras : goal.returns-clause-extras
-returns-clause-extras c =
-    let ok = is-pipeline (pipeline_of c.args.checked.now) c.requires.asked.checked in
-    let zero_left : c.loop-k.k ≡ 0 = omega (arith, c.loop-k-test.false) in
-    (pass_ended c.args.sessions.now c.requires.asked.days.ascend c.args.session (pipeline_of c.args.checked.now).graph (outputs (pipeline_of c.args.checked.now)) ok c.loop-k.uses (rw zero_left at c.loop-k.invariant.gathered)).1
+    let ended = pass_ended c.args.sessions.now c.requires.asked.days.ascend c.args.session (pipeline_of c.args.checked.now).graph (outputs (pipeline_of c.args.checked.now)) ok c.loop-k.uses (rw zero_left at c.loop-k.invariant.gathered) in
+    record { uses = ended.0; extras = ended.1 }

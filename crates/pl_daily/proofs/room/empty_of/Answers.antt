@@ -5,7 +5,7 @@ use Rattle.pl_pipeline.specs.Value.{empty, number_of, sort_kind}
 use Rattle.pl_pipeline.proofs.Cells.{empty-cell}
 use Rattle.pl_terms.specs.Nodes.{graph_of}
 use Rattle.pl_terms.proofs.Graphs.{graph-long}
-use Rattle.pl_daily.proofs.room.none_of.Goals as goal
+use Rattle.pl_daily.proofs.room.empty_of.Goals as goal
 
 pub empty_value-requires : goal.empty_value-requires
 empty_value-requires c =
