@@ -12,7 +12,7 @@ use Rattle.pl_pipeline.specs.Term.{Term, absent, TermInput, Node, Graph, IsGraph
 use Rattle.pl_terms.specs.Nodes.{Interned, interned}
 use Rattle.pl_terms.proofs.Interning.{Later, later-same, later-still, later-more, length-trees, IsPut, put, IsFull, refused}
 use Rattle.pl_check.specs.declared.operation.Operation.{Operation}
-use Rattle.pl_check.specs.Values.{Value, Bars, Factor, Filter, Labels, Numbers, Number, Text, Bound, bound}
+use Rattle.pl_check.specs.Values.{Value, Factor, Number, Bound, bound}
 use Rattle.pl_check.specs.Results.{constant, node_for, result_for, names_after}
 use Rattle.pl_check.specs.Typed.{Terms, Found, found, constant_value, factor_value, asks_factor, place_value, option_bind, with_constants, with_node, node_made, made}
 use Rattle.pl_check.specs.Trees as by_tree
@@ -125,12 +125,7 @@ FactorSettles s f v r =
 pub factor-settles : (s : Terms) (f : Forest) (v : Value) (r : Value × Graph) → Same s f → IsIn s.graph v → factor_value s.graph v ≡ Some r → FactorSettles s f v r
 unfolding factor_value
 factor-settles s f (Number n) r w i h = number-settles s f n (interned s.graph (constant n)) r w refl h
-factor-settles s f (Bars c) r w i h = other-settles s f (Bars c) r w i h
-factor-settles s f (Factor t x) r w i h = other-settles s f (Factor t x) r w i h
-factor-settles s f (Filter t) r w i h = other-settles s f (Filter t) r w i h
-factor-settles s f (Labels t) r w i h = other-settles s f (Labels t) r w i h
-factor-settles s f (Numbers t) r w i h = other-settles s f (Numbers t) r w i h
-factor-settles s f (Text t) r w i h = other-settles s f (Text t) r w i h
+factor-settles s f v r w i h = other-settles s f v r w i h
 
 -- and what there is no room for is a tree too many
 abbrev one_value : Value → Graph → Option (Value × Graph)
@@ -150,12 +145,7 @@ pub factor-over : (s : Terms) (f : Forest) (v : Value) → Same s f → factor_v
 unfolding factor_value
 factor-over s f (Number n) w h =
     many-trees s f (constant n) (constant_tree n) w (refused s.graph (constant n) w.graph (omega arith) (constant-mentions n (length s.graph)) (constant-none (interned s.graph (constant n)) s.graph h)) refl
-factor-over s f (Bars c) w h = no-other s f (Bars c) _ h
-factor-over s f (Factor t x) w h = no-other s f (Factor t x) _ h
-factor-over s f (Filter t) w h = no-other s f (Filter t) _ h
-factor-over s f (Labels t) w h = no-other s f (Labels t) _ h
-factor-over s f (Numbers t) w h = no-other s f (Numbers t) _ h
-factor-over s f (Text t) w h = no-other s f (Text t) _ h
+factor-over s f v w h = no-other s f v _ h
 
 bound-over : (s : Terms) (f : Forest) (b : Bound) → Same s f → place_value s.graph b ≡ None → HasMany (f.trees ++ option_to_list (constant_in (bare b)))
 bound-over s f b w h = here (asks_factor b.parameter) h

@@ -8,7 +8,7 @@ use Rattle.std.proofs.lemmas.List.Elements.{Contains-append_left}
 use Rattle.pl_pipeline.specs.Term.{Term, tree_at}
 use Rattle.pl_grammar.specs.declared.Place.{Place}
 use Rattle.pl_grammar.specs.declared.PrefixSign.{PrefixSign}
-use Rattle.pl_grammar.specs.declared.PrefixSign.TheVariants.{Minus, Not}
+use Rattle.pl_grammar.specs.declared.PrefixSign.TheVariants.{Minus}
 use Rattle.pl_grammar.specs.declared.BinarySign.{BinarySign}
 use Rattle.pl_grammar.specs.Tree.{Tree, number, text, name, call, prefix, binary, member, method, Args, no_args, arg}
 use Rattle.pl_grammar.specs.Script.{Head, LetHead, ColumnHead, ScreenHead, Statement}
@@ -16,7 +16,7 @@ use Rattle.pl_check.specs.declared.fault.CheckFault.{CheckFault}
 use Rattle.pl_check.specs.declared.fault.CheckFault.TheVariants.{UnknownName, BadArgument}
 use Rattle.pl_check.specs.declared.operation.Operation.{Operation}
 use Rattle.pl_check.specs.Faults.{Broken, ◌>>=◌, or_fault, unless}
-use Rattle.pl_check.specs.Values.{Value, Bars, Factor, Filter, Labels, Numbers, Number, Text, Bound}
+use Rattle.pl_check.specs.Values.{Value, Number, Bound}
 use Rattle.pl_check.specs.Operations.{function_named, member_named, without_parentheses, operator}
 use Rattle.pl_check.specs.Rules.{form, broken}
 use Rattle.pl_check.specs.Typed.{require, is_storable, is_term_filter, bar_column, object_of, operands_of}
@@ -71,13 +71,7 @@ called-extends p o object ts ws f m h =
 pub prefixed-extends : (p : Place) (sign : PrefixSign) (v : Value) (t : Option Term) (f : Forest) (m : After Meaning) → prefixed p sign v t f ≡ Ok m → Extends f m.forest
 unfolding prefixed
 prefixed-extends p Minus (Number n) t f m h = found-extends _ f m h
-prefixed-extends p Minus (Bars c) t f m h = applied-extends p _ _ _ f m h
-prefixed-extends p Minus (Factor k x) t f m h = applied-extends p _ _ _ f m h
-prefixed-extends p Minus (Filter k) t f m h = applied-extends p _ _ _ f m h
-prefixed-extends p Minus (Labels k) t f m h = applied-extends p _ _ _ f m h
-prefixed-extends p Minus (Numbers k) t f m h = applied-extends p _ _ _ f m h
-prefixed-extends p Minus (Text x) t f m h = applied-extends p _ _ _ f m h
-prefixed-extends p Not v t f m h = applied-extends p _ _ _ f m h
+prefixed-extends p sign v t f m h = applied-extends p _ _ _ f m h
 
 pub combined-extends : (p : Place) (sign : BinarySign) (l r : Meaning) (f : Forest) (m : After Meaning) → combined p sign l r f ≡ Ok m → Extends f m.forest
 unfolding combined

@@ -6,7 +6,7 @@ use Rattle.pl_spec.specs.declared.Column.{Column}
 use Rattle.pl_pipeline.specs.Term.{Term, Graph}
 use Rattle.pl_grammar.specs.declared.Place.{Place}
 use Rattle.pl_grammar.specs.declared.PrefixSign.{PrefixSign}
-use Rattle.pl_grammar.specs.declared.PrefixSign.TheVariants.{Minus, Not}
+use Rattle.pl_grammar.specs.declared.PrefixSign.TheVariants.{Minus}
 use Rattle.pl_grammar.specs.declared.BinarySign.{BinarySign}
 use Rattle.pl_grammar.specs.declared.BinarySign.TheVariants as signs
 use Rattle.pl_grammar.specs.Tree.{Tree, number, text, name, call, prefix, binary, member, method, Args, no_args, arg}
@@ -17,7 +17,7 @@ use Rattle.pl_check.specs.declared.operation.Operation.{Operation}
 use Rattle.pl_check.specs.declared.operation.Operation.TheVariants as op
 use Rattle.pl_check.specs.declared.operation.Parameter.{Parameter}
 use Rattle.pl_check.specs.Faults.{Broken, ◌>>=◌, or_fault, unless}
-use Rattle.pl_check.specs.Values.{Value, Bars, Factor, Filter, Labels, Numbers, Number, Text, Bound, bound}
+use Rattle.pl_check.specs.Values.{Value, Bars, Labels, Numbers, Number, Text, Bound, bound}
 use Rattle.pl_check.specs.Operations.{function_named, member_named, without_parentheses, operator, equal_to, unequal_to, prefix_operator, parameters}
 use Rattle.pl_check.specs.Rules.{Written, parameter_of, has_all, form, broken}
 use Rattle.pl_check.specs.Typed.{Terms, Found, found, Definition, bar_column, defined, value_named, made, applied, called, object_of, prefixed, operands_of, combined, member_of, method_of, written, worth, args_worth}
@@ -148,13 +148,7 @@ object-agrees p o v s f w i =
 prefixed-agrees : (p : Place) (sign : PrefixSign) (v : Value) (s : Terms) (f : Forest) → Same s f → IsIn s.graph v → Agrees of_meaning (Means s) (prefixed p sign v s) (by_tree.prefixed p sign (unnumbered v) (tree_of s.graph v) f)
 unfolding prefixed by_tree.prefixed
 prefixed-agrees p Minus (Number n) s f w i = (_, refl, found-means s f _ _ w (λ k e. absurd (let no : None ≡ Some k = e in cc)) refl)
-prefixed-agrees p Minus (Bars c) s f w i = object-agrees p (prefix_operator Minus) (Bars c) s f w i
-prefixed-agrees p Minus (Factor t x) s f w i = object-agrees p (prefix_operator Minus) (Factor t x) s f w i
-prefixed-agrees p Minus (Filter t) s f w i = object-agrees p (prefix_operator Minus) (Filter t) s f w i
-prefixed-agrees p Minus (Labels t) s f w i = object-agrees p (prefix_operator Minus) (Labels t) s f w i
-prefixed-agrees p Minus (Numbers t) s f w i = object-agrees p (prefix_operator Minus) (Numbers t) s f w i
-prefixed-agrees p Minus (Text t) s f w i = object-agrees p (prefix_operator Minus) (Text t) s f w i
-prefixed-agrees p Not v s f w i = object-agrees p (prefix_operator Not) v s f w i
+prefixed-agrees p sign v s f w i = object-agrees p (prefix_operator sign) v s f w i
 
 equal-values : (x v w : Value) → values (operands_of (equal_to x) v w) ≡ v ∷ w ∷ []
 unfolding object_of parameters
@@ -221,32 +215,29 @@ meaning-later g h v l i = ap (λ t. record { value = unnumbered v; tree = t }) (
 
 pub meant-later : (g h : Graph) (ds : List Definition) (es : List by_tree.Definition) → Later g h → AreMeant g ds es → AreMeant h ds es
 meant-later g h [] [] l a = tt
-meant-later g h [] (e ∷ es) l a = absurd a
-meant-later g h (d ∷ ds) [] l a = absurd a
 meant-later g h (d ∷ ds) (e ∷ es) l a = (a.0, in-later g h d.value l a.1, a.2 ∙ meaning-later g h d.value l a.1, meant-later g h ds es l a.3)
+meant-later g h ds es l a = absurd a
 
 pub defined-is : (g : Graph) (ds : List Definition) (es : List by_tree.Definition) (n : List ℕ) → AreMeant g ds es → by_tree.defined es n ≡ option_map (meaning_of g) (defined ds n)
 unfolding defined by_tree.defined
 defined-is g [] [] n a = refl
-defined-is g [] (e ∷ es) n a = absurd a
-defined-is g (d ∷ ds) [] n a = absurd a
 defined-is g (d ∷ ds) (e ∷ es) n a =
     ap (λ k. cond (bytes_eq n k) (Some e.meaning) (by_tree.defined es n)) a.0 ∙ ap (λ m. cond (bytes_eq n d.name) (Some m) (by_tree.defined es n)) a.2 ∙ here (bytes_eq n d.name) (defined-is g ds es n a.3)
   where
     here : (b : Bool) → by_tree.defined es n ≡ option_map (meaning_of g) (defined ds n) → cond b (Some (meaning_of g d.value)) (by_tree.defined es n) ≡ option_map (meaning_of g) (cond b (Some d.value) (defined ds n))
     here true k = refl
     here false k = k
+defined-is g ds es n a = absurd a
 
 defined-in : (g : Graph) (ds : List Definition) (es : List by_tree.Definition) (n : List ℕ) (v : Value) → AreMeant g ds es → defined ds n ≡ Some v → IsIn g v
 unfolding defined
 defined-in g [] [] n v a h = absurd (let no : None ≡ Some v = h in cc)
-defined-in g [] (e ∷ es) n v a h = absurd a
-defined-in g (d ∷ ds) [] n v a h = absurd a
 defined-in g (d ∷ ds) (e ∷ es) n v a h = here (bytes_eq n d.name) h (defined-in g ds es n v a.3)
   where
     here : (b : Bool) → cond b (Some d.value) (defined ds n) ≡ Some v → (defined ds n ≡ Some v → IsIn g v) → IsIn g v
     here true e k = subst (IsIn g) (let s : Some d.value ≡ Some v = e in let q : d.value ≡ v = cc in q) a.1
     here false e k = k e
+defined-in g ds es n v a h = absurd a
 
 named-agrees : (p : Place) (ds : List Definition) (es : List by_tree.Definition) (n : List ℕ) (s : Terms) (f : Forest) → Same s f → AreMeant s.graph ds es
     → Agrees of_meaning (Means s) (or_fault UnknownName p (value_named ds n) >>= λ x. Ok (found x s)) (or_fault UnknownName p (meaning_named es n (bar_column n)) >>= λ m. Ok (after m f))

@@ -11,7 +11,7 @@ use Rattle.pl_check.specs.declared.operation.Operation.{Operation}
 use Rattle.pl_check.specs.declared.operation.Parameter.{Parameter}
 use Rattle.pl_check.specs.declared.operation.Parameter.TheVariants.{Mask, Groupby}
 use Rattle.pl_check.specs.Parameters.{same_parameter}
-use Rattle.pl_check.specs.Values.{Value, Bars, Factor, Filter, Labels, Numbers, Number, Text, Bound, given}
+use Rattle.pl_check.specs.Values.{Value, Bars, Factor, Filter, Labels, Numbers, Bound, given}
 use Rattle.pl_check.specs.Operations.{parameters}
 use Rattle.pl_check.specs.Results.{columns_of, term_in, input_in, gives_input, input_for, inputs_for, term_given, node_for}
 use Rattle.pl_check.specs.Trees.{Meaning, tree_given, read_in, input_given, inputs_given, or_absent, tree_for}
@@ -173,8 +173,7 @@ value-read g (Factor t x) i f h = subst (IsRead g) (let s : Some (TermInput t) �
 value-read g (Filter t) i f h = subst (IsRead g) (let s : Some (TermInput t) ≡ Some i = h in let q : TermInput t ≡ i = cc in q) (f t refl)
 value-read g (Labels t) i f h = subst (IsRead g) (let s : Some (TermInput t) ≡ Some i = h in let q : TermInput t ≡ i = cc in q) (f t refl)
 value-read g (Numbers t) i f h = subst (IsRead g) (let s : Some (TermInput t) ≡ Some i = h in let q : TermInput t ≡ i = cc in q) (f t refl)
-value-read g (Number n) i f h = absurd (let no : None ≡ Some i = h in cc)
-value-read g (Text t) i f h = absurd (let no : None ≡ Some i = h in cc)
+value-read g v i f h = absurd (let no : None ≡ Some i = h in cc)
 
 input-in : (g : Graph) (bs : List Bound) (p : Parameter) (i : Input) → AllIn g (values bs) → input_for bs p ≡ Some i → IsRead g i
 input-in g bs p i f h = here (gives_input p) (given bs p) refl h
