@@ -27,6 +27,8 @@ use Rattle.pl_check.proofs.Extended.{IsOver, let-extends, column-extends, head-e
 use Rattle.pl_check.proofs.Counted.{Same, Means, factor-settles, factor-over}
 use Rattle.pl_check.proofs.Followed.{of_meaning, of_judged, Agrees, then-agrees, weaker, AreMeant, meant-later, defined-is, worth-agrees}
 use Rattle.pl_check.specs.Standing.{ColumnsAreInGraph}
+use Rattle.pl_check.proofs.Stated.{columns-kept}
+use Rattle.pl_spec.proofs.Each.{each_both, each_more, map_each}
 
 -- ---- what the statements so far say
 
@@ -41,18 +43,9 @@ record SameJudged (j : typed.Judged) (k : by_tree.Judged) : Type 0 where
   there : NumberIn j.terms.graph j.screen
   screen : option_map (term_at j.terms.graph) j.screen ≡ k.screen
 
-columns-in-later : (g h : Graph) (cs : List NamedColumn) → Later g h → ColumnsAreInGraph g cs → ColumnsAreInGraph h cs
-columns-in-later g h [] l i = tt
-columns-in-later g h (c ∷ cs) l i = (let a : c.term < length g = i.0 in let b : length g ≤ length h = l.longer in omega arith, columns-in-later g h cs l i.1)
-
 columns-later : (g h : Graph) (cs : List NamedColumn) → Later g h → ColumnsAreInGraph g cs → map (tree_column h) cs ≡ map (tree_column g) cs
-columns-later g h [] l i = refl
-columns-later g h (c ∷ cs) l i =
-    ap (λ t. record { name = c.name; tree = t } ∷ map (tree_column h) cs) (l.same c.term i.0) ∙ ap (λ ts. tree_column g c ∷ ts) (columns-later g h cs l i.1)
-
-columns-append : (g : Graph) (xs ys : List NamedColumn) → ColumnsAreInGraph g xs → ColumnsAreInGraph g ys → ColumnsAreInGraph g (xs ++ ys)
-columns-append g [] ys f e = e
-columns-append g (x ∷ xs) ys f e = (f.0, columns-append g xs ys f.1 e)
+columns-later g h cs l i =
+    map_each (tree_column h) (tree_column g) cs (each_more _ _ cs (λ (c : NamedColumn) (k : c.term < length g). ap (λ t. record { name = c.name; tree = t }) (l.same c.term k)) i)
 
 number-later : (g h : Graph) (o : Option ℕ) → Later g h → NumberIn g o → (NumberIn h o) × (option_map (term_at h) o ≡ option_map (term_at g) o)
 number-later g h None l i = (λ k e. absurd (let no : None ≡ Some k = e in cc), refl)
@@ -116,7 +109,7 @@ let-agrees v j k p n r m w h =
       record {
         same = h.same;
         meant = meant-append r.terms.graph j.definitions k.definitions n r.value m.value (meant-later j.terms.graph r.terms.graph j.definitions k.definitions h.later w.meant) h.inside h.is;
-        inside = columns-in-later j.terms.graph r.terms.graph j.columns h.later w.inside;
+        inside = columns-kept j.terms.graph r.terms.graph j.columns h.later.longer w.inside;
         columns = columns-later j.terms.graph r.terms.graph j.columns h.later w.inside ∙ w.columns;
         there = (number-later j.terms.graph r.terms.graph j.screen h.later w.there).0;
         screen = (number-later j.terms.graph r.terms.graph j.screen h.later w.there).1 ∙ w.screen;
@@ -148,7 +141,7 @@ column-agrees j k p n r m w h =
       record {
         same = h.0.same;
         meant = meant-later j.terms.graph r.terms.graph j.definitions k.definitions h.0.later w.meant;
-        inside = columns-append r.terms.graph j.columns (record { name = n; term = term_of r.value } ∷ []) (columns-in-later j.terms.graph r.terms.graph j.columns h.0.later w.inside) (own.0, tt);
+        inside = each_both _ j.columns (record { name = n; term = term_of r.value } ∷ []) (columns-kept j.terms.graph r.terms.graph j.columns h.0.later.longer w.inside) (own.0, tt);
         columns =
             map-append (tree_column r.terms.graph) j.columns (record { name = n; term = term_of r.value } ∷ [])
             ∙ ap (λ cs. cs ++ tree_column r.terms.graph (record { name = n; term = term_of r.value }) ∷ []) (columns-later j.terms.graph r.terms.graph j.columns h.0.later w.inside ∙ w.columns)
@@ -180,7 +173,7 @@ screen-agrees j k p r m w h =
       record {
         same = h.same;
         meant = meant-later j.terms.graph r.terms.graph j.definitions k.definitions h.later w.meant;
-        inside = columns-in-later j.terms.graph r.terms.graph j.columns h.later w.inside;
+        inside = columns-kept j.terms.graph r.terms.graph j.columns h.later.longer w.inside;
         columns = columns-later j.terms.graph r.terms.graph j.columns h.later w.inside ∙ w.columns;
         there = (filter-tree r.terms.graph r.value e h.inside).0;
         screen = (filter-tree r.terms.graph r.value e h.inside).1 ∙ sym (ap (λ (x : Meaning). x.tree) h.is);

@@ -3,6 +3,7 @@ use Rattle.std.proofs.Common.{◌≡◌, ℕ, Bool, true, false, ◌||◌, cond,
 use Rattle.std.specs.Prelude.{is_some, option_and_then}
 use Rattle.std.proofs.lemmas.List.{map-append}
 use Rattle.pl_spec.specs.declared.Column.{Column}
+use Rattle.pl_spec.proofs.Each.{each_both}
 use Rattle.pl_pipeline.specs.Term.{Term, Graph}
 use Rattle.pl_grammar.specs.declared.Place.{Place}
 use Rattle.pl_grammar.specs.declared.PrefixSign.{PrefixSign}
@@ -17,15 +18,15 @@ use Rattle.pl_check.specs.declared.operation.Operation.{Operation}
 use Rattle.pl_check.specs.declared.operation.Operation.TheVariants as op
 use Rattle.pl_check.specs.declared.operation.Parameter.{Parameter}
 use Rattle.pl_check.specs.Faults.{Broken, ◌>>=◌, or_fault, unless}
-use Rattle.pl_check.specs.Values.{Value, Bars, Labels, Numbers, Number, Text, Bound, bound}
-use Rattle.pl_check.specs.Operations.{function_named, member_named, without_parentheses, operator, equal_to, unequal_to, prefix_operator, parameters}
+use Rattle.pl_check.specs.Values.{Value, Bars, Labels, Number, Text, Bound, bound}
+use Rattle.pl_check.specs.Operations.{function_named, member_named, without_parentheses, operator, prefix_operator, parameters}
 use Rattle.pl_check.specs.Rules.{Written, parameter_of, has_all, form, broken}
 use Rattle.pl_check.specs.Typed.{Terms, Found, found, Definition, bar_column, defined, value_named, made, applied, called, object_of, prefixed, operands_of, combined, member_of, method_of, written, worth, args_worth}
 use Rattle.pl_check.specs.Typed as typed
 use Rattle.pl_check.specs.Trees as by_tree
 use Rattle.pl_check.specs.Trees.{Meaning, plain, Forest, After, after, Arguments, meaning_named, with_argument, meaning, arguments}
 use Rattle.pl_check.proofs.Unnumbered.{unnumbered, bare, bare_written, broken-bare, form-bare, object-bare, operands-bare, operator-bare}
-use Rattle.pl_check.proofs.Rooted.{tree_of, meaning_of, IsIn, AllIn, values, in-later, tree-later, all-later, trees-later, all-append}
+use Rattle.pl_check.proofs.Rooted.{tree_of, meaning_of, IsIn, AllIn, values, in-later, tree-later, all-later, trees-later}
 use Rattle.pl_check.proofs.Walk.{then-ok}
 use Rattle.pl_check.proofs.Extended.{Extends, IsOver, over-later, extends-further, called-extends, prefixed-extends, combined-extends, member-extends, method-extends, meaning-extends, arguments-extends}
 use Rattle.pl_check.proofs.Counted.{Same, Means, made-means, made-over}
@@ -126,7 +127,7 @@ called-agrees p o object ws s f w i k =
         let split : values bs ≡ values object ++ worths ws = form-values o false object ws bs e in
         let all : map (tree_of s.graph) (values bs) ≡ ts = ap (map (tree_of s.graph)) split ∙ map-append (tree_of s.graph) (values object) (worths ws) in
         subst (λ us. Agrees of_meaning (Means s) (applied p o bs s) (by_tree.applied p o (map bare bs) us f)) all
-        (applied-agrees p o bs s f w (subst (AllIn s.graph) (sym split) (all-append s.graph (values object) (worths ws) i k)))
+        (applied-agrees p o bs s f w (subst (AllIn s.graph) (sym split) (each_both (IsIn s.graph) (values object) (worths ws) i k)))
 
 -- ---- objects and operands
 
@@ -150,22 +151,10 @@ unfolding prefixed by_tree.prefixed
 prefixed-agrees p Minus (Number n) s f w i = (_, refl, found-means s f _ _ w (λ k e. absurd (let no : None ≡ Some k = e in cc)) refl)
 prefixed-agrees p sign v s f w i = object-agrees p (prefix_operator sign) v s f w i
 
-equal-values : (x v w : Value) → values (operands_of (equal_to x) v w) ≡ v ∷ w ∷ []
-unfolding object_of parameters
-equal-values (Labels t) v w = refl
-equal-values (Numbers t) v w = refl
-equal-values x v w = refl
-
-unequal-values : (x v w : Value) → values (operands_of (unequal_to x) v w) ≡ v ∷ w ∷ []
-unfolding object_of parameters
-unequal-values (Labels t) v w = refl
-unequal-values (Numbers t) v w = refl
-unequal-values x v w = refl
-
 operands-values : (sign : BinarySign) (x v w : Value) → values (operands_of (operator sign x) v w) ≡ v ∷ w ∷ []
 unfolding object_of parameters
-operands-values signs.Equal x v w = equal-values x v w
-operands-values signs.NotEqual x v w = unequal-values x v w
+operands-values signs.Equal (Labels t) v w = refl
+operands-values signs.NotEqual (Labels t) v w = refl
 operands-values sign x v w = refl
 
 combined-agrees : (p : Place) (sign : BinarySign) (v x : Value) (s : Terms) (f : Forest) → Same s f → IsIn s.graph v → IsIn s.graph x
@@ -275,7 +264,7 @@ argument-is g h ws n v l i =
     (ap (λ ts. ts ++ tree_of h v ∷ []) (sym (trees-later g h (worths ws) l i)) ∙ sym (map-append (tree_of h) (worths ws) (v ∷ [])) ∙ ap (map (tree_of h)) (sym (map-append (λ (w : Written). w.value) ws (written n v ∷ []))))
 
 argument-in : (g h : Graph) (ws : List Written) (n : Option (List ℕ)) (v : Value) → Later g h → AllIn g (worths ws) → IsIn h v → AllIn h (worths (ws ++ written n v ∷ []))
-argument-in g h ws n v l i k = subst (AllIn h) (sym (map-append (λ (w : Written). w.value) ws (written n v ∷ []))) (all-append h (worths ws) (v ∷ []) (all-later g h (worths ws) l i) (k, tt))
+argument-in g h ws n v l i k = subst (AllIn h) (sym (map-append (λ (w : Written). w.value) ws (written n v ∷ []))) (each_both (IsIn h) (worths ws) (v ∷ []) (all-later g h (worths ws) l i) (k, tt))
 
 -- no arguments yet
 abbrev none : Arguments

@@ -12,7 +12,7 @@ use Rattle.pl_check.specs.declared.operation.Parameter.{Parameter}
 use Rattle.pl_check.specs.declared.operation.Parameter.TheVariants as parameter
 use Rattle.pl_check.specs.Parameters.{same_parameter, is_optional}
 use Rattle.pl_check.specs.Values.{Value, Factor, Filter, Labels, Numbers, Bound, bound, is_safe, number_in, text_in, given, read_or}
-use Rattle.pl_check.specs.Operations.{parameters, equal_to, unequal_to, operator}
+use Rattle.pl_check.specs.Operations.{parameters, operator}
 use Rattle.pl_check.specs.Rules.{Written, place_at, named_in, is_given, unless_given, parameter_of, has_all, form, takes, is_whole, is_percent, number_given, is_within, is_window, is_safe_for, each, broken}
 use Rattle.pl_check.specs.Results.{whole, percent_given, text_given, values_given, method_of, order_of, frequency_of, with_sid, sorted_sids, name_number, with_name, kind_for, names_after, window_of, window_for, all_safe, like, result_for}
 use Rattle.pl_check.specs.Typed.{first_of, object_of, second_of, operands_of, is_storable, is_term_filter}
@@ -66,13 +66,7 @@ tests bs q v = (takes q v, is_within bs q v, is_window q v, is_safe_for q v)
 tests-bare : (bs : List Bound) (v : Value) (q : Parameter) → tests bs q (unnumbered v) ≡ tests bs q v
 unfolding takes is_within is_window is_safe_for
 tests-bare bs (Factor t s) parameter.X = refl
-tests-bare bs (Factor t s) q = refl
-tests-bare bs (Filter t) parameter.X = refl
-tests-bare bs (Filter t) q = refl
-tests-bare bs (Labels t) parameter.X = refl
-tests-bare bs (Labels t) q = refl
-tests-bare bs (Numbers t) parameter.X = refl
-tests-bare bs (Numbers t) q = refl
+tests-bare bs v parameter.X = refl
 tests-bare bs v q = refl
 
 -- ---- what a parameter is given
@@ -279,15 +273,7 @@ operands-bare o v w =
     ap (λ xs. xs ++ second_of (parameters o) (unnumbered w)) (object-bare o v) ∙ ap (λ ys. map bare (object_of o v) ++ ys) (second-bare (parameters o) w)
     ∙ sym (map-append bare (object_of o v) (second_of (parameters o) w))
 
-equal-bare : (v : Value) → equal_to (unnumbered v) ≡ equal_to v
-equal-bare (Labels t) = refl
-equal-bare v = refl
-
-unequal-bare : (v : Value) → unequal_to (unnumbered v) ≡ unequal_to v
-unequal-bare (Labels t) = refl
-unequal-bare v = refl
-
 pub operator-bare : (sign : BinarySign) (v : Value) → operator sign (unnumbered v) ≡ operator sign v
-operator-bare signs.Equal v = equal-bare v
-operator-bare signs.NotEqual v = unequal-bare v
+operator-bare signs.Equal (Labels t) = refl
+operator-bare signs.NotEqual (Labels t) = refl
 operator-bare sign v = refl
