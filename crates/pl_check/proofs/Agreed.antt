@@ -14,7 +14,7 @@ use Rattle.pl_syntax.specs.Spells.{Parsed}
 use Rattle.pl_check.specs.declared.fault.CheckFault.{CheckFault}
 use Rattle.pl_check.specs.declared.fault.CheckFault.TheVariants.{TooManyTerms}
 use Rattle.pl_check.specs.Faults.{Broken, ◌>>=◌, or_fault}
-use Rattle.pl_check.specs.Values.{Value, Bars, Factor, Filter, Labels, Numbers, Number, Text}
+use Rattle.pl_check.specs.Values.{Value, Bars, Factor, Filter, Labels, Numbers, Text}
 use Rattle.pl_check.specs.Operations.{function_named}
 use Rattle.pl_check.specs.Typed.{Terms, Found, found, Definition, bar_column, defined, is_storable, is_term_filter, term_of, require, is_taken, has_column, factor_value, stored, let_judged, column_judged, screen_judged, head_judged, statement_judged, statements_judged, worth, pipeline_of, ended, typed}
 use Rattle.pl_check.specs.Typed as typed
@@ -27,6 +27,8 @@ use Rattle.pl_check.proofs.Extended.{IsOver, let-extends, column-extends, head-e
 use Rattle.pl_check.proofs.Counted.{Same, Means, factor-settles, factor-over}
 use Rattle.pl_check.proofs.Followed.{of_meaning, of_judged, Agrees, then-agrees, weaker, AreMeant, meant-later, defined-is, worth-agrees}
 use Rattle.pl_check.specs.Standing.{ColumnsAreInGraph}
+use Rattle.pl_check.proofs.Stated.{columns-kept}
+use Rattle.pl_spec.proofs.Each.{each_both, each_more, map_each}
 
 -- ---- what the statements so far say
 
@@ -41,18 +43,9 @@ record SameJudged (j : typed.Judged) (k : by_tree.Judged) : Type 0 where
   there : NumberIn j.terms.graph j.screen
   screen : option_map (term_at j.terms.graph) j.screen ≡ k.screen
 
-columns-in-later : (g h : Graph) (cs : List NamedColumn) → Later g h → ColumnsAreInGraph g cs → ColumnsAreInGraph h cs
-columns-in-later g h [] l i = tt
-columns-in-later g h (c ∷ cs) l i = (let a : c.term < length g = i.0 in let b : length g ≤ length h = l.longer in omega arith, columns-in-later g h cs l i.1)
-
 columns-later : (g h : Graph) (cs : List NamedColumn) → Later g h → ColumnsAreInGraph g cs → map (tree_column h) cs ≡ map (tree_column g) cs
-columns-later g h [] l i = refl
-columns-later g h (c ∷ cs) l i =
-    ap (λ t. record { name = c.name; tree = t } ∷ map (tree_column h) cs) (l.same c.term i.0) ∙ ap (λ ts. tree_column g c ∷ ts) (columns-later g h cs l i.1)
-
-columns-append : (g : Graph) (xs ys : List NamedColumn) → ColumnsAreInGraph g xs → ColumnsAreInGraph g ys → ColumnsAreInGraph g (xs ++ ys)
-columns-append g [] ys f e = e
-columns-append g (x ∷ xs) ys f e = (f.0, columns-append g xs ys f.1 e)
+columns-later g h cs l i =
+    map_each (tree_column h) (tree_column g) cs (each_more _ _ cs (λ (c : NamedColumn) (k : c.term < length g). ap (λ t. record { name = c.name; tree = t }) (l.same c.term k)) i)
 
 number-later : (g h : Graph) (o : Option ℕ) → Later g h → NumberIn g o → (NumberIn h o) × (option_map (term_at h) o ≡ option_map (term_at g) o)
 number-later g h None l i = (λ k e. absurd (let no : None ≡ Some k = e in cc), refl)
@@ -73,13 +66,9 @@ require-agrees F R k p true c r q e h = subst (λ z. Agrees F R r (require z k p
 require-agrees F R k p false c r q e h = subst (λ z. Agrees F R (require false k p r) (require z k p q)) (sym e) (inr refl)
 
 storable-tree : (g : Graph) (v : Value) → is_storable v ≡ true → (t : Term) × (option_or (constant_of (unnumbered v)) (tree_of g v) ≡ Some t)
-storable-tree g (Factor t s) h = (_, refl)
-storable-tree g (Filter t) h = (_, refl)
-storable-tree g (Labels t) h = (_, refl)
-storable-tree g (Numbers t) h = (_, refl)
-storable-tree g (Number n) h = (_, refl)
 storable-tree g (Bars c) h = absurd (let no : false ≡ true = h in cc)
 storable-tree g (Text t) h = absurd (let no : false ≡ true = h in cc)
+storable-tree g v h = (_, refl)
 
 stored-agrees : (p : Place) (v : Value) (s : Terms) (f : Forest) → Same s f → IsIn s.graph v → Agrees of_meaning (Stored s) (stored p (found v s)) (by_tree.stored p (after (meaning_of s.graph v) f))
 unfolding stored by_tree.stored
@@ -107,9 +96,8 @@ taken-same v g ds es n a = ap (λ o. is_some (bar_column n) || is_some (function
 meant-append : (g : Graph) (ds : List Definition) (es : List by_tree.Definition) (n : List ℕ) (v : Value) (m : Meaning) → AreMeant g ds es → IsIn g v → m ≡ meaning_of g v
     → AreMeant g (ds ++ record { name = n; value = v } ∷ []) (es ++ record { name = n; meaning = m } ∷ [])
 meant-append g [] [] n v m a i e = (refl, i, e, tt)
-meant-append g [] (e ∷ es) n v m a i q = absurd a
-meant-append g (d ∷ ds) [] n v m a i q = absurd a
 meant-append g (d ∷ ds) (e ∷ es) n v m a i q = (a.0, a.1, a.2, meant-append g ds es n v m a.3 i q)
+meant-append g ds es n v m a i q = absurd a
 
 let-agrees : (v : ℕ) (j : typed.Judged) (k : by_tree.Judged) (p : Place) (n : List ℕ) (r : Found Value) (m : After Meaning) → SameJudged j k → Means j.terms r m → Agrees of_judged SameJudged (let_judged v j p n r) (by_tree.let_judged v k p n m)
 unfolding let_judged by_tree.let_judged
@@ -121,7 +109,7 @@ let-agrees v j k p n r m w h =
       record {
         same = h.same;
         meant = meant-append r.terms.graph j.definitions k.definitions n r.value m.value (meant-later j.terms.graph r.terms.graph j.definitions k.definitions h.later w.meant) h.inside h.is;
-        inside = columns-in-later j.terms.graph r.terms.graph j.columns h.later w.inside;
+        inside = columns-kept j.terms.graph r.terms.graph j.columns h.later.longer w.inside;
         columns = columns-later j.terms.graph r.terms.graph j.columns h.later w.inside ∙ w.columns;
         there = (number-later j.terms.graph r.terms.graph j.screen h.later w.there).0;
         screen = (number-later j.terms.graph r.terms.graph j.screen h.later w.there).1 ∙ w.screen;
@@ -138,9 +126,7 @@ term-tree g (Factor k s) t i e = (i k refl, (let q : Some (term_at g k) ≡ Some
 term-tree g (Filter k) t i e = (i k refl, (let q : Some (term_at g k) ≡ Some t = e in cc))
 term-tree g (Labels k) t i e = (i k refl, (let q : Some (term_at g k) ≡ Some t = e in cc))
 term-tree g (Numbers k) t i e = (i k refl, (let q : Some (term_at g k) ≡ Some t = e in cc))
-term-tree g (Bars c) t i e = absurd (let no : None ≡ Some t = e in cc)
-term-tree g (Number n) t i e = absurd (let no : None ≡ Some t = e in cc)
-term-tree g (Text x) t i e = absurd (let no : None ≡ Some t = e in cc)
+term-tree g v t i e = absurd (let no : None ≡ Some t = e in cc)
 
 column-agrees : (j : typed.Judged) (k : by_tree.Judged) (p : Place) (n : List ℕ) (r : Found Value) (m : After Meaning) → SameJudged j k → Stored j.terms r m → Agrees of_judged SameJudged (column_judged j p n r) (by_tree.column_judged k p n m)
 unfolding column_judged by_tree.column_judged
@@ -155,7 +141,7 @@ column-agrees j k p n r m w h =
       record {
         same = h.0.same;
         meant = meant-later j.terms.graph r.terms.graph j.definitions k.definitions h.0.later w.meant;
-        inside = columns-append r.terms.graph j.columns (record { name = n; term = term_of r.value } ∷ []) (columns-in-later j.terms.graph r.terms.graph j.columns h.0.later w.inside) (own.0, tt);
+        inside = each_both _ j.columns (record { name = n; term = term_of r.value } ∷ []) (columns-kept j.terms.graph r.terms.graph j.columns h.0.later.longer w.inside) (own.0, tt);
         columns =
             map-append (tree_column r.terms.graph) j.columns (record { name = n; term = term_of r.value } ∷ [])
             ∙ ap (λ cs. cs ++ tree_column r.terms.graph (record { name = n; term = term_of r.value }) ∷ []) (columns-later j.terms.graph r.terms.graph j.columns h.0.later w.inside ∙ w.columns)
@@ -170,12 +156,7 @@ column-agrees j k p n r m w h =
 
 filter-tree : (g : Graph) (v : Value) → is_term_filter v ≡ true → IsIn g v → NumberIn g (Some (term_of v)) × (Some (term_at g (term_of v)) ≡ tree_of g v)
 filter-tree g (Filter t) h i = (i, refl)
-filter-tree g (Bars c) h i = absurd (let no : false ≡ true = h in cc)
-filter-tree g (Factor t s) h i = absurd (let no : false ≡ true = h in cc)
-filter-tree g (Labels t) h i = absurd (let no : false ≡ true = h in cc)
-filter-tree g (Numbers t) h i = absurd (let no : false ≡ true = h in cc)
-filter-tree g (Number n) h i = absurd (let no : false ≡ true = h in cc)
-filter-tree g (Text t) h i = absurd (let no : false ≡ true = h in cc)
+filter-tree g v h i = absurd (let no : false ≡ true = h in cc)
 
 some-same : (g : Graph) (o : Option ℕ) → is_some (option_map (term_at g) o) ≡ is_some o
 some-same g None = refl
@@ -192,7 +173,7 @@ screen-agrees j k p r m w h =
       record {
         same = h.same;
         meant = meant-later j.terms.graph r.terms.graph j.definitions k.definitions h.later w.meant;
-        inside = columns-in-later j.terms.graph r.terms.graph j.columns h.later w.inside;
+        inside = columns-kept j.terms.graph r.terms.graph j.columns h.later.longer w.inside;
         columns = columns-later j.terms.graph r.terms.graph j.columns h.later w.inside ∙ w.columns;
         there = (filter-tree r.terms.graph r.value e h.inside).0;
         screen = (filter-tree r.terms.graph r.value e h.inside).1 ∙ sym (ap (λ (x : Meaning). x.tree) h.is);

@@ -3,10 +3,11 @@ use Rattle.std.proofs.Common.{◌≡◌, ℕ, List, [], Option, Some, None, Resu
 use Rattle.pl_grammar.specs.declared.Place.{Place}
 use Rattle.pl_grammar.specs.declared.PrefixSign.{PrefixSign}
 use Rattle.pl_grammar.specs.declared.BinarySign.{BinarySign}
-use Rattle.pl_grammar.specs.Tree.{Tree, Args, call, prefix, binary}
+use Rattle.pl_grammar.specs.Tree.{Args, call}
 use Rattle.pl_syntax.specs.Plain.{plain, tree_of, args_tree}
 use Rattle.pl_syntax.specs.declared.tree.ArgList.{ArgList}
 use Rattle.pl_syntax.specs.declared.tree.Expr.{Expr}
+use Rattle.pl_syntax.specs.declared.tree.ExprNode.{ExprNode}
 use Rattle.pl_syntax.specs.declared.tree.ExprNode.TheVariants as node
 use Rattle.pl_check.specs.declared.fault.CheckError.{CheckError}
 use Rattle.pl_check.specs.declared.fault.CheckError.TheVariants as errors
@@ -21,44 +22,65 @@ pub fails-then : {A B : Type 0} (e : CheckError) (o : Result A Broken) (f : A �
 fails-then errors.Memory o f h = tt
 fails-then (errors.Fault k p) o f h = ap (λ r. r >>= f) h
 
+-- a node, and its parts as the code lends them
 module _ (v : ℕ) (ds : List Definition) (p : Place) (s : Terms) where
-  pub prefix-fails : (e : CheckError) (sign : PrefixSign) (x : Tree) → Fails e (worth v ds x s) → Fails e (worth v ds (prefix p sign x) s)
+  pub prefix-fails : (e : CheckError) (n : ExprNode) (sign : PrefixSign) (x : Box Expr Global) (y : Expr) → n ≡ node.Prefix sign x → y ≡ x.value → Fails e (worth v ds (plain y) s) → Fails e (worth v ds (tree_of n p) s)
   unfolding worth
-  prefix-fails e sign x h = fails-then e (worth v ds x s) (λ r. prefixed p sign r.value r.terms) h
+  prefix-fails e n sign x y is lent h =
+      subst (λ m. Fails e (worth v ds (tree_of m p) s)) (sym is)
+      (fails-then e (worth v ds (plain x.value) s) (λ r. prefixed p sign r.value r.terms) (subst (λ (z : Expr). Fails e (worth v ds (plain z) s)) lent h))
 
-  pub prefix-is : (sign : PrefixSign) (x : Tree) (a : Value) (t : Terms) → worth v ds x s ≡ Ok (found a t) → worth v ds (prefix p sign x) s ≡ prefixed p sign a t
+  pub prefix-is : (n : ExprNode) (sign : PrefixSign) (x : Box Expr Global) (y : Expr) (a : Value) (t : Terms) → n ≡ node.Prefix sign x → y ≡ x.value → worth v ds (plain y) s ≡ Ok (found a t)
+      → worth v ds (tree_of n p) s ≡ prefixed p sign a t
   unfolding worth
-  prefix-is sign x a t h = ap (λ o. o >>= λ r. prefixed p sign r.value r.terms) h
+  prefix-is n sign x y a t is lent h =
+      ap (λ m. worth v ds (tree_of m p) s) is ∙ ap (λ o. o >>= λ r. prefixed p sign r.value r.terms) (sym (ap (λ (z : Expr). worth v ds (plain z) s) lent) ∙ h)
 
-  pub left-fails : (e : CheckError) (sign : BinarySign) (x y : Tree) → Fails e (worth v ds x s) → Fails e (worth v ds (binary p sign x y) s)
+  pub left-fails : (e : CheckError) (n : ExprNode) (sign : BinarySign) (x z : Box Expr Global) (y : Expr) → n ≡ node.Binary sign x z → y ≡ x.value → Fails e (worth v ds (plain y) s) → Fails e (worth v ds (tree_of n p) s)
   unfolding worth
-  left-fails e sign x y h = fails-then e (worth v ds x s) (λ l. worth v ds y l.terms >>= λ r. combined p sign l.value r.value r.terms) h
+  left-fails e n sign x z y is lent h =
+      subst (λ m. Fails e (worth v ds (tree_of m p) s)) (sym is)
+      (fails-then e (worth v ds (plain x.value) s) (λ l. worth v ds (plain z.value) l.terms >>= λ r. combined p sign l.value r.value r.terms) (subst (λ (u : Expr). Fails e (worth v ds (plain u) s)) lent h))
 
-  left-is : (sign : BinarySign) (x y : Tree) (a : Value) (t : Terms) → worth v ds x s ≡ Ok (found a t)
-      → worth v ds (binary p sign x y) s ≡ (worth v ds y t >>= λ r. combined p sign a r.value r.terms)
+  -- what is left after the left operand
+  left-is : (n : ExprNode) (sign : BinarySign) (x z : Box Expr Global) (y u : Expr) (a : Value) (t : Terms) → n ≡ node.Binary sign x z → y ≡ x.value → u ≡ z.value → worth v ds (plain y) s ≡ Ok (found a t)
+      → worth v ds (tree_of n p) s ≡ (worth v ds (plain u) t >>= λ r. combined p sign a r.value r.terms)
   unfolding worth
-  left-is sign x y a t h = ap (λ o. o >>= λ l. worth v ds y l.terms >>= λ r. combined p sign l.value r.value r.terms) h
+  left-is n sign x z y u a t is left right h =
+      ap (λ m. worth v ds (tree_of m p) s) is
+      ∙ ap (λ o. o >>= λ l. worth v ds (plain z.value) l.terms >>= λ r. combined p sign l.value r.value r.terms) (sym (ap (λ (w : Expr). worth v ds (plain w) s) left) ∙ h)
+      ∙ ap (λ (w : Expr). worth v ds (plain w) t >>= λ r. combined p sign a r.value r.terms) (sym right)
 
-  pub right-fails : (e : CheckError) (sign : BinarySign) (x y : Tree) (a : Value) (t : Terms) → worth v ds x s ≡ Ok (found a t) → Fails e (worth v ds y t) → Fails e (worth v ds (binary p sign x y) s)
-  right-fails e sign x y a t hx h = subst (λ (o : Result (Found Value) Broken). Fails e o) (sym (left-is sign x y a t hx)) (fails-then e (worth v ds y t) (λ r. combined p sign a r.value r.terms) h)
+  pub right-fails : (e : CheckError) (n : ExprNode) (sign : BinarySign) (x z : Box Expr Global) (y u : Expr) (a : Value) (t : Terms) → n ≡ node.Binary sign x z → y ≡ x.value → u ≡ z.value → worth v ds (plain y) s ≡ Ok (found a t)
+      → Fails e (worth v ds (plain u) t) → Fails e (worth v ds (tree_of n p) s)
+  right-fails e n sign x z y u a t is left right hx h =
+      subst (λ (o : Result (Found Value) Broken). Fails e o) (sym (left-is n sign x z y u a t is left right hx)) (fails-then e (worth v ds (plain u) t) (λ r. combined p sign a r.value r.terms) h)
 
-  pub binary-is : (sign : BinarySign) (x y : Tree) (a b : Value) (t u : Terms) → worth v ds x s ≡ Ok (found a t) → worth v ds y t ≡ Ok (found b u) → worth v ds (binary p sign x y) s ≡ combined p sign a b u
-  binary-is sign x y a b t u hx hy = left-is sign x y a t hx ∙ ap (λ o. o >>= λ r. combined p sign a r.value r.terms) hy
+  pub binary-is : (n : ExprNode) (sign : BinarySign) (x z : Box Expr Global) (y u : Expr) (a b : Value) (t q : Terms) → n ≡ node.Binary sign x z → y ≡ x.value → u ≡ z.value → worth v ds (plain y) s ≡ Ok (found a t)
+      → worth v ds (plain u) t ≡ Ok (found b q) → worth v ds (tree_of n p) s ≡ combined p sign a b q
+  binary-is n sign x z y u a b t q is left right hx hy = left-is n sign x z y u a t is left right hx ∙ ap (λ o. o >>= λ r. combined p sign a r.value r.terms) hy
 
-  pub object-fails : (e : CheckError) (x : Box Expr Global) (m : List ℕ) (args : Option ArgList) → Fails e (worth v ds (plain x.value) s) → Fails e (worth v ds (tree_of (node.Member x m args) p) s)
+  pub object-fails : (e : CheckError) (n : ExprNode) (x : Box Expr Global) (m : List ℕ) (args : Option ArgList) (y : Expr) → n ≡ node.Member x m args → y ≡ x.value → Fails e (worth v ds (plain y) s) → Fails e (worth v ds (tree_of n p) s)
   unfolding worth
-  object-fails e x m None h = fails-then e (worth v ds (plain x.value) s) (λ r. member_named_of v p r.value m r.terms) h
-  object-fails e x m (Some ps) h = fails-then e (worth v ds (plain x.value) s) (λ r. args_worth v ds [] (args_tree ps) r.terms >>= λ q. method_named_of v p r.value m q.value q.terms) h
+  object-fails e n x m args y is lent h =
+      subst (λ k. Fails e (worth v ds (tree_of k p) s)) (sym is) (here args (subst (λ (z : Expr). Fails e (worth v ds (plain z) s)) lent h))
+    where
+      here : (o : Option ArgList) → Fails e (worth v ds (plain x.value) s) → Fails e (worth v ds (tree_of (node.Member x m o) p) s)
+      here None f = fails-then e (worth v ds (plain x.value) s) (λ r. member_named_of v p r.value m r.terms) f
+      here (Some ps) f = fails-then e (worth v ds (plain x.value) s) (λ r. args_worth v ds [] (args_tree ps) r.terms >>= λ q. method_named_of v p r.value m q.value q.terms) f
 
-  pub member-is : (x : Box Expr Global) (m : List ℕ) (a : Value) (t : Terms) → worth v ds (plain x.value) s ≡ Ok (found a t)
-      → worth v ds (tree_of (node.Member x m None) p) s ≡ member_named_of v p a m t
+  pub member-is : (n : ExprNode) (x : Box Expr Global) (m : List ℕ) (args : Option ArgList) (y : Expr) (a : Value) (t : Terms) → n ≡ node.Member x m args → args ≡ None → y ≡ x.value → worth v ds (plain y) s ≡ Ok (found a t)
+      → worth v ds (tree_of n p) s ≡ member_named_of v p a m t
   unfolding worth
-  member-is x m a t h = ap (λ o. o >>= λ r. member_named_of v p r.value m r.terms) h
+  member-is n x m args y a t is none lent h =
+      ap (λ k. worth v ds (tree_of k p) s) (is ∙ ap (λ o. node.Member x m o) none) ∙ ap (λ o. o >>= λ r. member_named_of v p r.value m r.terms) (sym (ap (λ (z : Expr). worth v ds (plain z) s) lent) ∙ h)
 
-  pub list-is : (x : Box Expr Global) (m : List ℕ) (ps : ArgList) (a : Value) (t : Terms) → worth v ds (plain x.value) s ≡ Ok (found a t)
-      → worth v ds (tree_of (node.Member x m (Some ps)) p) s ≡ (args_worth v ds [] (args_tree ps) t >>= λ q. method_named_of v p a m q.value q.terms)
+  pub list-is : (n : ExprNode) (x : Box Expr Global) (m : List ℕ) (args : Option ArgList) (ps : ArgList) (y : Expr) (a : Value) (t : Terms) → n ≡ node.Member x m args → args ≡ Some ps → y ≡ x.value → worth v ds (plain y) s ≡ Ok (found a t)
+      → worth v ds (tree_of n p) s ≡ (args_worth v ds [] (args_tree ps) t >>= λ q. method_named_of v p a m q.value q.terms)
   unfolding worth
-  list-is x m ps a t h = ap (λ o. o >>= λ r. args_worth v ds [] (args_tree ps) r.terms >>= λ q. method_named_of v p r.value m q.value q.terms) h
+  list-is n x m args ps y a t is some lent h =
+      ap (λ k. worth v ds (tree_of k p) s) (is ∙ ap (λ o. node.Member x m o) some)
+      ∙ ap (λ o. o >>= λ r. args_worth v ds [] (args_tree ps) r.terms >>= λ q. method_named_of v p r.value m q.value q.terms) (sym (ap (λ (z : Expr). worth v ds (plain z) s) lent) ∙ h)
 
   pub call-fails : (e : CheckError) (f : List ℕ) (ps : Args) → Fails e (args_worth v ds [] ps s) → Fails e (worth v ds (call p f ps) s)
   unfolding worth

@@ -1,6 +1,6 @@
 -- Putting terms into the graph, and into the list of their trees.
 use Rattle.std.proofs.Common.{◌≡◌, ℕ, ℤ, ◌<◌, ◌≤◌, Bool, true, false, cond, ◌⊎◌, List, [], ◌∷◌, ◌++◌, length, map, Option, Some, None, option_map, refl, sym, ap, subst, ◌∙◌, arith, inl, inr, append_assoc, append-nil, length-append}
-use Rattle.std.specs.Prelude.{filter_map, option_to_list}
+use Rattle.std.specs.Prelude.{filter_map, option_and_then, option_to_list}
 use Rattle.std.specs.Option.{option_or}
 use Rattle.std.specs.List.{Contains, cons_option}
 use Rattle.std.proofs.lemmas.Bool.{cases_lt}
@@ -8,13 +8,14 @@ use Rattle.std.proofs.lemmas.List.{map-append}
 use Rattle.std.proofs.lemmas.List.Elements.{Contains-get_or, Contains-append_left, Contains-append_right, Contains-append_cases}
 use Rattle.pl_pipeline.proofs.Distinct.{one_tree}
 use Rattle.pl_spec.specs.Limits.{most_terms}
+use Rattle.pl_spec.proofs.Each.{each_both}
 use Rattle.pl_pipeline.specs.Term.{Term, absent, TermInput, Node, Graph, IsGraph, MentionsBelow, tree_over, trees, term_at}
 use Rattle.pl_terms.specs.Nodes.{Interned, interned}
 use Rattle.pl_terms.proofs.Interning.{Later, later-same, later-still, later-more, length-trees, IsPut, put, IsFull, refused}
 use Rattle.pl_check.specs.declared.operation.Operation.{Operation}
-use Rattle.pl_check.specs.Values.{Value, Bars, Factor, Filter, Labels, Numbers, Number, Text, Bound, bound}
+use Rattle.pl_check.specs.Values.{Value, Factor, Number, Bound, bound}
 use Rattle.pl_check.specs.Results.{constant, node_for, result_for, names_after}
-use Rattle.pl_check.specs.Typed.{Terms, Found, found, constant_value, factor_value, asks_factor, place_value, option_bind, with_constants, with_node, node_made, made}
+use Rattle.pl_check.specs.Typed.{Terms, Found, found, constant_value, factor_value, asks_factor, place_value, with_constants, with_node, node_made, made}
 use Rattle.pl_check.specs.Trees as by_tree
 use Rattle.pl_check.specs.Trees.{Meaning, Forest, After, with_trees, constant_tree, constant_of, factor_of, constant_in, settled, settled_trees, tree_for}
 use Rattle.pl_check.specs.Numbering.{AreFirsts, HasMany}
@@ -22,7 +23,7 @@ use Rattle.pl_check.proofs.Extended.{many-later, IsOver}
 use Rattle.pl_check.proofs.Placing.{bind-some}
 use Rattle.pl_check.proofs.Few.{few-inputs}
 use Rattle.pl_check.proofs.Unnumbered.{unnumbered, bare, names-bare, result-bare}
-use Rattle.pl_check.proofs.Rooted.{tree_of, meaning_of, IsIn, AllIn, values, all-later, trees-later, all-append, tree-for, node-mentions}
+use Rattle.pl_check.proofs.Rooted.{tree_of, meaning_of, IsIn, AllIn, values, all-later, trees-later, tree-for, node-mentions}
 use Rattle.pl_check.proofs.Growing.{terms}
 use Rattle.pl_check.proofs.Sorted.{result-term}
 
@@ -125,12 +126,7 @@ FactorSettles s f v r =
 pub factor-settles : (s : Terms) (f : Forest) (v : Value) (r : Value × Graph) → Same s f → IsIn s.graph v → factor_value s.graph v ≡ Some r → FactorSettles s f v r
 unfolding factor_value
 factor-settles s f (Number n) r w i h = number-settles s f n (interned s.graph (constant n)) r w refl h
-factor-settles s f (Bars c) r w i h = other-settles s f (Bars c) r w i h
-factor-settles s f (Factor t x) r w i h = other-settles s f (Factor t x) r w i h
-factor-settles s f (Filter t) r w i h = other-settles s f (Filter t) r w i h
-factor-settles s f (Labels t) r w i h = other-settles s f (Labels t) r w i h
-factor-settles s f (Numbers t) r w i h = other-settles s f (Numbers t) r w i h
-factor-settles s f (Text t) r w i h = other-settles s f (Text t) r w i h
+factor-settles s f v r w i h = other-settles s f v r w i h
 
 -- and what there is no room for is a tree too many
 abbrev one_value : Value → Graph → Option (Value × Graph)
@@ -150,12 +146,7 @@ pub factor-over : (s : Terms) (f : Forest) (v : Value) → Same s f → factor_v
 unfolding factor_value
 factor-over s f (Number n) w h =
     many-trees s f (constant n) (constant_tree n) w (refused s.graph (constant n) w.graph (omega arith) (constant-mentions n (length s.graph)) (constant-none (interned s.graph (constant n)) s.graph h)) refl
-factor-over s f (Bars c) w h = no-other s f (Bars c) _ h
-factor-over s f (Factor t x) w h = no-other s f (Factor t x) _ h
-factor-over s f (Filter t) w h = no-other s f (Filter t) _ h
-factor-over s f (Labels t) w h = no-other s f (Labels t) _ h
-factor-over s f (Numbers t) w h = no-other s f (Numbers t) _ h
-factor-over s f (Text t) w h = no-other s f (Text t) _ h
+factor-over s f v w h = no-other s f v _ h
 
 bound-over : (s : Terms) (f : Forest) (b : Bound) → Same s f → place_value s.graph b ≡ None → HasMany (f.trees ++ option_to_list (constant_in (bare b)))
 bound-over s f b w h = here (asks_factor b.parameter) h
@@ -220,7 +211,7 @@ constants-settle done s f (b ∷ bs) r w i k h =
     let more = with_trees f (option_to_list (constant_in (bare b))) in
     let split : values (done ++ c ∷ []) ≡ values done ++ x.0.0 ∷ [] = map-append (λ (y : Bound). y.value) done (c ∷ []) in
     let q = constants-settle (done ++ c ∷ []) next more bs r p.same
-    (subst (AllIn x.0.1) (sym split) (all-append x.0.1 (values done) (x.0.0 ∷ []) (all-later s.graph x.0.1 (values done) p.later i) (p.inside, tt)))
+    (subst (AllIn x.0.1) (sym split) (each_both (IsIn x.0.1) (values done) (x.0.0 ∷ []) (all-later s.graph x.0.1 (values done) p.later i) (p.inside, tt)))
     (all-later s.graph x.0.1 (values bs) p.later k.1) x.2 in
     let first : bare c ≡ settled (bare b) = one-bound b x.0.0 (sym (ap (λ (m : Meaning). m.value) p.is)) in
     let tree : tree_of x.0.1 x.0.0 ≡ option_or (constant_in (bare b)) (tree_of s.graph b.value) = sym (ap (λ (m : Meaning). m.tree) p.is) in
@@ -242,7 +233,7 @@ constants-settle done s f (b ∷ bs) r w i k h =
     }
 
 -- either part of it finds nothing
-bind-none : {A B : Type 0} (o : Option A) (f : A → Option B) → option_bind o f ≡ None → (o ≡ None) ⊎ ((x : A) × (o ≡ Some x) × (f x ≡ None))
+bind-none : {A B : Type 0} (o : Option A) (f : A → Option B) → option_and_then f o ≡ None → (o ≡ None) ⊎ ((x : A) × (o ≡ Some x) × (f x ≡ None))
 bind-none None f h = inl refl
 bind-none (Some x) f h = inr (x, refl, h)
 

@@ -8,7 +8,7 @@ use Rattle.std.proofs.lemmas.List.Elements.{Contains-append_left}
 use Rattle.pl_pipeline.specs.Term.{Term, tree_at}
 use Rattle.pl_grammar.specs.declared.Place.{Place}
 use Rattle.pl_grammar.specs.declared.PrefixSign.{PrefixSign}
-use Rattle.pl_grammar.specs.declared.PrefixSign.TheVariants.{Minus, Not}
+use Rattle.pl_grammar.specs.declared.PrefixSign.TheVariants.{Minus}
 use Rattle.pl_grammar.specs.declared.BinarySign.{BinarySign}
 use Rattle.pl_grammar.specs.Tree.{Tree, number, text, name, call, prefix, binary, member, method, Args, no_args, arg}
 use Rattle.pl_grammar.specs.Script.{Head, LetHead, ColumnHead, ScreenHead, Statement}
@@ -16,13 +16,13 @@ use Rattle.pl_check.specs.declared.fault.CheckFault.{CheckFault}
 use Rattle.pl_check.specs.declared.fault.CheckFault.TheVariants.{UnknownName, BadArgument}
 use Rattle.pl_check.specs.declared.operation.Operation.{Operation}
 use Rattle.pl_check.specs.Faults.{Broken, ◌>>=◌, or_fault, unless}
-use Rattle.pl_check.specs.Values.{Value, Bars, Factor, Filter, Labels, Numbers, Number, Text, Bound}
+use Rattle.pl_check.specs.Values.{Value, Number, Bound}
 use Rattle.pl_check.specs.Operations.{function_named, member_named, without_parentheses, operator}
 use Rattle.pl_check.specs.Rules.{form, broken}
-use Rattle.pl_check.specs.Typed.{require, is_storable, is_term_filter, bar_column, object_of, operands_of}
+use Rattle.pl_check.specs.Typed.{is_storable, is_term_filter, bar_column, object_of, operands_of}
 use Rattle.pl_check.specs.Trees.{Meaning, Forest, After, after, with_trees, constant_of, factor_of, constant_in, settled, settled_trees, tree_for, Arguments, made, applied, called, prefixed, combined, member_of, method_of, Definition, meaning_named, with_argument, meaning, arguments, TreeColumn, Judged, is_taken, stored, let_judged, column_judged, screen_judged, head_judged, statement_judged, statements_judged, ended}
 use Rattle.pl_check.specs.Numbering.{HasMany}
-use Rattle.pl_check.proofs.Walk.{then-ok}
+use Rattle.pl_check.proofs.Walk.{then-ok, require-ok}
 
 pub many-later : (ts us : List Term) → HasMany ts → HasMany (ts ++ us)
 many-later ts us h = record { some = h.some; many = h.many; different = h.different; among = λ k l. Contains-append_left ts us (tree_at h.some k) (h.among k l) }
@@ -71,13 +71,7 @@ called-extends p o object ts ws f m h =
 pub prefixed-extends : (p : Place) (sign : PrefixSign) (v : Value) (t : Option Term) (f : Forest) (m : After Meaning) → prefixed p sign v t f ≡ Ok m → Extends f m.forest
 unfolding prefixed
 prefixed-extends p Minus (Number n) t f m h = found-extends _ f m h
-prefixed-extends p Minus (Bars c) t f m h = applied-extends p _ _ _ f m h
-prefixed-extends p Minus (Factor k x) t f m h = applied-extends p _ _ _ f m h
-prefixed-extends p Minus (Filter k) t f m h = applied-extends p _ _ _ f m h
-prefixed-extends p Minus (Labels k) t f m h = applied-extends p _ _ _ f m h
-prefixed-extends p Minus (Numbers k) t f m h = applied-extends p _ _ _ f m h
-prefixed-extends p Minus (Text x) t f m h = applied-extends p _ _ _ f m h
-prefixed-extends p Not v t f m h = applied-extends p _ _ _ f m h
+prefixed-extends p sign v t f m h = applied-extends p _ _ _ f m h
 
 pub combined-extends : (p : Place) (sign : BinarySign) (l r : Meaning) (f : Forest) (m : After Meaning) → combined p sign l r f ≡ Ok m → Extends f m.forest
 unfolding combined
@@ -137,10 +131,6 @@ mutual
 
 -- ---- statements
 
-pub require-ok : {A : Type 0} (b : Bool) (k : CheckFault) (p : Place) (r : Result A Broken) (y : A) → require b k p r ≡ Ok y → r ≡ Ok y
-require-ok true k p r y h = h
-require-ok false k p r y h = absurd (let no : Err (record { fault = k; place = p }) ≡ Ok y = h in cc)
-
 found-one : (x y : After Meaning) → answer x ≡ Ok y → x ≡ y
 found-one x y q = cc
 
@@ -149,23 +139,23 @@ unfolding stored
 stored-extends p r m h =
     let t = constant_of r.value.value in
     let v = after (record { value = factor_of r.value.value; tree = option_or t r.value.tree }) (with_trees r.forest (option_to_list t)) in
-    subst (λ (x : After Meaning). Extends r.forest x.forest) (found-one v m (require-ok (is_storable r.value.value) _ p (answer v) m h)) (option_to_list t, refl)
+    subst (λ (x : After Meaning). Extends r.forest x.forest) (found-one v m (require-ok (is_storable r.value.value) _ p (answer v) m h).1) (option_to_list t, refl)
 
 judged-one : (x y : Judged) → answer x ≡ Ok y → Extends x.forest y.forest
 judged-one x y q = subst (λ (z : Judged). Extends x.forest z.forest) (let e : x ≡ y = cc in e) (same-extends x.forest)
 
 pub let-extends : (v : ℕ) (j : Judged) (p : Place) (n : List ℕ) (r : After Meaning) (k : Judged) → let_judged v j p n r ≡ Ok k → Extends r.forest k.forest
 unfolding let_judged
-let-extends v j p n r k h = judged-one _ k (require-ok (not (is_taken v j.definitions n)) _ p (answer _) k h)
+let-extends v j p n r k h = judged-one _ k (require-ok (not (is_taken v j.definitions n)) _ p (answer _) k h).1
 
 pub column-extends : (j : Judged) (p : Place) (n : List ℕ) (r : After Meaning) (k : Judged) → column_judged j p n r ≡ Ok k → Extends r.forest k.forest
 unfolding column_judged
 column-extends j p n r k h =
-    judged-one _ k (require-ok (nat_lt (length j.columns) most_columns) _ p (answer _) k (require-ok (not (list_any (λ (c : TreeColumn). bytes_eq n c.name) j.columns)) _ p _ k h))
+    judged-one _ k (require-ok (nat_lt (length j.columns) most_columns) _ p (answer _) k (require-ok (not (list_any (λ (c : TreeColumn). bytes_eq n c.name) j.columns)) _ p _ k h).1).1
 
 screen-extends : (j : Judged) (p : Place) (r : After Meaning) (k : Judged) → screen_judged j p r ≡ Ok k → Extends r.forest k.forest
 unfolding screen_judged
-screen-extends j p r k h = judged-one _ k (require-ok (not (is_some j.screen)) _ p (answer _) k (require-ok (is_term_filter r.value.value) _ p _ k h))
+screen-extends j p r k h = judged-one _ k (require-ok (not (is_some j.screen)) _ p (answer _) k (require-ok (is_term_filter r.value.value) _ p _ k h).1).1
 
 pub head-extends : (v : ℕ) (j : Judged) (h : Head) (r : After Meaning) (k : Judged) → head_judged v j h r ≡ Ok k → Extends r.forest k.forest
 head-extends v j (LetHead p n) r k h =
@@ -189,4 +179,4 @@ statements-extend v j (s ∷ ss) k h =
     extends-further j.forest a.0.forest k.forest (statement-extends v j s a.0 a.1) (statements-extend v a.0 ss k a.2)
 
 pub ended-extends : (p : Place) (j k : Judged) → ended p j ≡ Ok k → Extends j.forest k.forest
-ended-extends p j k h = judged-one j k (require-ok (nat_le 1 (length j.columns)) _ p (answer j) k h)
+ended-extends p j k h = judged-one j k (require-ok (nat_le 1 (length j.columns)) _ p (answer j) k h).1

@@ -3,10 +3,11 @@ use Rattle.std.proofs.Common.{◌≡◌, ℕ, Bool, true, false, ◌||◌, cond,
 use Rattle.std.specs.Prelude.{is_some, option_and_then}
 use Rattle.std.proofs.lemmas.List.{map-append}
 use Rattle.pl_spec.specs.declared.Column.{Column}
+use Rattle.pl_spec.proofs.Each.{each_both}
 use Rattle.pl_pipeline.specs.Term.{Term, Graph}
 use Rattle.pl_grammar.specs.declared.Place.{Place}
 use Rattle.pl_grammar.specs.declared.PrefixSign.{PrefixSign}
-use Rattle.pl_grammar.specs.declared.PrefixSign.TheVariants.{Minus, Not}
+use Rattle.pl_grammar.specs.declared.PrefixSign.TheVariants.{Minus}
 use Rattle.pl_grammar.specs.declared.BinarySign.{BinarySign}
 use Rattle.pl_grammar.specs.declared.BinarySign.TheVariants as signs
 use Rattle.pl_grammar.specs.Tree.{Tree, number, text, name, call, prefix, binary, member, method, Args, no_args, arg}
@@ -17,15 +18,15 @@ use Rattle.pl_check.specs.declared.operation.Operation.{Operation}
 use Rattle.pl_check.specs.declared.operation.Operation.TheVariants as op
 use Rattle.pl_check.specs.declared.operation.Parameter.{Parameter}
 use Rattle.pl_check.specs.Faults.{Broken, ◌>>=◌, or_fault, unless}
-use Rattle.pl_check.specs.Values.{Value, Bars, Factor, Filter, Labels, Numbers, Number, Text, Bound, bound}
-use Rattle.pl_check.specs.Operations.{function_named, member_named, without_parentheses, operator, equal_to, unequal_to, prefix_operator, parameters}
+use Rattle.pl_check.specs.Values.{Value, Bars, Labels, Number, Text, Bound, bound}
+use Rattle.pl_check.specs.Operations.{function_named, member_named, without_parentheses, operator, prefix_operator, parameters}
 use Rattle.pl_check.specs.Rules.{Written, parameter_of, has_all, form, broken}
 use Rattle.pl_check.specs.Typed.{Terms, Found, found, Definition, bar_column, defined, value_named, made, applied, called, object_of, prefixed, operands_of, combined, member_of, method_of, written, worth, args_worth}
 use Rattle.pl_check.specs.Typed as typed
 use Rattle.pl_check.specs.Trees as by_tree
 use Rattle.pl_check.specs.Trees.{Meaning, plain, Forest, After, after, Arguments, meaning_named, with_argument, meaning, arguments}
 use Rattle.pl_check.proofs.Unnumbered.{unnumbered, bare, bare_written, broken-bare, form-bare, object-bare, operands-bare, operator-bare}
-use Rattle.pl_check.proofs.Rooted.{tree_of, meaning_of, IsIn, AllIn, values, in-later, tree-later, all-later, trees-later, all-append}
+use Rattle.pl_check.proofs.Rooted.{tree_of, meaning_of, IsIn, AllIn, values, in-later, tree-later, all-later, trees-later}
 use Rattle.pl_check.proofs.Walk.{then-ok}
 use Rattle.pl_check.proofs.Extended.{Extends, IsOver, over-later, extends-further, called-extends, prefixed-extends, combined-extends, member-extends, method-extends, meaning-extends, arguments-extends}
 use Rattle.pl_check.proofs.Counted.{Same, Means, made-means, made-over}
@@ -126,7 +127,7 @@ called-agrees p o object ws s f w i k =
         let split : values bs ≡ values object ++ worths ws = form-values o false object ws bs e in
         let all : map (tree_of s.graph) (values bs) ≡ ts = ap (map (tree_of s.graph)) split ∙ map-append (tree_of s.graph) (values object) (worths ws) in
         subst (λ us. Agrees of_meaning (Means s) (applied p o bs s) (by_tree.applied p o (map bare bs) us f)) all
-        (applied-agrees p o bs s f w (subst (AllIn s.graph) (sym split) (all-append s.graph (values object) (worths ws) i k)))
+        (applied-agrees p o bs s f w (subst (AllIn s.graph) (sym split) (each_both (IsIn s.graph) (values object) (worths ws) i k)))
 
 -- ---- objects and operands
 
@@ -148,30 +149,12 @@ object-agrees p o v s f w i =
 prefixed-agrees : (p : Place) (sign : PrefixSign) (v : Value) (s : Terms) (f : Forest) → Same s f → IsIn s.graph v → Agrees of_meaning (Means s) (prefixed p sign v s) (by_tree.prefixed p sign (unnumbered v) (tree_of s.graph v) f)
 unfolding prefixed by_tree.prefixed
 prefixed-agrees p Minus (Number n) s f w i = (_, refl, found-means s f _ _ w (λ k e. absurd (let no : None ≡ Some k = e in cc)) refl)
-prefixed-agrees p Minus (Bars c) s f w i = object-agrees p (prefix_operator Minus) (Bars c) s f w i
-prefixed-agrees p Minus (Factor t x) s f w i = object-agrees p (prefix_operator Minus) (Factor t x) s f w i
-prefixed-agrees p Minus (Filter t) s f w i = object-agrees p (prefix_operator Minus) (Filter t) s f w i
-prefixed-agrees p Minus (Labels t) s f w i = object-agrees p (prefix_operator Minus) (Labels t) s f w i
-prefixed-agrees p Minus (Numbers t) s f w i = object-agrees p (prefix_operator Minus) (Numbers t) s f w i
-prefixed-agrees p Minus (Text t) s f w i = object-agrees p (prefix_operator Minus) (Text t) s f w i
-prefixed-agrees p Not v s f w i = object-agrees p (prefix_operator Not) v s f w i
-
-equal-values : (x v w : Value) → values (operands_of (equal_to x) v w) ≡ v ∷ w ∷ []
-unfolding object_of parameters
-equal-values (Labels t) v w = refl
-equal-values (Numbers t) v w = refl
-equal-values x v w = refl
-
-unequal-values : (x v w : Value) → values (operands_of (unequal_to x) v w) ≡ v ∷ w ∷ []
-unfolding object_of parameters
-unequal-values (Labels t) v w = refl
-unequal-values (Numbers t) v w = refl
-unequal-values x v w = refl
+prefixed-agrees p sign v s f w i = object-agrees p (prefix_operator sign) v s f w i
 
 operands-values : (sign : BinarySign) (x v w : Value) → values (operands_of (operator sign x) v w) ≡ v ∷ w ∷ []
 unfolding object_of parameters
-operands-values signs.Equal x v w = equal-values x v w
-operands-values signs.NotEqual x v w = unequal-values x v w
+operands-values signs.Equal (Labels t) v w = refl
+operands-values signs.NotEqual (Labels t) v w = refl
 operands-values sign x v w = refl
 
 combined-agrees : (p : Place) (sign : BinarySign) (v x : Value) (s : Terms) (f : Forest) → Same s f → IsIn s.graph v → IsIn s.graph x
@@ -221,32 +204,29 @@ meaning-later g h v l i = ap (λ t. record { value = unnumbered v; tree = t }) (
 
 pub meant-later : (g h : Graph) (ds : List Definition) (es : List by_tree.Definition) → Later g h → AreMeant g ds es → AreMeant h ds es
 meant-later g h [] [] l a = tt
-meant-later g h [] (e ∷ es) l a = absurd a
-meant-later g h (d ∷ ds) [] l a = absurd a
 meant-later g h (d ∷ ds) (e ∷ es) l a = (a.0, in-later g h d.value l a.1, a.2 ∙ meaning-later g h d.value l a.1, meant-later g h ds es l a.3)
+meant-later g h ds es l a = absurd a
 
 pub defined-is : (g : Graph) (ds : List Definition) (es : List by_tree.Definition) (n : List ℕ) → AreMeant g ds es → by_tree.defined es n ≡ option_map (meaning_of g) (defined ds n)
 unfolding defined by_tree.defined
 defined-is g [] [] n a = refl
-defined-is g [] (e ∷ es) n a = absurd a
-defined-is g (d ∷ ds) [] n a = absurd a
 defined-is g (d ∷ ds) (e ∷ es) n a =
     ap (λ k. cond (bytes_eq n k) (Some e.meaning) (by_tree.defined es n)) a.0 ∙ ap (λ m. cond (bytes_eq n d.name) (Some m) (by_tree.defined es n)) a.2 ∙ here (bytes_eq n d.name) (defined-is g ds es n a.3)
   where
     here : (b : Bool) → by_tree.defined es n ≡ option_map (meaning_of g) (defined ds n) → cond b (Some (meaning_of g d.value)) (by_tree.defined es n) ≡ option_map (meaning_of g) (cond b (Some d.value) (defined ds n))
     here true k = refl
     here false k = k
+defined-is g ds es n a = absurd a
 
 defined-in : (g : Graph) (ds : List Definition) (es : List by_tree.Definition) (n : List ℕ) (v : Value) → AreMeant g ds es → defined ds n ≡ Some v → IsIn g v
 unfolding defined
 defined-in g [] [] n v a h = absurd (let no : None ≡ Some v = h in cc)
-defined-in g [] (e ∷ es) n v a h = absurd a
-defined-in g (d ∷ ds) [] n v a h = absurd a
 defined-in g (d ∷ ds) (e ∷ es) n v a h = here (bytes_eq n d.name) h (defined-in g ds es n v a.3)
   where
     here : (b : Bool) → cond b (Some d.value) (defined ds n) ≡ Some v → (defined ds n ≡ Some v → IsIn g v) → IsIn g v
     here true e k = subst (IsIn g) (let s : Some d.value ≡ Some v = e in let q : d.value ≡ v = cc in q) a.1
     here false e k = k e
+defined-in g ds es n v a h = absurd a
 
 named-agrees : (p : Place) (ds : List Definition) (es : List by_tree.Definition) (n : List ℕ) (s : Terms) (f : Forest) → Same s f → AreMeant s.graph ds es
     → Agrees of_meaning (Means s) (or_fault UnknownName p (value_named ds n) >>= λ x. Ok (found x s)) (or_fault UnknownName p (meaning_named es n (bar_column n)) >>= λ m. Ok (after m f))
@@ -284,7 +264,7 @@ argument-is g h ws n v l i =
     (ap (λ ts. ts ++ tree_of h v ∷ []) (sym (trees-later g h (worths ws) l i)) ∙ sym (map-append (tree_of h) (worths ws) (v ∷ [])) ∙ ap (map (tree_of h)) (sym (map-append (λ (w : Written). w.value) ws (written n v ∷ []))))
 
 argument-in : (g h : Graph) (ws : List Written) (n : Option (List ℕ)) (v : Value) → Later g h → AllIn g (worths ws) → IsIn h v → AllIn h (worths (ws ++ written n v ∷ []))
-argument-in g h ws n v l i k = subst (AllIn h) (sym (map-append (λ (w : Written). w.value) ws (written n v ∷ []))) (all-append h (worths ws) (v ∷ []) (all-later g h (worths ws) l i) (k, tt))
+argument-in g h ws n v l i k = subst (AllIn h) (sym (map-append (λ (w : Written). w.value) ws (written n v ∷ []))) (each_both (IsIn h) (worths ws) (v ∷ []) (all-later g h (worths ws) l i) (k, tt))
 
 -- no arguments yet
 abbrev none : Arguments

@@ -4,6 +4,7 @@ use Rattle.std.specs.Prelude.{filter_map, option_and_then}
 use Rattle.std.specs.List.{cons_option}
 use Rattle.std.proofs.lemmas.List.{map-append}
 use Rattle.pl_spec.specs.declared.Column.{Column}
+use Rattle.pl_spec.proofs.Each.{Each, each_more, each_at, map_each}
 use Rattle.pl_pipeline.specs.Kind.{Kind}
 use Rattle.pl_pipeline.specs.Term.{Term, absent, column, node, Input, BarColumn, TermInput, Graph, MentionsBelow, input_tree, number_tree, tree_over, trees, term_at}
 use Rattle.pl_terms.proofs.Interning.{Later}
@@ -11,7 +12,7 @@ use Rattle.pl_check.specs.declared.operation.Operation.{Operation}
 use Rattle.pl_check.specs.declared.operation.Parameter.{Parameter}
 use Rattle.pl_check.specs.declared.operation.Parameter.TheVariants.{Mask, Groupby}
 use Rattle.pl_check.specs.Parameters.{same_parameter}
-use Rattle.pl_check.specs.Values.{Value, Bars, Factor, Filter, Labels, Numbers, Number, Text, Bound, given}
+use Rattle.pl_check.specs.Values.{Value, Bars, Factor, Filter, Labels, Numbers, Bound, given}
 use Rattle.pl_check.specs.Operations.{parameters}
 use Rattle.pl_check.specs.Results.{columns_of, term_in, input_in, gives_input, input_for, inputs_for, term_given, node_for}
 use Rattle.pl_check.specs.Trees.{Meaning, tree_given, read_in, input_given, inputs_given, or_absent, tree_for}
@@ -30,8 +31,7 @@ abbrev pub IsIn : Graph → Value → Type 0
 IsIn g v = (k : ℕ) → term_in v ≡ Some k → k < length g
 
 abbrev pub AllIn : Graph → List Value → Type 0
-AllIn g [] = Unit {0}
-AllIn g (v ∷ vs) = IsIn g v × AllIn g vs
+AllIn g vs = Each (IsIn g) vs
 
 abbrev pub values : List Bound → List Value
 values bs = map (λ b. b.value) bs
@@ -47,16 +47,10 @@ tree-later g h v f i = here (term_in v) i
     here (Some k) j = ap Some (f.same k (j k refl))
 
 pub all-later : (g h : Graph) (vs : List Value) → Later g h → AllIn g vs → AllIn h vs
-all-later g h [] f i = tt
-all-later g h (v ∷ vs) f i = (in-later g h v f i.0, all-later g h vs f i.1)
+all-later g h vs f i = each_more (IsIn g) (IsIn h) vs (λ v k. in-later g h v f k) i
 
 pub trees-later : (g h : Graph) (vs : List Value) → Later g h → AllIn g vs → map (tree_of h) vs ≡ map (tree_of g) vs
-trees-later g h [] f i = refl
-trees-later g h (v ∷ vs) f i = ap (λ t. t ∷ map (tree_of h) vs) (tree-later g h v f i.0) ∙ ap (λ ts. tree_of g v ∷ ts) (trees-later g h vs f i.1)
-
-pub all-append : (g : Graph) (xs ys : List Value) → AllIn g xs → AllIn g ys → AllIn g (xs ++ ys)
-all-append g [] ys f e = e
-all-append g (x ∷ xs) ys f e = (f.0, all-append g xs ys f.1 e)
+trees-later g h vs f i = map_each (tree_of h) (tree_of g) vs (each_more (IsIn g) _ vs (λ v k. tree-later g h v f k) i)
 
 -- ---- what a parameter is given
 
@@ -160,8 +154,7 @@ IsRead g (BarColumn c) = Unit {0}
 IsRead g (TermInput k) = k < length g
 
 abbrev AllRead : Graph → List Input → Type 0
-AllRead g [] = Unit {0}
-AllRead g (i ∷ is) = IsRead g i × AllRead g is
+AllRead g is = Each (IsRead g) is
 
 columns-in : (g : Graph) (cs : List Column) (is : List Input) → AllRead g is → AllRead g (map BarColumn cs ++ is)
 columns-in g [] is h = h
@@ -173,8 +166,7 @@ value-read g (Factor t x) i f h = subst (IsRead g) (let s : Some (TermInput t) �
 value-read g (Filter t) i f h = subst (IsRead g) (let s : Some (TermInput t) ≡ Some i = h in let q : TermInput t ≡ i = cc in q) (f t refl)
 value-read g (Labels t) i f h = subst (IsRead g) (let s : Some (TermInput t) ≡ Some i = h in let q : TermInput t ≡ i = cc in q) (f t refl)
 value-read g (Numbers t) i f h = subst (IsRead g) (let s : Some (TermInput t) ≡ Some i = h in let q : TermInput t ≡ i = cc in q) (f t refl)
-value-read g (Number n) i f h = absurd (let no : None ≡ Some i = h in cc)
-value-read g (Text t) i f h = absurd (let no : None ≡ Some i = h in cc)
+value-read g v i f h = absurd (let no : None ≡ Some i = h in cc)
 
 input-in : (g : Graph) (bs : List Bound) (p : Parameter) (i : Input) → AllIn g (values bs) → input_for bs p ≡ Some i → IsRead g i
 input-in g bs p i f h = here (gives_input p) (given bs p) refl h
@@ -192,15 +184,10 @@ given-inputs-in g bs (p ∷ ps) f = here (input_for bs p) refl (given-inputs-in 
     here None e h = h
     here (Some i) e h = (input-in g bs p i f e, h)
 
-read-in : (g : Graph) (is : List Input) (i k : ℕ) → AllRead g is → slice_get is i ≡ Some (TermInput k) → k < length g
-read-in g [] i k f h = absurd (let no : None ≡ Some (TermInput k) = h in cc)
-read-in g (x ∷ is) zero k f h = let same : x ≡ TermInput k = (let s : Some x ≡ Some (TermInput k) = h in cc) in subst (IsRead g) same f.0
-read-in g (x ∷ is) (suc i) k f h = read-in g is i k f.1 h
-
 pub node-mentions : (g : Graph) (o : Operation) (bs : List Bound) (names : List (List ℕ)) → AllIn g (values bs) → MentionsBelow (node_for o bs names) (length g)
 unfolding node_for
 node-mentions g o bs names f = record {
-  inputs = λ i k h. read-in g (inputs_for o bs) i k (columns-in g (columns_of o) _ (given-inputs-in g bs (parameters o) f)) h;
+  inputs = λ i k h. each_at (IsRead g) (inputs_for o bs) i (TermInput k) (columns-in g (columns_of o) _ (given-inputs-in g bs (parameters o) f)) h;
   mask = λ k h. term-given-in g bs Mask f k h;
   group = λ k h. term-given-in g bs Groupby f k h;
 }

@@ -12,7 +12,7 @@ use Rattle.pl_check.specs.declared.operation.Operation.TheVariants as op
 use Rattle.pl_check.specs.declared.operation.Parameter.{Parameter}
 use Rattle.pl_check.specs.declared.operation.Parameter.TheVariants as parameter
 use Rattle.pl_check.specs.Parameters.{same_parameter}
-use Rattle.pl_check.specs.Values.{Value, Bars, Factor, Filter, Labels, Numbers, Number, Text, Bound, given, is_safe, is_filter, is_bars}
+use Rattle.pl_check.specs.Values.{Value, Bars, Factor, Filter, Labels, Numbers, Bound, given, is_safe, is_filter, is_bars}
 use Rattle.pl_check.specs.Operations.{parameters}
 use Rattle.pl_check.specs.Rules.{each, takes, is_safe_for}
 use Rattle.pl_check.specs.Results.{kind_for, result_for, columns_of, gives_input, input_in, input_for, inputs_for, all_safe}
@@ -26,8 +26,7 @@ value-safe g (Filter t) j f h e = subst (IsSafe g) (let q : Some (TermInput t) �
 value-safe g (Labels t) j f h e = subst (IsSafe g) (let q : Some (TermInput t) ≡ Some (TermInput j) = e in let z : t ≡ j = cc in z) f.1
 value-safe g (Numbers t) j f h e = subst (IsSafe g) (let q : Some (TermInput t) ≡ Some (TermInput j) = e in let z : t ≡ j = cc in z) f.1
 value-safe g (Bars c) j f h e = absurd (let q : Some (BarColumn c) ≡ Some (TermInput j) = e in cc)
-value-safe g (Number n) j f h e = absurd (let q : None ≡ Some (TermInput j) = e in cc)
-value-safe g (Text t) j f h e = absurd (let q : None ≡ Some (TermInput j) = e in cc)
+value-safe g v j f h e = absurd (let q : None ≡ Some (TermInput j) = e in cc)
 
 -- it stays so in a graph that has all terms of the old one
 pub safe-kept : (g h : Graph) (k : ℕ) → ((k : ℕ) (n : Node) → slice_get g k ≡ Some n → slice_get h k ≡ Some n) → IsSafe g k → IsSafe h k
@@ -99,21 +98,11 @@ not-or false b e h = absurd (let no : false ≡ true = e in cc)
 
 bars-input : (v : Value) (j : ℕ) → is_bars v ≡ true → input_in v ≡ Some (TermInput j) → ⊥
 bars-input (Bars c) j h e = let no : Some (BarColumn c) ≡ Some (TermInput j) = e in cc
-bars-input (Factor t s) j h e = let no : false ≡ true = h in cc
-bars-input (Filter t) j h e = let no : false ≡ true = h in cc
-bars-input (Labels t) j h e = let no : false ≡ true = h in cc
-bars-input (Numbers t) j h e = let no : false ≡ true = h in cc
-bars-input (Number n) j h e = let no : false ≡ true = h in cc
-bars-input (Text t) j h e = let no : false ≡ true = h in cc
+bars-input v j h e = let no : false ≡ true = h in cc
 
 filter-safe : (v : Value) → is_filter v ≡ true → is_safe v ≡ true
-filter-safe (Filter t) h = refl
-filter-safe (Bars c) h = refl
-filter-safe (Labels t) h = refl
-filter-safe (Numbers t) h = refl
-filter-safe (Number n) h = refl
-filter-safe (Text t) h = refl
 filter-safe (Factor t s) h = absurd (let no : false ≡ true = h in cc)
+filter-safe v h = refl
 
 place-safe : (g : Graph) (p : Parameter) (v : Value) (j : ℕ) → in_window p ≡ true → takes p v ≡ true → is_safe_for p v ≡ true → IsInGraph g v → input_in v ≡ Some (TermInput j) → IsSafe g j
 unfolding in_window takes is_safe_for
@@ -165,31 +154,6 @@ result-called op.Abs bs names t h = not-or_self (all_safe bs)
 result-called op.Clip bs names t h = not-or_self (all_safe bs)
 result-called op.FillNa bs names t h = not-or_self (all_safe bs)
 result-called op.IfElse bs names t h = not-or_self (all_safe bs)
-result-called op.Returns bs names t h = refl
-result-called op.PercentChange bs names t h = refl
-result-called op.RateOfChangePercentage bs names t h = refl
-result-called op.RSI bs names t h = refl
-result-called op.FastStochasticOscillator bs names t h = refl
-result-called op.AroonUp bs names t h = refl
-result-called op.AroonDown bs names t h = refl
-result-called op.Rank bs names t h = refl
-result-called op.ZScore bs names t h = refl
-result-called op.PeerCount bs names t h = refl
-result-called op.SimpleMovingAverage bs names t h = refl
-result-called op.LinearWeightedMovingAverage bs names t h = refl
-result-called op.WindowSum bs names t h = refl
-result-called op.WindowMax bs names t h = refl
-result-called op.WindowMin bs names t h = refl
-result-called op.WindowStd bs names t h = refl
-result-called op.BollingerMiddle bs names t h = refl
-result-called op.BollingerLower bs names t h = refl
-result-called op.BollingerUpper bs names t h = refl
-result-called op.VWAP bs names t h = refl
-result-called op.AverageDollarVolume bs names t h = refl
-result-called op.WeightedAverageValue bs names t h = refl
-result-called op.TrueRange bs names t h = refl
-result-called op.ExponentialWeightedMovingAverage bs names t h = refl
-result-called op.Latest bs names t h = refl
 result-called op.Downsample bs names t h = absurd (let no : true ≡ false = h in cc)
 result-called o bs names t h = refl
 

@@ -1,5 +1,5 @@
 -- Rules, kinds, windows and sorts look at no number of a term.
-use Rattle.std.proofs.Common.{◌≡◌, ℕ, ℤ, Bool, true, false, ◌&&◌, ◌||◌, cond, List, [], ◌∷◌, ◌++◌, map, Option, Some, None, option_map, pos, refl, sym, ap, ◌∙◌}
+use Rattle.std.proofs.Common.{◌≡◌, ℕ, Bool, true, false, ◌&&◌, ◌||◌, cond, List, [], ◌∷◌, ◌++◌, map, Option, Some, None, option_map, pos, refl, sym, ap, ◌∙◌}
 use Rattle.std.specs.Prelude.{filter, is_some, option_and_then}
 use Rattle.std.proofs.lemmas.List.{length-map, map-append}
 use Rattle.std.specs.Int.RustNames.{int_le}
@@ -11,10 +11,10 @@ use Rattle.pl_check.specs.declared.operation.Operation.TheVariants as op
 use Rattle.pl_check.specs.declared.operation.Parameter.{Parameter}
 use Rattle.pl_check.specs.declared.operation.Parameter.TheVariants as parameter
 use Rattle.pl_check.specs.Parameters.{same_parameter, is_optional}
-use Rattle.pl_check.specs.Values.{Value, Factor, Filter, Labels, Numbers, Bound, bound, is_safe, number_in, text_in, given}
-use Rattle.pl_check.specs.Operations.{parameters, equal_to, unequal_to, operator}
+use Rattle.pl_check.specs.Values.{Value, Factor, Filter, Labels, Numbers, Bound, bound, is_safe, number_in, text_in, given, read_or}
+use Rattle.pl_check.specs.Operations.{parameters, operator}
 use Rattle.pl_check.specs.Rules.{Written, place_at, named_in, is_given, unless_given, parameter_of, has_all, form, takes, is_whole, is_percent, number_given, is_within, is_window, is_safe_for, each, broken}
-use Rattle.pl_check.specs.Results.{whole, percent_given, text_given, values_given, method_of, order_of, frequency_of, with_sid, sorted_sids, name_number, with_name, kind_for, names_after, window_without, window_for, all_safe, like, result_for}
+use Rattle.pl_check.specs.Results.{whole, percent_given, text_given, values_given, method_of, order_of, frequency_of, with_sid, sorted_sids, name_number, with_name, kind_for, names_after, window_of, window_for, all_safe, like, result_for}
 use Rattle.pl_check.specs.Typed.{first_of, object_of, second_of, operands_of, is_storable, is_term_filter}
 use Rattle.pl_check.proofs.Lists.{given-cons, all-same}
 
@@ -56,53 +56,18 @@ filter-bare v = refl
 
 -- ---- the rules
 
-takes-bare : (v : Value) (q : Parameter) → takes q (unnumbered v) ≡ takes q v
-unfolding takes
-takes-bare (Factor t s) parameter.X = refl
-takes-bare (Factor t s) q = refl
-takes-bare (Filter t) parameter.X = refl
-takes-bare (Filter t) q = refl
-takes-bare (Labels t) parameter.X = refl
-takes-bare (Labels t) q = refl
-takes-bare (Numbers t) parameter.X = refl
-takes-bare (Numbers t) q = refl
-takes-bare v q = refl
+-- what the four tests of a value say
+abbrev Tests : Type 0
+Tests = Bool × Bool × Bool × Bool
 
-within-bare : (bs : List Bound) (v : Value) (q : Parameter) → is_within bs q (unnumbered v) ≡ is_within bs q v
-unfolding is_within
-within-bare bs (Factor t s) parameter.X = refl
-within-bare bs (Factor t s) q = refl
-within-bare bs (Filter t) parameter.X = refl
-within-bare bs (Filter t) q = refl
-within-bare bs (Labels t) parameter.X = refl
-within-bare bs (Labels t) q = refl
-within-bare bs (Numbers t) parameter.X = refl
-within-bare bs (Numbers t) q = refl
-within-bare bs v q = refl
+abbrev tests : List Bound → Parameter → Value → Tests
+tests bs q v = (takes q v, is_within bs q v, is_window q v, is_safe_for q v)
 
-window-bare : (v : Value) (q : Parameter) → is_window q (unnumbered v) ≡ is_window q v
-unfolding is_window
-window-bare (Factor t s) parameter.X = refl
-window-bare (Factor t s) q = refl
-window-bare (Filter t) parameter.X = refl
-window-bare (Filter t) q = refl
-window-bare (Labels t) parameter.X = refl
-window-bare (Labels t) q = refl
-window-bare (Numbers t) parameter.X = refl
-window-bare (Numbers t) q = refl
-window-bare v q = refl
-
-safe-for-bare : (v : Value) (q : Parameter) → is_safe_for q (unnumbered v) ≡ is_safe_for q v
-unfolding is_safe_for
-safe-for-bare (Factor t s) parameter.X = refl
-safe-for-bare (Factor t s) q = refl
-safe-for-bare (Filter t) parameter.X = refl
-safe-for-bare (Filter t) q = refl
-safe-for-bare (Labels t) parameter.X = refl
-safe-for-bare (Labels t) q = refl
-safe-for-bare (Numbers t) parameter.X = refl
-safe-for-bare (Numbers t) q = refl
-safe-for-bare v q = refl
+tests-bare : (bs : List Bound) (v : Value) (q : Parameter) → tests bs q (unnumbered v) ≡ tests bs q v
+unfolding takes is_within is_window is_safe_for
+tests-bare bs (Factor t s) parameter.X = refl
+tests-bare bs v parameter.X = refl
+tests-bare bs v q = refl
 
 -- ---- what a parameter is given
 
@@ -119,35 +84,19 @@ given-bare (b ∷ bs) p =
     here true k = refl
     here false k = k
 
-abbrev number_of : Option Value → ℤ
-number_of None = pos 0
-number_of (Some v) = number_in v
-
-number-of-bare : (o : Option Value) → number_of (option_map unnumbered o) ≡ number_of o
-number-of-bare None = refl
-number-of-bare (Some v) = number-bare v
-
-number-is : (bs : List Bound) (p : Parameter) (o : Option Value) → given bs p ≡ o → number_given bs p ≡ number_of o
-number-is bs p None h = rw h refl
-number-is bs p (Some v) h = rw h refl
+-- what is read off it
+read-bare : {A : Type 0} (none : A) (read : Value → A) → ((v : Value) → read (unnumbered v) ≡ read v) → (bs : List Bound) (p : Parameter) → read_or none read (given (map bare bs) p) ≡ read_or none read (given bs p)
+read-bare none read h bs p = ap (read_or none read) (given-bare bs p) ∙ here (given bs p)
+  where
+    here : (o : Option Value) → read_or none read (option_map unnumbered o) ≡ read_or none read o
+    here None = refl
+    here (Some v) = h v
 
 number-given : (bs : List Bound) (p : Parameter) → number_given (map bare bs) p ≡ number_given bs p
-number-given bs p = number-is (map bare bs) p _ (given-bare bs p) ∙ number-of-bare (given bs p) ∙ sym (number-is bs p _ refl)
-
-abbrev text_of : Option Value → List ℕ
-text_of None = []
-text_of (Some v) = text_in v
-
-text-of-bare : (o : Option Value) → text_of (option_map unnumbered o) ≡ text_of o
-text-of-bare None = refl
-text-of-bare (Some v) = text-bare v
-
-text-is : (bs : List Bound) (p : Parameter) (o : Option Value) → given bs p ≡ o → text_given bs p ≡ text_of o
-text-is bs p None h = rw h refl
-text-is bs p (Some v) h = rw h refl
+number-given bs p = read-bare (pos 0) number_in number-bare bs p
 
 text-given : (bs : List Bound) (p : Parameter) → text_given (map bare bs) p ≡ text_given bs p
-text-given bs p = text-is (map bare bs) p _ (given-bare bs p) ∙ text-of-bare (given bs p) ∙ sym (text-is bs p _ refl)
+text-given bs p = read-bare [] text_in text-bare bs p
 
 values-given : (bs : List Bound) (p : Parameter) → values_given (map bare bs) p ≡ map unnumbered (values_given bs p)
 values-given [] p = refl
@@ -184,10 +133,10 @@ each-bare f g h (b ∷ bs) = ap (λ a. a && each f (map bare bs)) (h b.value b.p
 pub broken-bare : (bs : List Bound) → broken (map bare bs) ≡ broken bs
 unfolding broken
 broken-bare bs =
-    let a : each takes (map bare bs) ≡ each takes bs = each-bare takes takes takes-bare bs in
-    let b : each (is_within (map bare bs)) (map bare bs) ≡ each (is_within bs) bs = each-bare (is_within (map bare bs)) (is_within bs) (λ v q. within-bare (map bare bs) v q ∙ within-given bs v q) bs in
-    let c : each is_window (map bare bs) ≡ each is_window bs = each-bare is_window is_window window-bare bs in
-    let d : each is_safe_for (map bare bs) ≡ each is_safe_for bs = each-bare is_safe_for is_safe_for safe-for-bare bs in
+    let a : each takes (map bare bs) ≡ each takes bs = each-bare takes takes (λ v q. ap (λ (r : Tests). r.0) (tests-bare bs v q)) bs in
+    let b : each (is_within (map bare bs)) (map bare bs) ≡ each (is_within bs) bs = each-bare (is_within (map bare bs)) (is_within bs) (λ v q. ap (λ (r : Tests). r.1) (tests-bare (map bare bs) v q) ∙ within-given bs v q) bs in
+    let c : each is_window (map bare bs) ≡ each is_window bs = each-bare is_window is_window (λ v q. ap (λ (r : Tests). r.2) (tests-bare bs v q)) bs in
+    let d : each is_safe_for (map bare bs) ≡ each is_safe_for bs = each-bare is_safe_for is_safe_for (λ v q. ap (λ (r : Tests). r.3) (tests-bare bs v q)) bs in
     rw (a, b, c, d) refl
 
 -- ---- kinds, windows and results
@@ -228,25 +177,15 @@ names-bare op.Label bs names = ap (with_name names) (text-given bs parameter.Nam
 names-bare op.Number bs names = ap (with_name names) (text-given bs parameter.Name)
 names-bare o bs names = refl
 
-abbrev window_of : Operation → Option Value → Option Value → ℕ
-window_of o (Some v) w = whole (number_in v)
-window_of o None (Some v) = whole (number_in v)
-window_of o None None = window_without o
-
 window-of-bare : (o : Operation) (v w : Option Value) → window_of o (option_map unnumbered v) (option_map unnumbered w) ≡ window_of o v w
 window-of-bare o (Some v) w = ap whole (number-bare v)
 window-of-bare o None (Some v) = ap whole (number-bare v)
 window-of-bare o None None = refl
 
-window-is : (o : Operation) (bs : List Bound) (v w : Option Value) → given bs parameter.Window ≡ v → given bs parameter.LongWindow ≡ w → window_for o bs ≡ window_of o v w
-window-is o bs (Some v) w h k = rw h refl
-window-is o bs None (Some v) h k = rw (h, k) refl
-window-is o bs None None h k = rw (h, k) refl
-
 pub window-for-bare : (o : Operation) (bs : List Bound) → window_for o (map bare bs) ≡ window_for o bs
 window-for-bare o bs =
-    window-is o (map bare bs) _ _ (given-bare bs parameter.Window) (given-bare bs parameter.LongWindow) ∙ window-of-bare o (given bs parameter.Window) (given bs parameter.LongWindow)
-    ∙ sym (window-is o bs _ _ refl refl)
+    ap (λ v. window_of o v (given (map bare bs) parameter.LongWindow)) (given-bare bs parameter.Window) ∙ ap (window_of o (option_map unnumbered (given bs parameter.Window))) (given-bare bs parameter.LongWindow)
+    ∙ window-of-bare o (given bs parameter.Window) (given bs parameter.LongWindow)
 
 all-safe-bare : (bs : List Bound) → all_safe (map bare bs) ≡ all_safe bs
 all-safe-bare [] = refl
@@ -334,15 +273,7 @@ operands-bare o v w =
     ap (λ xs. xs ++ second_of (parameters o) (unnumbered w)) (object-bare o v) ∙ ap (λ ys. map bare (object_of o v) ++ ys) (second-bare (parameters o) w)
     ∙ sym (map-append bare (object_of o v) (second_of (parameters o) w))
 
-equal-bare : (v : Value) → equal_to (unnumbered v) ≡ equal_to v
-equal-bare (Labels t) = refl
-equal-bare v = refl
-
-unequal-bare : (v : Value) → unequal_to (unnumbered v) ≡ unequal_to v
-unequal-bare (Labels t) = refl
-unequal-bare v = refl
-
 pub operator-bare : (sign : BinarySign) (v : Value) → operator sign (unnumbered v) ≡ operator sign v
-operator-bare signs.Equal v = equal-bare v
-operator-bare signs.NotEqual v = unequal-bare v
+operator-bare signs.Equal (Labels t) = refl
+operator-bare signs.NotEqual (Labels t) = refl
 operator-bare sign v = refl

@@ -50,16 +50,9 @@ seen_by c a bar day (x ∷ xs) h = here (column_in c) (sid_in a) (date_in bar) (
     here : (o : Option Column) (p : Option ℕ) (q r : Option ℤ) (n : Option (List ℤ))
         → option_and_then (λ column. option_and_then (λ sid. option_and_then (λ bar_day. option_and_then (λ view_day. option_map (SeenLine column sid bar_day view_day) n) r) q) p) o
         ≡ option_and_then (λ cells. option_and_then (λ column. option_and_then (λ sid. option_and_then (λ bar_day. option_map (λ view_day. SeenLine column sid bar_day view_day cells) r) q) p) o) n
-    here None p q r None = refl
-    here None p q r (Some n) = refl
-    here (Some c) None q r None = refl
-    here (Some c) None q r (Some n) = refl
-    here (Some c) (Some a) None r None = refl
-    here (Some c) (Some a) None r (Some n) = refl
-    here (Some c) (Some a) (Some b) None None = refl
-    here (Some c) (Some a) (Some b) None (Some n) = refl
     here (Some c) (Some a) (Some b) (Some d) None = refl
-    here (Some c) (Some a) (Some b) (Some d) (Some n) = refl
+    here o p q r None = refl
+    here o p q r n = refl
 
 pub seen_more : (c a bar day r : List ℕ) (cells : List ℤ) → Some cells ≡ numbers_in (pieces 32 r) → seen_line (c ∷ a ∷ bar ∷ day ∷ pieces 32 r) ≡ bar_line c a bar day cells
 seen_more c a bar day r cells e = seen_by c a bar day (pieces 32 r) (some_piece 32 r) ∙ ap (option_and_then (bar_line c a bar day)) (sym e)

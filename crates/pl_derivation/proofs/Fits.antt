@@ -11,7 +11,7 @@ use Rattle.pl_spec.specs.World.{World, day_of, lives_on, living_sids, exists}
 use Rattle.pl_spec.specs.Window.{before, downward}
 use Rattle.pl_spec.specs.Periods.{first_session, period_start}
 use Rattle.pl_pipeline.specs.Kind.{Kind}
-use Rattle.pl_pipeline.specs.Kind.Kind.{Constant, Label, Number, StaticSids, Window, Point, LabelTest, Cross, Downsample}
+use Rattle.pl_pipeline.specs.Kind.Kind.{Window, Point, LabelTest, Cross, Downsample}
 use Rattle.pl_pipeline.specs.Term.{Term, Graph, Input, Node, IsGraph, input_tree, number_tree, tree_over, trees, term_at}
 use Rattle.pl_pipeline.specs.Term.Term.{absent, column, node}
 use Rattle.pl_pipeline.specs.Term.Input.{BarColumn, TermInput}
@@ -279,16 +279,13 @@ module _ (w : World) (p : Pipeline) (ok : IsGraph p.graph) (windows : HasSession
           session_before w (period_start f w.days d) d now (rw same (start-from f w.days now.0)) (start-within f w.days d)
 
       kind_ready : (kind : Kind) → Reached (reads_at w.days kind d) d → (a : ℕ) → has_sid w a ≡ true → Each (Ready (suc k)) (kind_facts w n kind a d)
-      kind_ready (Constant c) far a sid = tt
-      kind_ready (Label l) far a sid = tt
-      kind_ready (Number l) far a sid = tt
-      kind_ready (StaticSids sids) far a sid = tt
       kind_ready (Window f) far a sid = windows_ready far a sid
       kind_ready (Point f) far a sid = inputs_ready d d now far a sid
       kind_ready (LabelTest f) far a sid = inputs_ready d d now far a sid
       kind_ready (Cross f) far a sid =
           each_in_flat (Ready (suc k)) (entry_facts n d) (living_sids w d) (each_more _ _ (living_sids w d) (λ b known. entry_ready far b known) (living_known w d))
       kind_ready (Downsample f) far a sid = inputs_ready (period_start f w.days d) d (start_session f) far a sid
+      kind_ready kind far a sid = tt
 
       node_ready : Reached (inputs_at d) d → (r : Reading) (a : ℕ) → has_sid w a ≡ true → Each (Ready (suc k)) (node_facts w p r n a d)
       node_ready far r a sid = there (exists w a d)

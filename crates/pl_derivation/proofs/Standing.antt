@@ -92,11 +92,11 @@ module _ (w : World) (p : Pipeline) (known : HasTexts w) (ok : IsGraph p.graph) 
       step : (b : Bool) → is_right w p lines l ≡ b → wrong_behind w p lines (l ∷ ls) ≡ None
           → (is_right w p lines l ≡ true → wrong_behind w p (lines ++ l ∷ []) ls ≡ None → Each (States w p) ((lines ++ l ∷ []) ++ ls) × Closed ((lines ++ l ∷ []) ++ ls))
           → Each (States w p) (lines ++ l ∷ ls) × Closed (lines ++ l ∷ ls)
-      step true i e more = let r = more i (no_map w p known ok _ (rw i at e)) in rw (append_assoc lines (l ∷ []) ls) at r
+      step true i e more = let r = more i (no_map _ (rw i at e)) in rw (append_assoc lines (l ∷ []) ls) at r
       step false i e more = let bad : Some 0 ≡ None = rw i at e in absurd (none_wrong bad)
 
   all : (lines : List Line) → first_wrong w p lines ≡ None → Each (States w p) lines × Closed lines
-  all lines e = go [] lines tt (λ f h. absurd (true≢false (sym h))) (no_map w p known ok _ e)
+  all lines e = go [] lines tt (λ f h. absurd (true≢false (sym h))) (no_map _ e)
 
   pub right_is : (lines : List Line) → first_wrong w p lines ≡ None → (l : Line) (f : Fact) → fact_of w l ≡ Some f
       → is_right w p lines l ≡ (is_fitting w p f && stands lines f && states_world w p l f)

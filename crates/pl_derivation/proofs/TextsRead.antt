@@ -175,10 +175,7 @@ numbers_back (x ∷ xs) h = rw (number_back x h.0, numbers_back xs h.1) refl
 
 column_back : (c : Column) → column_in (column_name c) ≡ Some c
 column_back OpenPrice = refl
-column_back High = refl
-column_back Low = refl
-column_back Close = refl
-column_back Volume = refl
+column_back c = refl
 
 date_back : (day : ℤ) → IsDay day → date_in (date_text day) ≡ Some day
 date_back day h = date_in-IsDate (date_text day) day (IsDate-date_text day h)

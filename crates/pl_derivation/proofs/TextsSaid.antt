@@ -57,27 +57,14 @@ same_text : (s t : List ℕ) → bytes_eq s t ≡ true → s ≡ t
 same_text s t h = (bytes_eq-Decides s t).0 h
 
 column_said : (text : List ℕ) (c : Column) → column_in text ≡ Some c → text ≡ column_name c
-column_said text c h = first (bytes_eq text (codes "open")) refl h
+column_said text c h = one OpenPrice _ (one High _ (one Low _ (one Close _ (one Volume None (λ e. absurd (let bad : None ≡ Some c = e in cc)))))) h
   where
-    fifth : (b : Bool) → bytes_eq text (codes "volume") ≡ b → (if b then Some Volume else None) ≡ Some c → text ≡ column_name c
-    fifth true e h = let same : Some Volume ≡ Some c = h in let is : Volume ≡ c = cc in same_text text (codes "volume") e ∙ ap column_name is
-    fifth false e h = absurd (let bad : None ≡ Some c = h in cc)
-
-    fourth : (b : Bool) → bytes_eq text (codes "close") ≡ b → (if b then Some Close else if bytes_eq text (codes "volume") then Some Volume else None) ≡ Some c → text ≡ column_name c
-    fourth true e h = let same : Some Close ≡ Some c = h in let is : Close ≡ c = cc in same_text text (codes "close") e ∙ ap column_name is
-    fourth false e h = fifth (bytes_eq text (codes "volume")) refl h
-
-    third : (b : Bool) → bytes_eq text (codes "low") ≡ b → (if b then Some Low else if bytes_eq text (codes "close") then Some Close else if bytes_eq text (codes "volume") then Some Volume else None) ≡ Some c → text ≡ column_name c
-    third true e h = let same : Some Low ≡ Some c = h in let is : Low ≡ c = cc in same_text text (codes "low") e ∙ ap column_name is
-    third false e h = fourth (bytes_eq text (codes "close")) refl h
-
-    second : (b : Bool) → bytes_eq text (codes "high") ≡ b → (if b then Some High else if bytes_eq text (codes "low") then Some Low else if bytes_eq text (codes "close") then Some Close else if bytes_eq text (codes "volume") then Some Volume else None) ≡ Some c → text ≡ column_name c
-    second true e h = let same : Some High ≡ Some c = h in let is : High ≡ c = cc in same_text text (codes "high") e ∙ ap column_name is
-    second false e h = third (bytes_eq text (codes "low")) refl h
-
-    first : (b : Bool) → bytes_eq text (codes "open") ≡ b → (if b then Some OpenPrice else if bytes_eq text (codes "high") then Some High else if bytes_eq text (codes "low") then Some Low else if bytes_eq text (codes "close") then Some Close else if bytes_eq text (codes "volume") then Some Volume else None) ≡ Some c → text ≡ column_name c
-    first true e h = let same : Some OpenPrice ≡ Some c = h in let is : OpenPrice ≡ c = cc in same_text text (codes "open") e ∙ ap column_name is
-    first false e h = second (bytes_eq text (codes "high")) refl h
+    one : (k : Column) (rest : Option Column) → (rest ≡ Some c → text ≡ column_name c) → (if bytes_eq text (column_name k) then Some k else rest) ≡ Some c → text ≡ column_name c
+    one k rest other h = here (bytes_eq text (column_name k)) refl h
+      where
+        here : (b : Bool) → bytes_eq text (column_name k) ≡ b → (if b then Some k else rest) ≡ Some c → text ≡ column_name c
+        here true e h = let same : Some k ≡ Some c = h in let is : k ≡ c = cc in same_text text (column_name k) e ∙ ap column_name is
+        here false e h = other h
 
 date_said : (text : List ℕ) (day : ℤ) → date_in text ≡ Some day → (text ≡ date_text day) × IsDay day
 date_said text day h = let date = IsDate-date_in text day h in (date_text-IsDate text day date, IsDay-IsDate text day date)
@@ -119,11 +106,6 @@ numbers_said (f ∷ fs) xs h =
 -- ---- lines
 
 seen_said : (fs : List (List ℕ)) (l : Line) → seen_line fs ≡ Some l → IsWritable l × (codes "seen" ∷ fs ≡ fields_of l)
-seen_said [] l h = absurd (let bad : None ≡ Some l = h in cc)
-seen_said (c ∷ []) l h = absurd (let bad : None ≡ Some l = h in cc)
-seen_said (c ∷ a ∷ []) l h = absurd (let bad : None ≡ Some l = h in cc)
-seen_said (c ∷ a ∷ bar ∷ []) l h = absurd (let bad : None ≡ Some l = h in cc)
-seen_said (c ∷ a ∷ bar ∷ day ∷ []) l h = absurd (let bad : None ≡ Some l = h in cc)
 seen_said (c ∷ a ∷ bar ∷ day ∷ x ∷ xs) l h =
     let column = then_some _ (column_in c) l h in
     let sid = then_some _ (sid_in a) l column.2 in
@@ -150,6 +132,7 @@ seen_said (c ∷ a ∷ bar ∷ day ∷ x ∷ xs) l h =
           ∙ ap (λ f. codes "seen" ∷ column_name column.0 ∷ decimal sid.0 ∷ date_text first.0 ∷ f ∷ x ∷ xs) spelled_too
           ∙ ap (λ f. codes "seen" ∷ column_name column.0 ∷ decimal sid.0 ∷ date_text first.0 ∷ date_text last.0 ∷ f) rest,
     )
+seen_said fs l h = absurd (let bad : None ≡ Some l = h in cc)
 
 known_said : (fs : List (List ℕ)) (known : Option ℤ) → known_in fs ≡ Some known → (fs ≡ map date_text (option_to_list known)) × IfSome known IsDay
 known_said [] known h = let same : Some None ≡ Some known = h in let is : None ≡ known = cc in rw (sym is) (refl, tt)
@@ -162,10 +145,6 @@ known_said (day ∷ []) known h =
 known_said (day ∷ f ∷ fs) known h = absurd (let bad : None ≡ Some known = h in cc)
 
 value_said : (fs : List (List ℕ)) (l : Line) → value_line fs ≡ Some l → IsWritable l × (codes "value" ∷ fs ≡ fields_of l)
-value_said [] l h = absurd (let bad : None ≡ Some l = h in cc)
-value_said (t ∷ []) l h = absurd (let bad : None ≡ Some l = h in cc)
-value_said (t ∷ a ∷ []) l h = absurd (let bad : None ≡ Some l = h in cc)
-value_said (t ∷ a ∷ day ∷ []) l h = absurd (let bad : None ≡ Some l = h in cc)
 value_said (t ∷ a ∷ day ∷ v ∷ more) l h =
     let term = then_some _ (sid_in t) l h in
     let sid = then_some _ (sid_in a) l term.2 in
@@ -191,6 +170,7 @@ value_said (t ∷ a ∷ day ∷ v ∷ more) l h =
           ∙ ap (λ x. codes "value" ∷ decimal term.0 ∷ decimal sid.0 ∷ date_text on.0 ∷ x ∷ more) i
           ∙ ap (λ x. codes "value" ∷ decimal term.0 ∷ decimal sid.0 ∷ date_text on.0 ∷ number_text value.0 ∷ x) j,
     )
+value_said fs l h = absurd (let bad : None ≡ Some l = h in cc)
 
 fields_said : (fs : List (List ℕ)) (l : Line) → line_in_fields fs ≡ Some l → IsWritable l × (fs ≡ fields_of l)
 fields_said [] l h = absurd (let bad : None ≡ Some l = h in cc)

@@ -1,5 +1,5 @@
 -- Where no line is wrong, each states the number that the world has.
-use Rattle.std.proofs.Common.{◌≡◌, ℕ, suc, Bool, true, false, ◌&&◌, ℤ, pos, List, [], ◌∷◌, ◌++◌, fold, get_or, Option, Some, None, option_map, refl, sym, ◌∙◌, ap, slice_get, ◌==◌, inl, inr}
+use Rattle.std.proofs.Common.{◌≡◌, ℕ, suc, ◌+◌, Bool, true, false, ◌&&◌, ℤ, pos, List, [], ◌∷◌, ◌++◌, length, append_assoc, append-nil, arith, fold, get_or, Option, Some, None, option_map, refl, sym, ◌∙◌, ap, slice_get, ◌==◌, inl, inr}
 use Rattle.std.specs.List.{list_any, list_all}
 use Rattle.std.specs.Option.{option_and_then, option_eq, option_to_list}
 use Rattle.std.specs.Ordering.{int_eq}
@@ -125,6 +125,33 @@ seen_ends w a c s d = each_ends (bar_cell w a c s) (effects w a c s d)
 pub none_wrong : ◌≡◌ {A = Option ℕ} (Some 0) None → ⊥
 none_wrong h = cc
 
+pub no_map : (o : Option ℕ) → option_map suc o ≡ None → o ≡ None
+no_map None h = refl
+no_map (Some n) h = absurd (let bad : Some (suc n) ≡ None = h in cc)
+
+-- the place of the first that is not right, behind lines of which none is wrong
+pub behind_right : (w : World) (p : Pipeline) (before ls more : List Line) (o : Option ℕ) → wrong_behind w p before ls ≡ None → wrong_behind w p (before ++ ls) more ≡ o
+    → wrong_behind w p before (ls ++ more) ≡ option_map (λ n. length ls + n) o
+behind_right w p before [] more o h e = ap (λ ms. wrong_behind w p ms more) (sym (append-nil before)) ∙ e ∙ same o
+  where
+    same : (o : Option ℕ) → o ≡ option_map (λ n. 0 + n) o
+    same None = refl
+    same (Some n) = ap Some (let no_more : n ≡ 0 + n = omega arith in no_more)
+behind_right w p before (m ∷ ls) more o h e =
+    step (is_right w p before m) refl h (λ i. behind_right w p (before ++ m ∷ []) ls more o i (ap (λ ms. wrong_behind w p ms more) (append_assoc before (m ∷ []) ls) ∙ e))
+  where
+    later : (o : Option ℕ) → option_map suc (option_map (λ n. length ls + n) o) ≡ option_map (λ n. suc (length ls) + n) o
+    later None = refl
+    later (Some n) = ap Some (let one : suc (length ls + n) ≡ suc (length ls) + n = omega arith in one)
+
+    step : (b : Bool) → is_right w p before m ≡ b → wrong_behind w p before (m ∷ ls) ≡ None
+        → (wrong_behind w p (before ++ m ∷ []) ls ≡ None → wrong_behind w p (before ++ m ∷ []) (ls ++ more) ≡ option_map (λ n. length ls + n) o)
+        → wrong_behind w p before (m ∷ (ls ++ more)) ≡ option_map (λ n. suc (length ls) + n) o
+    step true i h rest =
+        let found : wrong_behind w p (before ++ m ∷ []) (ls ++ more) ≡ option_map (λ n. length ls + n) o = rest (no_map _ (rw i at h)) in
+        rw (i, found) (later o)
+    step false i h rest = let bad : Some 0 ≡ None = rw i at h in absurd (none_wrong bad)
+
 module _ (w : World) (p : Pipeline) where
   -- a line whose fact's number is the world's
   abbrev pub States : Line → Type 0
@@ -190,10 +217,6 @@ module _ (w : World) (p : Pipeline) where
         found : (o : Option Fact) → fact_of w l ≡ o → IsTrueLine w p l
         found None i = let no : false ≡ true = rw i at e in absurd (true≢false (sym no))
         found (Some f) i = true_line l f i (rw i at e) (right_states lines h l e f i)
-
-    pub no_map : (o : Option ℕ) → option_map suc o ≡ None → o ≡ None
-    no_map None h = refl
-    no_map (Some n) h = absurd (let bad : Some (suc n) ≡ None = h in cc)
 
     pub all_true : (lines ls : List Line) → Each States lines → wrong_behind w p lines ls ≡ None → Each (IsTrueLine w p) ls
     all_true lines [] h e = tt

@@ -1,5 +1,5 @@
 -- The lines of a walk are right.
-use Rattle.std.proofs.Common.{◌≡◌, ℕ, zero, suc, ◌<◌, ◌≤◌, Bool, true, false, ◌||◌, ℤ, pos, ◌<ℤ◌, List, [], ◌∷◌, ◌++◌, length, map, fold, get_or, Option, Some, None, option_map, refl, sym, ◌∙◌, ap, arith, AllPairs, inl, inr, ◌⊎◌, append_assoc, append-nil}
+use Rattle.std.proofs.Common.{◌≡◌, ℕ, zero, suc, ◌<◌, ◌≤◌, Bool, true, false, ◌||◌, ℤ, pos, ◌<ℤ◌, List, [], ◌∷◌, ◌++◌, length, map, fold, get_or, Some, None, option_map, refl, sym, ◌∙◌, ap, arith, AllPairs, inl, inr, ◌⊎◌}
 use Rattle.std.specs.List.{list_all}
 use Rattle.std.specs.Option.{option_eq}
 use Rattle.std.specs.Ordering.{int_eq}
@@ -24,7 +24,7 @@ use Rattle.pl_derivation.specs.Laws.{IsAsked, IsDerivation}
 use Rattle.pl_spec.proofs.Each.{Each, each_both, each_more, each_in_map, list_all_each}
 use Rattle.pl_derivation.proofs.Steps.{fact_same}
 use Rattle.pl_derivation.proofs.Codes.{step_true}
-use Rattle.pl_derivation.proofs.Truths.{same_is, is_same, same_day, is_fact, last_seen, States, stated_true, none_wrong}
+use Rattle.pl_derivation.proofs.Truths.{same_is, is_same, same_day, is_fact, last_seen, States, stated_true, behind_right}
 use Rattle.pl_derivation.proofs.Fits.{HasSessions, IsSession, Fits, Ready, premises_ready}
 
 not_equal : (x y : ℤ) → x <ℤ y → int_eq x y ≡ false
@@ -103,20 +103,6 @@ module _ (w : World) (p : Pipeline) (ok : IsWorld w) (known : HasTexts w) (graph
       = states_step_of (reading_of w (lines_of done)) f (sym both.1 ∙ step_true w p known graph f) in
       rw (line_is f fit, fitting f fit, stated_too, step) refl
 
-  one_more : (lines ls : List Line) (l : Line) → wrong_behind w p lines ls ≡ None → is_right w p (lines ++ ls) l ≡ true → wrong_behind w p lines (ls ++ l ∷ []) ≡ None
-  one_more lines [] l h e = let here : is_right w p lines l ≡ true = rw (append-nil lines) at e in rw here refl
-  one_more lines (m ∷ ls) l h e = step (is_right w p lines m) refl h (λ i. one_more (lines ++ m ∷ []) ls l i (rw (sym (append_assoc lines (m ∷ []) ls)) at e))
-    where
-      no_map : (o : Option ℕ) → option_map suc o ≡ None → o ≡ None
-      no_map None h = refl
-      no_map (Some n) h = absurd (let bad : Some (suc n) ≡ None = h in cc)
-
-      step : (b : Bool) → is_right w p lines m ≡ b → wrong_behind w p lines (m ∷ ls) ≡ None
-          → (wrong_behind w p (lines ++ m ∷ []) ls ≡ None → wrong_behind w p (lines ++ m ∷ []) (ls ++ l ∷ []) ≡ None)
-          → wrong_behind w p lines (m ∷ (ls ++ l ∷ [])) ≡ None
-      step true i h more = let rest : wrong_behind w p (lines ++ m ∷ []) (ls ++ l ∷ []) ≡ None = more (no_map _ (rw i at h)) in rw (i, rest) refl
-      step false i h more = let bad : Some 0 ≡ None = rw i at h in absurd (none_wrong bad)
-
   -- ---- the walk
 
   -- facts that fit, and whose lines are right
@@ -145,7 +131,7 @@ module _ (w : World) (p : Pipeline) (ok : IsWorld w) (known : HasTexts w) (graph
   goes_more : (done : List Fact) → Goes done → (f : Fact) → Fit f → Each (λ g. is_in done g ≡ true) (premises w p (number_in w p) f) → is_in done f ≡ false → Goes (done ++ f ∷ [])
   goes_more done h f fit behind fresh = (
     each_both Fit done (f ∷ []) h.0 (fit, tt),
-    rw (map-append (line_for w p) done (f ∷ [])) (one_more [] (lines_of done) (line_for w p f) h.1 (line_right done h.0 f fit behind)),
+    rw (map-append (line_for w p) done (f ∷ [])) (behind_right w p [] (lines_of done) (line_for w p f ∷ []) None h.1 (rw (line_right done h.0 f fit behind) refl)),
     once_more done f h.2 fresh,
   )
 

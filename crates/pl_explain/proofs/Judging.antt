@@ -3,7 +3,8 @@ use Rattle.std.proofs.Common.{◌≡◌, Bool, true, false, ◌&&◌, ◌||◌, 
 use Rattle.std.specs.List.{list_any, list_all}
 use Rattle.std.specs.Option.{option_to_list}
 use Rattle.std.proofs.Math.Path.{fun_ext}
-use Rattle.std.proofs.lemmas.Bool.{true≢false, or_cases, or_left}
+use Rattle.std.proofs.Math.Bool.{or-true, or-false}
+use Rattle.std.proofs.lemmas.Bool.{true≢false, and_parts, or_cases, or_left}
 use Rattle.std.proofs.lemmas.List.Folds.{list_any-append}
 use Rattle.pl_spec.specs.Rounding.{IsCell}
 use Rattle.pl_spec.specs.World.{World as SpecWorld}
@@ -57,10 +58,6 @@ module _ (w : SpecWorld) (p : Pipeline) (known : HasTexts w) (ok : IsGraph p.gra
 pub stated-behind : (w : SpecWorld) (old new : FactNumbers) (lines : List Line) (l : Line) → ((f : Fact) → has old f ≡ is_stated w lines f) → StatesLine w old new l → (f : Fact) → has new f ≡ is_stated w (lines ++ l ∷ []) f
 stated-behind w old new lines l same more f =
     more f ∙ ap (λ b. b || is_about w f l) (same f) ∙ ap (λ b. is_stated w lines f || b) (sym (or-false (is_about w f l))) ∙ sym (list_any-append (is_about w f) lines (l ∷ []))
-  where
-    or-false : (b : Bool) → (b || false) ≡ b
-    or-false true = refl
-    or-false false = refl
 
 -- ---- telling
 
@@ -78,35 +75,19 @@ module _ (f : Fact) (x : ℤ) (old new : FactNumbers) (states : IsInsertionOf f 
   has-more g = ap is_some (states g) ∙ ap (λ b. is_some (if b then Some x else look old g)) (same-turned f g) ∙ here (same_fact g f)
     where
       here : (b : Bool) → is_some (if b then Some x else look old g) ≡ (is_some (look old g) || b)
-      here true = right (is_some (look old g))
-        where
-          right : (c : Bool) → true ≡ (c || true)
-          right true = refl
-          right false = refl
-      here false = same (is_some (look old g))
-        where
-          same : (c : Bool) → c ≡ (c || false)
-          same true = refl
-          same false = refl
+      here true = sym (or-true (is_some (look old g)))
+      here false = sym (or-false (is_some (look old g)))
 
   pub kept-stated : (g : Fact) → has old g ≡ true → has new g ≡ true
   kept-stated g e = has-more g ∙ or_left (has old g) (same_fact g f) e
 
   kept-all : (gs : List Fact) → has_all old gs ≡ true → has_all new gs ≡ true
   kept-all [] e = refl
-  kept-all (g ∷ gs) e = let both = parts (has old g) (has_all old gs) e in rw (kept-stated g both.0) (kept-all gs both.1)
-    where
-      parts : (b c : Bool) → (b && c) ≡ true → (b ≡ true) × (c ≡ true)
-      parts true c h = (refl, h)
-      parts false c h = absurd (true≢false (sym h))
+  kept-all (g ∷ gs) e = let both = and_parts (has old g) (has_all old gs) e in rw (kept-stated g both.0) (kept-all gs both.1)
 
   -- the line of the fact is stated
   pub states-line : (w : SpecWorld) (l : Line) → fact_of w l ≡ Some f → StatesLine w old new l
   states-line w l e g = has-more g ∙ ap (λ b. has old g || b) (sym (ap (λ o. list_any (same_fact g) (option_to_list o)) e ∙ or-false (same_fact g f)))
-    where
-      or-false : (b : Bool) → (b || false) ≡ b
-      or-false true = refl
-      or-false false = refl
 
   pub table-more : (w : World) (c : Parts) (rows : Rows) → IsTable w c old rows → x ≡ number_in (world_of w) (pipeline_of c) f → IsCell x → is_fitting (world_of w) (pipeline_of c) f ≡ true → IsTable w c new rows
   table-more w c rows t is cell fits = record {

@@ -26,14 +26,7 @@ gone-unknown w p t a d gone = rw gone refl
 
 other-kind : (w : SpecWorld) (p : Pipeline) (k : Kind) (a : ℕ) (d : ℤ) → is_number_kind k ≡ false → None ≡ kind_known w p k a d
 other-kind w p (kinds.Number name) a d h = absurd (true≢false h)
-other-kind w p (kinds.Constant cell) a d h = refl
-other-kind w p (kinds.Label name) a d h = refl
-other-kind w p (kinds.StaticSids sids) a d h = refl
-other-kind w p (kinds.Window k) a d h = refl
-other-kind w p (kinds.Point k) a d h = refl
-other-kind w p (kinds.LabelTest k) a d h = refl
-other-kind w p (kinds.Cross k) a d h = refl
-other-kind w p (kinds.Downsample f) a d h = refl
+other-kind w p k a d h = refl
 
 module _ (w : World) (c : Parts) (t : ℕ) (n : Node) (is : slice_get c.graph t ≡ Some n) (a s : ℕ) where
   place : slice_get (pipeline_of c).graph t ≡ Some (node_of n)

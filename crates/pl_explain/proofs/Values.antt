@@ -51,14 +51,8 @@ true-and false b c e h = absurd (let bad : false ≡ true = e in cc)
 -- the kinds of cross-sections have one place
 one-place : (k : kinds.CrossKind) → (slice_get (places (kinds.Cross k)) 1 ≡ None) × (slice_get (places (kinds.Cross k)) 2 ≡ None)
 unfolding places
-one-place (kinds.Rank m o) = (refl, refl)
-one-place kinds.Demean = (refl, refl)
-one-place kinds.ZScore = (refl, refl)
-one-place (kinds.Quantiles n) = (refl, refl)
-one-place (kinds.Top n) = (refl, refl)
-one-place (kinds.Bottom n) = (refl, refl)
-one-place (kinds.PercentileBetween l h) = (refl, refl)
 one-place kinds.PeerCount = (refl, refl)
+one-place k = (refl, refl)
 
 -- ---- over the inputs of a node
 

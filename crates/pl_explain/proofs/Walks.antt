@@ -1,7 +1,8 @@
 -- Walks, one after the other.
-use Rattle.std.proofs.Common.{◌≡◌, ℕ, zero, suc, ◌+◌, ◌<◌, ◌≤◌, Bool, true, false, ◌&&◌, ◌||◌, if◌then◌else◌, ℤ, List, [], ◌∷◌, ◌++◌, length, length-append, map, fold, refl, sym, ◌∙◌, ap, subst, arith}
+use Rattle.std.proofs.Common.{◌≡◌, ℕ, zero, suc, ◌+◌, ◌<◌, ◌≤◌, Bool, true, false, ◌||◌, if◌then◌else◌, ℤ, List, [], ◌∷◌, ◌++◌, length, length-append, map, fold, refl, sym, ◌∙◌, ap, subst, arith}
 use Rattle.std.specs.List.{list_all}
-use Rattle.std.proofs.lemmas.Bool.{and_parts, or_left, or_right}
+use Rattle.std.proofs.Math.Bool.{or-false}
+use Rattle.std.proofs.lemmas.Bool.{and_from, and_parts, or_left, or_right}
 use Rattle.std.proofs.lemmas.List.{map-append, length-map}
 use Rattle.std.proofs.lemmas.List.Folds.{list_any-append}
 use Rattle.std.proofs.lemmas.List.Sums.{fold-append}
@@ -69,10 +70,7 @@ module _ (w : World) (c : Parts) where
   all-in depth (f ∷ fs) done =
       let first : is_in (walked_by (suc depth) (finish (world_of w) (pipeline_of c) (suc depth) done f) fs) f ≡ true =
       stays-all (suc depth) fs (finish (world_of w) (pipeline_of c) (suc depth) done f) f (finished-in depth done f) in
-      and-both first (all-in depth fs (finish (world_of w) (pipeline_of c) (suc depth) done f))
-    where
-      and-both : {a b : Bool} → a ≡ true → b ≡ true → (a && b) ≡ true
-      and-both {a} {b} e h = rw (e, h) refl
+      and_from _ _ first (all-in depth fs (finish (world_of w) (pipeline_of c) (suc depth) done f))
 
   -- facts that are finished are not finished again
   one-again : (depth : ℕ) (done : List Fact) (f : Fact) → is_in done f ≡ true → finish (world_of w) (pipeline_of c) depth done f ≡ done
@@ -135,10 +133,6 @@ module _ (w : World) (c : Parts) where
           lines = ap (map line_of) put ∙ map-append line_of mid.lines.items (line ∷ []) ∙ ap (λ ls. ls ++ line_of line ∷ []) h.lines
               ∙ ap (λ l. map (line_for (world_of w) (pipeline_of c)) facts ++ l ∷ []) is ∙ sym (map-append (line_for (world_of w) (pipeline_of c)) facts (f ∷ []));
         }
-          where
-            or-false : (b : Bool) → (b || false) ≡ b
-            or-false true = refl
-            or-false false = refl
 
         pub walk-more : Finishes w c most old mid (own f) → Finishes w c (suc most) old new (f ∷ [])
         walk-more first facts h zero l = absurd (omega (arith, l))

@@ -1,7 +1,7 @@
 -- The reading of a file.
 use Rattle.std.proofs.Common.{◌≡◌, ◌⊎◌, inl, inr, ℕ, ◌+◌, ◌≤◌, ◌<◌, Bool, true, false, IsTrue, nat_lt, List, [], ◌∷◌, length, Option, Some, None, IfSome, IsSomeAnd, Result, Ok, Err, Vec, refl, sym, ap, ◌∙◌, arith, replicate}
 use Rattle.std.specs.declared.alloc.Global.{Global}
-use Rattle.std.specs.Prelude.{option_and_then}
+use Rattle.std.specs.Prelude.{option_and_then, option_to_list}
 use Rattle.std.specs.Option.{ForSome, option_or}
 use Rattle.std.proofs.lemmas.Bool.Decides.{nat_tests}
 use Rattle.std.proofs.lemmas.List.{length-replicate}
@@ -29,20 +29,18 @@ held_under tells name = option_and_then (λ files. option_and_then files name) t
 pub held-told : (tells : Option Files) (name : Option (List ℕ)) → ForSome name (λ n. ForSome tells (λ files. held_under tells name ≡ files n))
 held-told tells name = λ n is files f. rw (is, f) refl
 
+-- a stage that fails over a file
+fails-over : {T : Type 0} {c : Change ShelfView} {name : Option (List ℕ)} {steps : Option (List ℕ) → List WorkStep} {Means : Option (List ℕ) → T → Type 0} {fault : Fault} (file : Option (List ℕ))
+    → ForSome name (λ n. ForSome c.before.holds (λ files. file ≡ files n)) → IsStop c.before.sound true (steps file) fault
+    → BeginsAll c.before.begun c.after.begun (option_to_list name) → IsRisen (Rose c.before.faults c.after.faults) ⊥ fault → ShelfLeft c → IsRead c name steps Means (Err fault)
+fails-over file told stops begun risen kept =
+    record { file = file; is_told = told; ends = record { passed = tt; stopped = stops }; means = tt; begun = begun; risen = risen; left = kept }
+
 module _ {c : Change ShelfView} where
   -- memory may be wanted at any place
   pub wanting : {T : Type 0} (name : List ℕ) (steps : Option (List ℕ) → List WorkStep) (Means : Option (List ℕ) → T → Type 0)
       → BeginsAll c.before.begun c.after.begun (name ∷ []) → ShelfLeft c → IsRead c (Some name) steps Means (Err Memory)
-  wanting name steps Means begun kept =
-      record {
-        file = held_under c.before.holds (Some name);
-        is_told = held-told c.before.holds (Some name);
-        ends = record { passed = tt; stopped = inr tt };
-        means = tt;
-        begun = begun;
-        risen = tt;
-        left = kept;
-      }
+  wanting name steps Means begun kept = fails-over {steps = steps} (held_under c.before.holds (Some name)) (held-told c.before.holds (Some name)) (inr tt) begun tt kept
 
 -- the file isn't there, or a shelf that isn't sound failed
 held-none : (tells : Option Files) (name : List ℕ) → ForSome tells (λ files. files name ≡ None) → held_under tells (Some name) ≡ None
@@ -58,15 +56,8 @@ pub is-unread : {T : Type 0} {c : Change ShelfView} (f : InputFile) (name : List
     → BeginsAll c.before.begun c.after.begun (name ∷ []) → Rose c.before.faults c.after.faults → ShelfLeft c
     → IsRead c (Some name) (λ held. read_step f no_rule held ∷ []) Means (Err (Unread f))
 is-unread {c = c} f name Means h begun risen kept =
-    record {
-      file = held_under c.before.holds (Some name);
-      is_told = held-told c.before.holds (Some name);
-      ends = record { passed = tt; stopped = stop-unread f (held_under c.before.holds (Some name)) c.before.sound (λ s. held-none c.before.holds name (h s)) };
-      means = tt;
-      begun = begun;
-      risen = risen;
-      left = kept;
-    }
+    fails-over {steps = λ held. read_step f no_rule held ∷ []} (held_under c.before.holds (Some name)) (held-told c.before.holds (Some name))
+    (stop-unread f (held_under c.before.holds (Some name)) c.before.sound (λ s. held-none c.before.holds name (h s))) begun risen kept
 
 -- ---- a file that is too long
 
@@ -100,15 +91,8 @@ pub is-too-long : {T : Type 0} {c : Change ShelfView} (f : InputFile) (name : Li
 is-too-long {c = c} f name Means h begun kept =
     let tells = c.before.holds in
     let long = long-is-one tells name (cap_of f) (omega (arith, length-replicate {A = ℕ} (cap_of f + 1) 0)) h in
-    record {
-      file = long_under tells name (cap_of f);
-      is_told = long-told tells name (cap_of f);
-      ends = record { passed = tt; stopped = inl (alone _ _ (too-long f (long_under tells name (cap_of f)) long)) };
-      means = tt;
-      begun = begun;
-      risen = inside-limit (Rose c.before.faults c.after.faults) ⊥ (limit_of f);
-      left = kept;
-    }
+    fails-over {steps = λ held. read_step f no_rule held ∷ []} (long_under tells name (cap_of f)) (long-told tells name (cap_of f))
+    (inl (alone _ _ (too-long f (long_under tells name (cap_of f)) long))) begun (inside-limit (Rose c.before.faults c.after.faults) ⊥ (limit_of f)) kept
 
 -- ---- what was read, and its rule
 
@@ -155,18 +139,8 @@ pub read-stops : {T : Type 0} {c : Change ShelfView} {name : Option (List ℕ)} 
     → (rule bytes.items ≡ Some fault) ⊎ (fault ≡ Memory) → IsRisen ⊥ ⊥ fault
     → IsRead c name (λ held. read_step f rule held ∷ []) Means (Err fault)
 read-stops {bytes = bytes} f rule Means fault h few stops inside =
-    record {
-      file = h.file;
-      is_told = h.is_told;
-      ends = record {
-        passed = tt;
-        stopped = elim stops [ inl q ↦ inl (alone _ _ (ruled f rule h.file bytes.items h.means few ∙ q)) | inr q ↦ rw q (inr tt) ];
-      };
-      means = tt;
-      begun = h.begun;
-      risen = risen-inside _ _ fault inside;
-      left = h.left;
-    }
+    fails-over {steps = λ held. read_step f rule held ∷ []} h.file h.is_told
+    (elim stops [ inl q ↦ inl (alone _ _ (ruled f rule h.file bytes.items h.means few ∙ q)) | inr q ↦ rw q (inr tt) ]) h.begun (risen-inside _ _ fault inside) h.left
 
 -- no name is given, and no file is read
 pub not-asked : {T : Type 0} {a : ShelfView} {steps : Option (List ℕ) → List WorkStep} {Means : Option (List ℕ) → T → Type 0} {x : T} → steps None ≡ [] → Means None x
@@ -207,18 +181,8 @@ pub read-fails : {T : Type 0} {c : Change ShelfView} {name : Option (List ℕ)} 
     → IsRead c name (λ held. read_step f no_rule held ∷ []) (λ held (b : Vec ℕ Global). held ≡ Some b.items) (Err fault)
     → IsRead c name (λ held. read_step f rule held ∷ []) Means (Err fault)
 read-fails {c = c} f rule Means fault h =
-    record {
-      file = h.file;
-      is_told = h.is_told;
-      ends = record {
-        passed = tt;
-        stopped = elim h.ends.stopped [ inl p ↦ inl (other-file f rule h.file fault p) | inr q ↦ inr (outside f rule c.before.sound h.file fault q) ];
-      };
-      means = tt;
-      begun = h.begun;
-      risen = h.risen;
-      left = h.left;
-    }
+    fails-over {steps = λ held. read_step f rule held ∷ []} h.file h.is_told
+    (elim h.ends.stopped [ inl p ↦ inl (other-file f rule h.file fault p) | inr q ↦ inr (outside f rule c.before.sound h.file fault q) ]) h.begun h.risen h.left
 
 -- the fault that an error of a reader tells
 pub reader-tells : {A R : Type 0} (says : ℕ → R → Fault) (read : Result A (reading.Fault R)) (o : Option (reading.Fault R)) (fault : Fault)

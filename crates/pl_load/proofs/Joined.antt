@@ -70,14 +70,7 @@ is_file f g = false
 
 itself : (f : InputFile) → is_file f f ≡ true
 itself Pipeline = refl
-itself Sessions = refl
-itself Assets = refl
-itself Labels = refl
-itself Numbers = refl
-itself Bars = refl
-itself Revisions = refl
-itself Payouts = refl
-itself Derivation = refl
+itself f = refl
 
 by-file : (P : InputFile → Option (List ℕ) → Type 0) (f : InputFile) (x : Option (List ℕ)) (y : InputFile → Option (List ℕ)) → P f x → ((g : InputFile) → P g (y g))
     → (g : InputFile) → P g (cond (is_file f g) x (y g))

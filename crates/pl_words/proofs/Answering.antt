@@ -10,7 +10,7 @@ use Rattle.clap.specs.declared.parser.matches.ArgMatches.{ArgMatches}
 use Rattle.clap.proofs.OnLiterals.{clap_on_literals}
 use Rattle.pl_words.specs.declared.commands.OptionName.{OptionName}
 use Rattle.pl_words.specs.declared.commands.CommandName.{CommandName}
-use Rattle.pl_words.specs.declared.commands.CommandName.TheVariants.{Run, Check, Fmt, Plan, Bench, Payouts, Explain, Verify, Daily}
+use Rattle.pl_words.specs.declared.commands.CommandName.TheVariants.{Run}
 use Rattle.pl_words.specs.Commands.{options_of}
 use Rattle.pl_words.specs.Parts.{Word, Part, parts, has_short}
 use Rattle.pl_words.specs.Apps.{app_for, app_with, names_rule, option_rule, IsAnswered}
@@ -45,26 +45,12 @@ app_end xs i a h is = is ∙ ap (λ ys. app_with (names_rule ∷ map option_rule
 pub free : (c : CommandName) → is_simple_and_free (app_for (options_of c)) ≡ true
 unfolding clap_on_literals app_for
 free Run = refl
-free Check = refl
-free Fmt = refl
-free Plan = refl
-free Bench = refl
-free Payouts = refl
-free Explain = refl
-free Verify = refl
-free Daily = refl
+free c = refl
 
 pub simple : (c : CommandName) → is_simple (app_for (options_of c)) ≡ true
 unfolding clap_on_literals app_for
 simple Run = refl
-simple Check = refl
-simple Fmt = refl
-simple Plan = refl
-simple Bench = refl
-simple Payouts = refl
-simple Explain = refl
-simple Verify = refl
-simple Daily = refl
+simple c = refl
 
 pub matches_as : {E : Type 0} (a b : App) (words : List Word) (r : Result ArgMatches E) → a ≡ b → is_simple b ≡ true → IfOk r (HasMatchesOf a words) → IfOk r (λ m. rows_of (found_of m) ≡ matches_of b words)
 matches_as a b words (Ok m) e s h = subst (λ (x : App). rows_of (found_of m) ≡ matches_of x words) e (h (ap is_simple e ∙ s)).0

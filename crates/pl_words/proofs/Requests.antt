@@ -7,7 +7,7 @@ use Rattle.clap.specs.Words.{Row, found_of, rows_of}
 use Rattle.clap.specs.declared.parser.matches.ArgMatches.{ArgMatches}
 use Rattle.pl_words.specs.declared.commands.OptionName.{OptionName}
 use Rattle.pl_words.specs.declared.commands.CommandName.{CommandName}
-use Rattle.pl_words.specs.declared.commands.CommandName.TheVariants.{Run, Check, Fmt, Plan, Bench, Payouts, Explain, Verify, Daily}
+use Rattle.pl_words.specs.declared.commands.CommandName.TheVariants.{Run}
 use Rattle.pl_words.specs.Commands.{places_of, options_of}
 use Rattle.pl_words.specs.Parts.{Word, Part, parts, text_of, names_of, values_of, is_text}
 use Rattle.pl_words.specs.Apps.{names_id, values_at, rows_from, IsAnswered}
@@ -20,14 +20,7 @@ none_counted c names values none = ap (λ ns. counted c ns values) none ∙ by c
   where
     by : (c : CommandName) → counted c [] values ≡ None
     by Run = refl
-    by Check = refl
-    by Fmt = refl
-    by Plan = refl
-    by Bench = refl
-    by Payouts = refl
-    by Explain = refl
-    by Verify = refl
-    by Daily = refl
+    by c = refl
 
 pub counted_as : (c : CommandName) (vs : List (Bor Word)) (names : List Word) (values : Values) → map (λ v. v.now) vs ≡ names
     → counted c names values ≡ cond (length vs == places_of c) (request_in c (map (λ v. v.now) vs) values) None

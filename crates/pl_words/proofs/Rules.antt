@@ -8,7 +8,7 @@ use Rattle.clap.specs.declared.builder.action.ArgAction.TheVariants.{Append}
 use Rattle.clap.specs.declared.builder.range.ValueRange.{ValueRange}
 use Rattle.clap.specs.declared.builder.value_parser.ValueParser.TheVariants as vp
 use Rattle.pl_words.specs.declared.commands.OptionName.{OptionName}
-use Rattle.pl_words.specs.declared.commands.OptionName.TheVariants.{Labels, Numbers, Adjustments, Revisions, Chunk, Format, Stats, AsOf}
+use Rattle.pl_words.specs.declared.commands.OptionName.TheVariants.{Labels}
 use Rattle.pl_words.specs.Parts.{text_of, has_value, option_named}
 use Rattle.pl_words.specs.Apps.{names_id, option_rule, rules_for, app_for, bare_app, no_values}
 
@@ -32,13 +32,7 @@ built_rules options = built_names ∷ map built_option options
 
 option_is : (i : ℕ) (option : OptionName) → with_index i (filled (option_rule option)) ≡ built_option option
 option_is i Labels = refl
-option_is i Numbers = refl
-option_is i Adjustments = refl
-option_is i Revisions = refl
-option_is i Chunk = refl
-option_is i Format = refl
-option_is i Stats = refl
-option_is i AsOf = refl
+option_is i o = refl
 
 options_are : (i : ℕ) (options : List OptionName) → filled_from i (map option_rule options) ≡ map built_option options
 options_are i [] = refl
@@ -70,13 +64,7 @@ find_id options o p found = apart o ∙ among options ∙ ap (option_map built_o
   where
     apart : (o : OptionName) → arg_by_id (built_rules options) (text_of o) ≡ arg_by_id (map built_option options) (text_of o)
     apart Labels = refl
-    apart Numbers = refl
-    apart Adjustments = refl
-    apart Revisions = refl
-    apart Chunk = refl
-    apart Format = refl
-    apart Stats = refl
-    apart AsOf = refl
+    apart p = refl
 
     among : (os : List OptionName) → arg_by_id (map built_option os) (text_of o) ≡ option_map built_option (option_named os (text_of o))
     among [] = refl

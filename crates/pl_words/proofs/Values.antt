@@ -7,7 +7,7 @@ use Rattle.clap.specs.Walk.{with_values, Text}
 use Rattle.clap.specs.declared.builder.value_parser.Reading.TheVariants.{AsWritten}
 use Rattle.clap.specs.declared.parser.matches.ValueSource.TheVariants.{CommandLine}
 use Rattle.pl_words.specs.declared.commands.OptionName.{OptionName}
-use Rattle.pl_words.specs.declared.commands.OptionName.TheVariants.{Labels, Numbers, Adjustments, Revisions, Chunk, Format, Stats, AsOf}
+use Rattle.pl_words.specs.declared.commands.OptionName.TheVariants.{Labels}
 use Rattle.pl_words.specs.Parts.{Part, Name, Given, text_of, names_of, values_of}
 use Rattle.pl_words.specs.Apps.{names_id, put, rows_from, values_at}
 
@@ -43,13 +43,7 @@ values_kept id other values (r ∷ rows) apart = go (bytes_eq r.id other) (bytes
 
 apart_names : (o : OptionName) → (bytes_eq names_id (text_of o) ≡ false) × (bytes_eq (text_of o) names_id ≡ false)
 apart_names Labels = (refl, refl)
-apart_names Numbers = (refl, refl)
-apart_names Adjustments = (refl, refl)
-apart_names Revisions = (refl, refl)
-apart_names Chunk = (refl, refl)
-apart_names Format = (refl, refl)
-apart_names Stats = (refl, refl)
-apart_names AsOf = (refl, refl)
+apart_names o = (refl, refl)
 
 names_from : (ps : List Part) (rows : List Row) → values_at names_id (rows_from rows ps) ≡ values_at names_id rows ++ names_of ps
 names_from [] rows = sym (append-nil (values_at names_id rows))
