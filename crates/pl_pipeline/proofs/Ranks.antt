@@ -16,6 +16,7 @@ use Rattle.pl_pipeline.specs.Cross.{Entry, values, precedes, preceding, count_eq
 use Rattle.pl_pipeline.specs.CrossFacts.{AreRanks, negated}
 use Rattle.pl_spec.proofs.Counts.{count-cons, count-fewer, count-agree, count-map}
 use Rattle.pl_spec.proofs.Members.{contains-in}
+use Rattle.pl_spec.proofs.Signed.{int_eq-true, eq-int_eq}
 
 -- an entry is no earlier one than itself
 earlier-fewer : (a : ℕ) (x : ℤ) (list : List Entry) → Contains list (a, x) → earlier_same a x list + 1 ≤ count_equal x (values list)
@@ -50,26 +51,22 @@ ranks-between order list a x = record {
 
 -- ---- the negatives, turned round
 
+-- tests that follow from one another are one
+both_ways : (b c : Bool) → (b ≡ true → c ≡ true) → (c ≡ true → b ≡ true) → b ≡ c
+both_ways true c f g = sym (f refl)
+both_ways false true f g = g refl
+both_ways false false f g = refl
+
 precedes-negated : (v x : ℤ) → precedes Descending v x ≡ precedes Ascending (neg_ℤ v) (neg_ℤ x)
-precedes-negated v x = here (int_lt x v) (int_lt (neg_ℤ v) (neg_ℤ x)) refl refl
-  where
-    here : (b c : Bool) → int_lt x v ≡ b → int_lt (neg_ℤ v) (neg_ℤ x) ≡ c → b ≡ c
-    here true true e f = refl
-    here true false e f = absurd (omega (arith, ints))
-    here false true e f = absurd (omega (arith, ints))
-    here false false e f = refl
+precedes-negated v x = both_ways (int_lt x v) (int_lt (neg_ℤ v) (neg_ℤ x)) (λ t. grind (arith, ints)) (λ t. grind (arith, ints))
 
 same-negated : (x v : ℤ) → int_eq x v ≡ int_eq (neg_ℤ x) (neg_ℤ v)
-same-negated x v = here (int_eq x v) (int_eq (neg_ℤ x) (neg_ℤ v)) refl refl
+same-negated x v =
+    both_ways (int_eq x v) (int_eq (neg_ℤ x) (neg_ℤ v)) (λ t. eq-int_eq (neg_ℤ x) (neg_ℤ v) (ap neg_ℤ (int_eq-true x v t)))
+    (λ t. eq-int_eq x v (one (int_eq-true (neg_ℤ x) (neg_ℤ v) t)))
   where
     one : neg_ℤ x ≡ neg_ℤ v → x ≡ v
     one e = omega (arith, ints)
-
-    here : (b c : Bool) → int_eq x v ≡ b → int_eq (neg_ℤ x) (neg_ℤ v) ≡ c → b ≡ c
-    here true true e f = refl
-    here true false e f = let h : x ≡ v = grind (arith, ints) in let k : neg_ℤ x ≡ neg_ℤ v = ap neg_ℤ h in absurd (grind (arith, ints))
-    here false true e f = let k : neg_ℤ x ≡ neg_ℤ v = grind (arith, ints) in let h : x ≡ v = one k in absurd (grind (arith, ints))
-    here false false e f = refl
 
 values-negated : (list : List Entry) → values (negated list) ≡ map neg_ℤ (values list)
 values-negated list = map-map (λ (e : Entry). e.1) (λ (e : Entry). (e.0, neg_ℤ e.1)) list ∙ sym (map-map neg_ℤ (λ (e : Entry). e.1) list)
