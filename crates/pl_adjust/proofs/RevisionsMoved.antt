@@ -1,6 +1,6 @@
 -- Records of revisions in another order are read as the same revisions in some order, and no cell is changed
 -- otherwise.
-use Rattle.std.proofs.Common.{◌≡◌, ℕ, ◌<◌, ◌≤◌, ◌==◌, ◌&&◌, Bool, true, false, cond, if◌then◌else◌, ℤ, List, [], ◌∷◌, ◌++◌, map, filter, filter_map, length, All, AllPairs, IsPermutation, Option, Some, None, Result, Ok, Err, refl, sym, ◌∙◌, ap, arith, inl, inr}
+use Rattle.std.proofs.Common.{◌≡◌, ℕ, ◌<◌, ◌≤◌, ◌==◌, ◌&&◌, Bool, true, false, cond, if◌then◌else◌, ℤ, List, [], ◌∷◌, ◌++◌, map, filter, filter_map, length, All, AllPairs, IsPermutation, Option, Some, None, Ok, refl, sym, ◌∙◌, ap, arith, inl, inr}
 use Rattle.std.specs.Cmp.{both_ways}
 use Rattle.std.specs.List.Sorted.{ties}
 use Rattle.std.specs.Option.{is_some}
@@ -21,9 +21,9 @@ use Rattle.pl_spec.specs.Window.Effect.{Put}
 use Rattle.pl_spec.specs.World.{Event}
 use Rattle.pl_spec.proofs.Signed.{int_eq-true}
 use Rattle.pl_spec.proofs.Permuted.{filter-permuted, one-permuted}
-use Rattle.pl_records.specs.Reading.{Record, Fault, ◌>>=◌}
+use Rattle.pl_records.specs.Reading.{Record, ◌>>=◌}
 use Rattle.pl_records.proofs.Orders.{Looks, under-permuted}
-use Rattle.pl_records.proofs.Readings.{rows-keep, under_ok}
+use Rattle.pl_records.proofs.Readings.{made-of, rows-keep, under_ok}
 use Rattle.pl_records.proofs.RuleTables.{told_ok, ok_or-Ok}
 use Rattle.pl_records.proofs.Sorts.{none-at}
 use Rattle.std.specs.Option.{ok_or}
@@ -245,24 +245,19 @@ pub picked-alike : (days : List ℤ) (assets : List AssetRow) → AreDays days �
     → (old xs : List ColumnAdjustment) → revised_in days assets old (first ∷ records) ≡ Ok xs
     → (ys : List ColumnAdjustment) × (revised_in days assets old (first ∷ others) ≡ Ok ys) × PickedAlike xs ys
 unfolding revised_in
-picked-alike days assets ud ua first records others m old xs e = here (revisions_of days assets (first ∷ records)) refl e
-  where
-    here : (o : Result (List Revision) (Fault Rule)) → revisions_of days assets (first ∷ records) ≡ o → (o >>= λ rows. Ok (revised_by assets old rows)) ≡ Ok xs
-        → (ys : List ColumnAdjustment) × (revised_in days assets old (first ∷ others) ≡ Ok ys) × PickedAlike xs ys
-    here (Err fault) was f = absurd (cc)
-    here (Ok rows) was f =
-        let same : revised_by assets old rows ≡ xs = cc in
-        let found = revisions-moved days assets first records others m rows was in
-        let known = known_from assets rows days (AreRevisions-read days assets ud ua (first ∷ records) rows was) in
-        let apart = rows-apart days assets (first ∷ records) rows was in (
-          revised_by assets old found.0,
-          rw found.1 refl,
-          λ at c bar low high.
-              ap (λ l. effects_in c bar low high (picked at l)) (sym same)
-              ∙ effects-acting assets c bar at low high (revised_by assets old rows)
-              ∙ ap (λ l. filter_map (effect c bar) (filter (is_between low high) (map (λ (x : ColumnAdjustment). x.event) l))) (acting-moved assets c bar at old rows found.0 found.2 apart known)
-              ∙ sym (effects-acting assets c bar at low high (revised_by assets old found.0)),
-        )
+picked-alike days assets ud ua first records others m old xs e =
+    let was = made-of (revised_by assets old) (revisions_of days assets (first ∷ records)) xs e in
+    let found = revisions-moved days assets first records others m was.0 was.1 in
+    let known = known_from assets was.0 days (AreRevisions-read days assets ud ua (first ∷ records) was.0 was.1) in
+    let apart = rows-apart days assets (first ∷ records) was.0 was.1 in (
+      revised_by assets old found.0,
+      ap (λ o. o >>= λ rows. Ok (revised_by assets old rows)) found.1,
+      λ at c bar low high.
+          ap (λ l. effects_in c bar low high (picked at l)) (sym was.2)
+          ∙ effects-acting assets c bar at low high (revised_by assets old was.0)
+          ∙ ap (λ l. filter_map (effect c bar) (filter (is_between low high) (map (λ (x : ColumnAdjustment). x.event) l))) (acting-moved assets c bar at old was.0 found.0 found.2 apart known)
+          ∙ sym (effects-acting assets c bar at low high (revised_by assets old found.0)),
+    )
 
 pub changed-alike : (days : List ℤ) (assets : List AssetRow) → AreDays days → AreAssets assets → (first : Record) (records others : List Record) → IsPermutation records others
     → (old xs : List ColumnAdjustment) → revised_in days assets old (first ∷ records) ≡ Ok xs
@@ -275,12 +270,7 @@ changed-alike days assets ud ua first records others m old xs e =
 pub kept-revised : (days : List ℤ) (assets : List AssetRow) → AreDays days → AreAssets assets → (records : List Record) (old xs : List ColumnAdjustment)
     → All (λ x. x.col < length assets) old → revised_in days assets old records ≡ Ok xs → All (λ x. x.col < length assets) xs × StandByDay xs
 unfolding revised_in
-kept-revised days assets ud ua records old xs cols e = here (revisions_of days assets records) refl e
-  where
-    here : (o : Result (List Revision) (Fault Rule)) → revisions_of days assets records ≡ o → (o >>= λ rows. Ok (revised_by assets old rows)) ≡ Ok xs
-        → All (λ x. x.col < length assets) xs × StandByDay xs
-    here (Err fault) was f = absurd (cc)
-    here (Ok rows) was f =
-        let same : revised_by assets old rows ≡ xs = cc in
-        let known = known_from assets rows days (AreRevisions-read days assets ud ua records rows was) in
-        rw (← same) (cols_with assets old (revised_columns assets rows) (revised_cols assets rows known) cols, days_with (old ++ revised_columns assets rows))
+kept-revised days assets ud ua records old xs cols e =
+    let was = made-of (revised_by assets old) (revisions_of days assets records) xs e in
+    let known = known_from assets was.0 days (AreRevisions-read days assets ud ua records was.0 was.1) in
+    rw (← was.2) (cols_with assets old (revised_columns assets was.0) (revised_cols assets was.0 known) cols, days_with (old ++ revised_columns assets was.0))

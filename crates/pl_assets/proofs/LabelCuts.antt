@@ -1,10 +1,9 @@
 -- The rows of labels up to a day, with all texts.
-use Rattle.std.proofs.Common.{◌≡◌, ℕ, ◌+◌, ◌<◌, ◌≤◌, not, Bool, true, false, cond, ℤ, List, [], ◌∷◌, ◌++◌, length, take, map, get_or, AllPairs, Option, Some, None, IfSome, refl, sym, ap, ◌∙◌, arith}
+use Rattle.std.proofs.Common.{◌≡◌, ℕ, ◌+◌, ◌<◌, ◌≤◌, Bool, true, false, cond, ℤ, List, [], ◌∷◌, ◌++◌, length, take, map, get_or, AllPairs, Option, Some, None, IfSome, refl, sym, ap, ◌∙◌, arith}
 use Rattle.std.specs.List.{list_any}
 use Rattle.std.specs.Str.{bytes_eq}
 use Rattle.std.specs.Int.RustNames.{int_le}
-use Rattle.std.proofs.lemmas.Bool.{not-false, not-true}
-use Rattle.std.proofs.lemmas.List.{append-nil, map-append, take_all, take_more}
+use Rattle.std.proofs.lemmas.List.{map-append, take_all, take_more}
 use Rattle.std.proofs.lemmas.List.Elements.{All-filter, filter-append}
 use Rattle.std.proofs.lemmas.List.Folds.{list_any_at}
 use Rattle.std.proofs.lemmas.List.Kept.{AllPairs-filter}
@@ -35,12 +34,6 @@ text_known names texts p h = here p.code h.code
         same false = refl
 
 -- ---- row by row
-
-pub started : (day : ℤ) (r : ColumnLabel) (rows : List ColumnLabel) → not (int_le r.start day) ≡ false → rows ++ r ∷ [] ≡ rows ++ labels_by day (r ∷ [])
-started day r rows e = rw (not-false (int_le r.start day) e) refl
-
-pub starts_later : (day : ℤ) (r : ColumnLabel) (rows : List ColumnLabel) → not (int_le r.start day) ≡ true → rows ≡ rows ++ labels_by day (r ∷ [])
-starts_later day r rows e = rw (not-true (int_le r.start day) e) (sym (append-nil rows))
 
 -- the next row after those before it
 pub row_cut : (day : ℤ) (t : LabelRows) (i : ℕ) (d : Place) (rows new : List ColumnLabel) → i < length t.places.items

@@ -1,19 +1,17 @@
 -- The fields of a record, in plain words.
-use Rattle.std.proofs.Common.{◌≡◌, ◌↔◌, ℕ, zero, suc, ◌+◌, ◌==◌, ◌≤◌, ◌&&◌, not, nat_le, IsTrue, Bool, true, false, List, [], ◌∷◌, length, get_or, All, Some, None, Result, Ok, Err, refl, ap, subst, sym, ◌∙◌, ℤ, pos, ◌<ℤ◌, arith, inl, inr, eq-eqb, eqb-true}
+use Rattle.std.proofs.Common.{◌≡◌, ◌↔◌, ℕ, zero, suc, ◌+◌, ◌==◌, ◌≤◌, ◌&&◌, not, nat_le, IsTrue, Bool, true, false, List, [], ◌∷◌, length, get_or, All, Some, None, Ok, Err, refl, ap, subst, sym, ◌∙◌, ℤ, pos, ◌<ℤ◌, arith, inl, inr, eq-eqb, eqb-true}
 use Rattle.std.specs.List.{list_any, slice_get}
-use Rattle.std.specs.Result.{result_ok}
 use Rattle.std.specs.Int.RustNames.{int_lt, int_le, unsigned_abs}
 use Rattle.std.proofs.lemmas.Int.{ints}
 use Rattle.std.proofs.lemmas.Bool.Decides.{nat_tests}
 use Rattle.std.proofs.lemmas.Option.{slice_get-get_or}
 use Rattle.pl_records.specs.Reading.{Record, field}
-use Rattle.pl_records.proofs.RuleTables.{not_true, when_some, and_then_some, map_some}
+use Rattle.pl_records.proofs.RuleTables.{not_true, result_ok-Ok, when_some, and_then_some, map_some}
 use Rattle.pl_records.proofs.Sorts.{none-at}
 use Rattle.pl_spec.specs.Rounding.{MISSING, LIMIT, is_missing}
 use Rattle.pl_spec.specs.Dates.{date_in}
 use Rattle.pl_spec.specs.Decimals.{sid_in}
 use Rattle.pl_spec.proofs.DatesRead.{date_in-IsDate, IsDate-date_in}
-use Rattle.pl_fixed.specs.declared.decimal.DecimalFault.{DecimalFault}
 use Rattle.pl_fixed.specs.declared.decimal.DecimalFault.TheVariants.{Empty}
 use Rattle.pl_fixed.specs.Reading.{read}
 use Rattle.pl_spec.proofs.SidsRead.{sid_in-decimal, decimal-sid_in}
@@ -30,11 +28,7 @@ not_empty c cs = grind (arith, nat_tests)
 pub IsCellText-cell_in : (text : List ℕ) (v : ℤ) → cell_in text ≡ Some v → IsCellText text v
 unfolding cell_in
 IsCellText-cell_in [] v e = inl (refl, (let same : Some MISSING ≡ Some v = e in cc))
-IsCellText-cell_in (c ∷ cs) v e = inr ((read-value (c ∷ cs) v).0 (here (read (c ∷ cs)) (rw (not_empty c cs) at e)))
-  where
-    here : (x : Result ℤ DecimalFault) → result_ok x ≡ Some v → x ≡ Ok v
-    here (Ok w) e = let same : Some w ≡ Some v = e in ap Ok (let it : w ≡ v = cc in it)
-    here (Err f) e = absurd (let bad : None ≡ Some v = e in cc)
+IsCellText-cell_in (c ∷ cs) v e = inr ((read-value (c ∷ cs) v).0 (result_ok-Ok (read (c ∷ cs)) v (rw (not_empty c cs) at e)))
 
 pub cell_in-IsCellText : (text : List ℕ) (v : ℤ) → IsCellText text v → cell_in text ≡ Some v
 unfolding cell_in

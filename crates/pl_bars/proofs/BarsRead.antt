@@ -11,8 +11,7 @@ use Rattle.pl_records.specs.Reading.{Record}
 use Rattle.pl_records.specs.Sorted.{sorted_by, HasOwnKeys}
 use Rattle.pl_spec.specs.declared.AssetRow.{AssetRow}
 use Rattle.pl_spec.specs.declared.BarRow.{BarRow}
-use Rattle.pl_records.proofs.Readings.{few-more, made-of, guard_on, guard_err, rows-keep, under_ok}
-use Rattle.pl_records.specs.RuleTable.{first_broken, lacks, has}
+use Rattle.pl_records.proofs.Readings.{few-more, made-of, rows-keep, under_ok}
 use Rattle.pl_records.proofs.RuleTables.{and_then_some, map_some, told_ok, ok_or-Ok}
 use Rattle.pl_records.proofs.Sorts.{OwnKeys-none, OwnKeys-more, sorted-rises, sorted-permutes, length-sorted_by}
 use Rattle.pl_lifetimes.specs.Assets.{sid_of}
@@ -39,39 +38,25 @@ ColIs assets f o = position (λ a. sid_of a == f.sid) assets ≡ o
 module _ (days : List ℤ) (assets : List AssetRow) (before : List BarRow) (r : Record) (f : Fields) (n : length before < most_bars) (e : fields_in r ≡ Some f) where
   pub no_session : SessionIs days f None → bar_or_rule days assets before r ≡ Err rules.NotSession
   unfolding bar_or_rule
-  no_session p =
-      guard_on _ _ _ (few (length before) n) ∙ guard_on _ _ _ (ap lacks e) ∙ guard_err _ _ _ (ap (has (λ f. lacks (session_in days f))) e ∙ ap lacks p)
+  no_session p = rw (few (length before) n, e, p) refl
 
   module _ (session : ℕ) (p : SessionIs days f (Some session)) where
-    -- the rules before that of the asset are kept
-    dated : bar_or_rule days assets before r
-        ≡ first_broken (rules.UnknownSid ∷ rules.Negative ∷ rules.Duplicate ∷ []) (breaks days assets before r) (ok_or (bar_of days assets r) rules.BadField)
-    unfolding bar_or_rule
-    dated =
-        guard_on _ _ _ (few (length before) n) ∙ guard_on _ _ _ (ap lacks e) ∙ guard_on _ _ _ (ap (has (λ f. lacks (session_in days f))) e ∙ ap lacks p)
-
     pub no_asset : ColIs assets f None → bar_or_rule days assets before r ≡ Err rules.UnknownSid
-    no_asset q = dated ∙ guard_err _ _ _ (ap (has (λ f. lacks (col_in assets f))) e ∙ ap lacks q)
+    unfolding bar_or_rule
+    no_asset q = rw (few (length before) n, e, p, q) refl
 
     module _ (col : ℕ) (q : ColIs assets f (Some col)) where
-      asset_on : has (λ f. lacks (col_in assets f)) (fields_in r) ≡ false
-      asset_on = ap (has (λ f. lacks (col_in assets f))) e ∙ ap lacks q
-
-      there : bar_of days assets r ≡ Some (placed_at f session col)
-      there = rw (e, p, q) refl
-
       pub negative : list_any is_negative f.cells ≡ true → bar_or_rule days assets before r ≡ Err rules.Negative
-      negative t = dated ∙ guard_on _ _ _ asset_on ∙ guard_err _ _ _ (ap (has (λ f. list_any is_negative f.cells)) e ∙ t)
+      unfolding bar_or_rule
+      negative t = rw (few (length before) n, e, p, q, t) refl
 
       pub duplicate : list_any is_negative f.cells ≡ false → list_any (is_at col session) before ≡ true → bar_or_rule days assets before r ≡ Err rules.Duplicate
-      duplicate t u =
-          dated ∙ guard_on _ _ _ asset_on ∙ guard_on _ _ _ (ap (has (λ f. list_any is_negative f.cells)) e ∙ t)
-          ∙ guard_err _ _ _ (ap (has (λ b. list_any (is_at b.col b.session) before)) there ∙ u)
+      unfolding bar_or_rule
+      duplicate t u = rw (few (length before) n, e, p, q, t, u) refl
 
       pub bar : list_any is_negative f.cells ≡ false → list_any (is_at col session) before ≡ false → bar_or_rule days assets before r ≡ Ok (placed_at f session col)
-      bar t u =
-          dated ∙ guard_on _ _ _ asset_on ∙ guard_on _ _ _ (ap (has (λ f. list_any is_negative f.cells)) e ∙ t)
-          ∙ guard_on _ _ _ (ap (has (λ b. list_any (is_at b.col b.session) before)) there ∙ u) ∙ ap (λ o. ok_or o rules.BadField) there
+      unfolding bar_or_rule
+      bar t u = rw (few (length before) n, e, p, q, t, u) refl
 
 -- ---- what the tests were where a record says its bar
 

@@ -27,14 +27,8 @@ module _ (f : Frequency) (days : List ℤ) (up : AreDays days) (i : ℕ) (inside
   rise : (j k : ℕ) → j ≤ k → k < length days → period_at f days j ≤ℤ period_at f days k
   rise j k h l = period-rises f _ _ (not_later days up j k (pos 0) h l)
 
-  pub whole : IsBracket f days i 0 i
-  whole = record { order = omega arith; within = omega arith; before = λ k h. absurd (omega arith); from = omega (arith, ints) }
-
   earlier : (a b : ℤ) → int_lt a b ≡ true → a <ℤ b
   earlier a b t = grind (arith, ints)
-
-  not_earlier : (a b : ℤ) → int_lt a b ≡ false → b ≤ℤ a
-  not_earlier a b t = grind (arith, ints)
 
   below : (a b c : ℤ) → a ≤ℤ b → b <ℤ c → a <ℤ c
   below a b c h l = omega (arith, ints)
@@ -46,9 +40,6 @@ module _ (f : Frequency) (days : List ℤ) (up : AreDays days) (i : ℕ) (inside
     before = λ k l. below _ _ _ (rise k middle (omega arith) (let w = is.within in omega arith)) (earlier _ _ t);
     from = is.from;
   }
-
-  pub lowered : (low high middle : ℕ) → IsBracket f days i low high → low ≤ middle → middle < high → int_lt (period_at f days middle) (period_at f days i) ≡ false → IsBracket f days i low middle
-  lowered low high middle is l h t = record { order = l; within = (let w = is.within in omega arith); before = is.before; from = not_earlier _ _ t }
 
   equal : (a b : ℤ) → a ≤ℤ b → b ≤ℤ a → int_eq a b ≡ true
   equal a b h l = grind (arith, ints)

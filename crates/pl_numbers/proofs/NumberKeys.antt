@@ -70,9 +70,6 @@ is_known t name number col day h e small fits =
 
 -- ---- rows that rise
 
-pub rise_empty : (places : List Place) → places ≡ [] → Rise places
-rise_empty places e i j d h l = let none : length places ≡ 0 = ap length e in absurd (omega arith)
-
 -- below a key that is greater than the last, all are
 pub all_below : (places : List Place) (k : ℕ) → Rise places → (n : ℕ) (d : Place) → n + 1 ≡ length places → nat_lt (key_of (get_or places n d)) k ≡ true → (i : ℕ) (x : Place) → i < length places → key_of (get_or places i x) < k
 all_below places k up n d e t i x h =

@@ -193,24 +193,9 @@ low_later places name col day later n f g h point i d l =
 
 -- ---- days of sessions
 
--- the first day that there is
-abbrev pub first_day : ℤ
-first_day = negsuc (2 ^ 31 - 1)
-
-pub fits_first : FitsSigned w32 first_day
-fits_first = record { sfits = omega arith }
-
-not_before : (day : ℤ) → FitsSigned w32 day → first_day ≤ℤ day
-not_before (pos n) h = omega (arith, ints)
-not_before (negsuc n) h = let small : n < 2 ^ 31 = h.sfits in omega (arith, ints)
-
 pub fits_day : (day : ℤ) → IsDay day → FitsSigned w32 day
 fits_day (pos n) h = let last : pos n ≤ℤ pos 84005 = h.last in record { sfits = omega (arith, ints) }
 fits_day (negsuc n) h = let first : neg_ℤ (pos 25567) ≤ℤ negsuc n = h.first in record { sfits = omega (arith, ints) }
-
--- what lies below the point of the first day has no key greater than any day's
-pub low_first : (places : List Place) (name col : ℕ) (day : ℤ) (n : ℕ) → FitsSigned w32 day → KeyPoint places (key name col first_day) n → AllLow places (key name col day) n
-low_first places name col day n g point = low_later places name col first_day day n fits_first g (not_before day g) point
 
 -- the day of a session
 pub day_fits : (days : List ℤ) → AreDays days → (i : ℕ) (day : ℤ) → slice_get days i ≡ Some day → FitsSigned w32 day

@@ -1,13 +1,12 @@
 -- The fields of a record, in plain words.
-use Rattle.std.proofs.Common.{◌≡◌, ◌↔◌, ◌==◌, List, length, ℕ, Some, None, Result, Ok, Err, refl, ap, ℤ, eq-eqb, eqb-true}
+use Rattle.std.proofs.Common.{◌≡◌, ◌↔◌, ◌==◌, List, length, ℕ, Some, refl, ap, ℤ, eq-eqb, eqb-true}
 use Rattle.std.specs.Result.{result_ok}
 use Rattle.pl_records.specs.Reading.{Record, field}
-use Rattle.pl_records.proofs.RuleTables.{when_some, and_then_some, map_some}
+use Rattle.pl_records.proofs.RuleTables.{result_ok-Ok, when_some, and_then_some, map_some}
 use Rattle.pl_spec.specs.Dates.{date_in}
 use Rattle.pl_spec.specs.Decimals.{sid_in}
 use Rattle.pl_spec.proofs.DatesRead.{date_in-IsDate, IsDate-date_in}
 use Rattle.pl_spec.proofs.SidsRead.{sid_in-decimal, decimal-sid_in}
-use Rattle.pl_fixed.specs.declared.decimal.DecimalFault.{DecimalFault}
 use Rattle.pl_fixed.specs.Reading.{read}
 use Rattle.pl_fixed.proofs.ReadingLemmas.{read-value}
 use Rattle.pl_payouts.specs.declared.reading.Dividend.{Dividend}
@@ -15,11 +14,7 @@ use Rattle.pl_payouts.specs.Payouts.{amount_in, dividend_in}
 use Rattle.pl_payouts.specs.Rules.{IsAmountText, IsDividendRecord}
 
 IsAmountText-amount_in : (text : List ℕ) (v : ℤ) → amount_in text ≡ Some v → IsAmountText text v
-IsAmountText-amount_in text v e = (read-value text v).0 (here (read text) e)
-  where
-    here : (x : Result ℤ DecimalFault) → result_ok x ≡ Some v → x ≡ Ok v
-    here (Ok w) e = let same : Some w ≡ Some v = e in ap Ok (let it : w ≡ v = cc in it)
-    here (Err f) e = absurd (let bad : None ≡ Some v = e in cc)
+IsAmountText-amount_in text v e = (read-value text v).0 (result_ok-Ok (read text) v e)
 
 amount_in-IsAmountText : (text : List ℕ) (v : ℤ) → IsAmountText text v → amount_in text ≡ Some v
 amount_in-IsAmountText text v h = ap result_ok ((read-value text v).1 h)

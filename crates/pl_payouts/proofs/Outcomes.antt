@@ -87,12 +87,6 @@ product-pos zero n h l = absurd (omega arith)
 product-pos (suc m) n h l = omega arith
 
 module _ (p : Payout) (close : ℤ) (is : IsPayout p) (up : p.amount <ℤ close) where
-  rest : ℕ
-  rest = unsigned_abs (close -ℤ p.amount)
-
-  whole : ℕ
-  whole = unsigned_abs close
-
   rest-is : close -ℤ p.amount ≡ pos (unsigned_abs (close -ℤ p.amount))
   rest-is = natural (close -ℤ p.amount) (less_above p.amount close up)
 

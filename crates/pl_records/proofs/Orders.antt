@@ -2,6 +2,7 @@
 use Rattle.std.proofs.Common.{◌≡◌, ℕ, ◌||◌, nat_le, Bool, true, false, List, [], ◌∷◌, ◌++◌, length, IsPermutation, Option, Some, None, Result, Ok, refl, sym, ◌∙◌, ap, subst, append_assoc, length-append, inl, inr, ◌⊎◌}
 use Rattle.std.specs.List.{list_any}
 use Rattle.std.specs.Option.{ok_or}
+use Rattle.std.proofs.lemmas.Bool.{or_parts}
 use Rattle.std.proofs.lemmas.List.Folds.{list_any-append}
 use Rattle.std.proofs.lemmas.List.Sorted.{IsPermutation-refl, IsPermutation-sym, IsPermutation-trans, IsPermutation-append, IsPermutation-append_left, length_permutation, list_any-IsPermutation}
 use Rattle.pl_records.specs.Reading.{Record, ◌>>=◌, rows_behind, rows_under, has_header}
@@ -11,11 +12,6 @@ use Rattle.pl_records.proofs.Readings.{went_on, under_ok}
 use Rattle.pl_records.proofs.RuleTables.{NoneFound, told_ok, ok_or-Ok, none-broken}
 use Rattle.pl_records.proofs.Sorts.{sorted-are}
 use Rattle.pl_spec.proofs.Permuted.{permuted, flipped}
-
-neither : (b c : Bool) → (b || (c || false)) ≡ false → (b ≡ false) × (c ≡ false)
-neither true c e = absurd (let bad : true ≡ false = e in cc)
-neither false true e = absurd (let bad : true ≡ false = e in cc)
-neither false false e = (refl, refl)
 
 both_not : (b c : Bool) → b ≡ false → c ≡ false → (b || (c || false)) ≡ false
 both_not b c e f = rw (e, f) refl
@@ -69,10 +65,10 @@ module _ {Row R : Type 0} (most : ℕ) (clash : Row → Row → Bool) (row_of : 
       here (inr (inl met)) =
           let first : list_any (clash row) before ≡ false = sym (met before r ∙ ap (has (λ x. list_any (clash x) before)) of_r) ∙ f in
           let second : list_any (clash other) (before ++ row ∷ []) ≡ false = sym (met (before ++ row ∷ []) s ∙ ap (has (λ x. list_any (clash x) (before ++ row ∷ []))) of_s) ∙ g in
-          let apart = neither (list_any (clash other) before) (clash other row) (sym (list_any-append (clash other) before (row ∷ [])) ∙ second) in (
+          let apart = or_parts (list_any (clash other) before) (clash other row || false) (sym (list_any-append (clash other) before (row ∷ [])) ∙ second) in (
             met before s ∙ ap (has (λ x. list_any (clash x) before)) of_s ∙ apart.0,
             met (before ++ other ∷ []) r ∙ ap (has (λ x. list_any (clash x) (before ++ other ∷ []))) of_r
-                ∙ list_any-append (clash row) before (other ∷ []) ∙ both_not (list_any (clash row) before) (clash row other) first (flips row other ∙ apart.1),
+                ∙ list_any-append (clash row) before (other ∷ []) ∙ both_not (list_any (clash row) before) (clash row other) first (flips row other ∙ (or_parts (clash other row) false apart.1).0),
           )
       here (inr (inr alone)) = (alone before s ∙ sym (alone (before ++ row ∷ []) s) ∙ g, alone (before ++ other ∷ []) r ∙ sym (alone before r) ∙ f)
 

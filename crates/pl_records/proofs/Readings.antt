@@ -278,12 +278,6 @@ made-fault f (Err h) g = (λ e. (let same : Err h ≡ Err g = e in let it : h �
 
 -- ---- the exits of a judgement
 
-pub guard_on : {A R : Type 0} (b : Bool) (rule : R) (y : Result A R) → b ≡ false → (if b then Err rule else y) ≡ y
-guard_on b rule y e = rw e refl
-
-pub guard_err : {A R : Type 0} (b : Bool) (rule : R) (y : Result A R) → b ≡ true → (if b then Err rule else y) ≡ Err rule
-guard_err b rule y e = rw e refl
-
 pub told : {A R : Type 0} (x : Result A R) (rule : R) (n m : ℕ) → x ≡ Err rule → n ≡ m → at_line n x ≡ Err (record { rule = rule; line = m })
 told x rule n m e f = rw (e, f) refl
 

@@ -4,6 +4,7 @@ use Rattle.std.specs.Prelude.{⊤}
 use Rattle.std.specs.Bool.{Decides}
 use Rattle.std.specs.List.{list_any}
 use Rattle.std.specs.Option.{ok_or}
+use Rattle.std.specs.Result.{result_ok}
 use Rattle.std.proofs.lemmas.List.Folds.{Any-from_list_any, list_any-from_Any}
 use Rattle.pl_records.specs.Reading.{Record, Judges}
 use Rattle.pl_records.specs.RuleTable.{first_broken, IsFirstBroken, KeepsAll, lacks, has}
@@ -68,6 +69,10 @@ none-broken (q ∷ qs) broken right h = rw h.0 (none-broken qs broken right h.1)
 pub ok_or-Ok : {A R : Type 0} (o : Option A) (bad : R) (x : A) → ok_or o bad ≡ Ok x → o ≡ Some x
 ok_or-Ok None bad x e = absurd (let other : Err bad ≡ Ok x = e in cc)
 ok_or-Ok (Some y) bad x e = let same : Ok y ≡ Ok x = e in let s : y ≡ x = cc in ap (λ z. Some z) s
+
+pub result_ok-Ok : {A E : Type 0} (r : Result A E) (x : A) → result_ok r ≡ Some x → r ≡ Ok x
+result_ok-Ok (Ok y) x e = let same : Some y ≡ Some x = e in ap Ok (let it : y ≡ x = cc in it)
+result_ok-Ok (Err f) x e = absurd (let bad : None ≡ Some x = e in cc)
 
 -- ---- what a form finds is what is there
 
