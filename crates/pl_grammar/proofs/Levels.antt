@@ -4,7 +4,7 @@ use Rattle.std.proofs.lemmas.Bool.{le-leb, cond-false, cond-true, lt-leb}
 use Rattle.pl_grammar.specs.declared.PrefixSign.{PrefixSign}
 use Rattle.pl_grammar.specs.declared.BinarySign.{BinarySign}
 use Rattle.pl_grammar.specs.declared.PrefixSign.TheVariants.{Minus, Not}
-use Rattle.pl_grammar.specs.declared.BinarySign.TheVariants.{Or, And, Less, LessEqual, Greater, GreaterEqual, Equal, NotEqual, Add, Sub, Mul, Div}
+use Rattle.pl_grammar.specs.declared.BinarySign.TheVariants.{Or, And}
 use Rattle.pl_grammar.specs.Tree.{Lexeme, Tree, prefix_level, level, left_level, right_level}
 use Rattle.pl_grammar.specs.Machine.{Frame, Prefixed, Behind, Group, Call, State, Stop, asked, depth, close, step, then_run, run, allowed}
 
@@ -17,33 +17,14 @@ pub record Levels (o : BinarySign) : Type 0 where
 
 pub levels : (o : BinarySign) → Levels o
 levels Or = record { low = omega arith; left = omega arith; left_most = omega arith; right = omega arith; most = omega arith }
-levels And = record { low = omega arith; left = omega arith; left_most = omega arith; right = omega arith; most = omega arith }
-levels Less = record { low = omega arith; left = omega arith; left_most = omega arith; right = omega arith; most = omega arith }
-levels LessEqual = record { low = omega arith; left = omega arith; left_most = omega arith; right = omega arith; most = omega arith }
-levels Greater = record { low = omega arith; left = omega arith; left_most = omega arith; right = omega arith; most = omega arith }
-levels GreaterEqual = record { low = omega arith; left = omega arith; left_most = omega arith; right = omega arith; most = omega arith }
-levels Equal = record { low = omega arith; left = omega arith; left_most = omega arith; right = omega arith; most = omega arith }
-levels NotEqual = record { low = omega arith; left = omega arith; left_most = omega arith; right = omega arith; most = omega arith }
-levels Add = record { low = omega arith; left = omega arith; left_most = omega arith; right = omega arith; most = omega arith }
-levels Sub = record { low = omega arith; left = omega arith; left_most = omega arith; right = omega arith; most = omega arith }
-levels Mul = record { low = omega arith; left = omega arith; left_most = omega arith; right = omega arith; most = omega arith }
-levels Div = record { low = omega arith; left = omega arith; left_most = omega arith; right = omega arith; most = omega arith }
+levels o = record { low = omega arith; left = omega arith; left_most = omega arith; right = omega arith; most = omega arith }
 
 -- no binary sign is of the level of a prefix sign
 pub apart : (s : PrefixSign) (o : BinarySign) → prefix_level s ≤ level o → prefix_level s < level o
 apart Minus o h = absurd (omega (arith, (levels o).most, (levels o).right))
 apart Not Or h = absurd (omega arith)
 apart Not And h = absurd (omega arith)
-apart Not Less h = omega arith
-apart Not LessEqual h = omega arith
-apart Not Greater h = omega arith
-apart Not GreaterEqual h = omega arith
-apart Not Equal h = omega arith
-apart Not NotEqual h = omega arith
-apart Not Add h = omega arith
-apart Not Sub h = omega arith
-apart Not Mul h = omega arith
-apart Not Div h = omega arith
+apart Not o h = omega arith
 
 pub prefix_least : (s : PrefixSign) → 3 ≤ prefix_level s
 prefix_least Minus = omega arith

@@ -1,7 +1,7 @@
 -- What some tokens derive, its canonical tokens derive.
 use Rattle.std.proofs.Common.{◌≡◌, ℕ, suc, ◌≤◌, Bool, true, false, leb, List, ◌++◌, Option, refl, sym, subst, arith}
 use Rattle.std.proofs.lemmas.Bool.{le-leb, leb-true}
-use Rattle.pl_grammar.specs.Tree.{Lexeme, Tree, number, text, name, call, prefix, binary, member, method, Args}
+use Rattle.pl_grammar.specs.Tree.{Lexeme, Tree, prefix, binary, Args}
 use Rattle.pl_grammar.specs.Grammar.{Derives, a_number, a_text, a_name, a_call, a_group, a_prefix, a_binary, a_member, a_method, ArgsDerive, none, some, OneArg, bare, named, MoreArgs, end, more}
 use Rattle.pl_grammar.specs.Printed.{nowhere, tree_level, placed, name_tokens, tokens, args_tokens, more_tokens, printed}
 use Rattle.pl_grammar.proofs.Levels.{levels, prefix_least}
@@ -47,14 +47,9 @@ grouped d l e low x h = record { own = raise x; whole = by_test (leb l (tree_lev
     by_test false k = a_group nowhere low (weaken x 1 h)
 
 pub level_least : (e : Tree) → 1 ≤ tree_level e
-level_least (number p v) = omega arith
-level_least (text p v) = omega arith
-level_least (name p v) = omega arith
-level_least (call p n ps) = omega arith
 level_least (prefix p s e) = omega (arith, prefix_least s)
 level_least (binary p o a b) = (levels o).low
-level_least (member p e n) = omega arith
-level_least (method p e n ps) = omega arith
+level_least e = omega arith
 
 mutual
   unfolding tokens args_tokens more_tokens

@@ -249,15 +249,8 @@ started_script : {d : ℕ} {bs ts us : List Lexeme} {ss : List Statement} → St
 started_script {d = d} {ss = ss} (started h) k q = subst (λ z. Script d z ss) (sym q) (script h k)
 
 has_script : {most : ℕ} {us : List Lexeme} {s : Stage} (ss : List Statement) → HasStage most s us → script_finish s ≡ Some ss → Script most us ss
-has_script ss (has_nothing q) e = absurd (no_script e)
-has_script ss (has_pipeline q) e = absurd (no_script e)
-has_script ss (has_version h q) e = absurd (no_script e)
 has_script {most = most} {us = us} ss (has_statements st k q) e = subst (λ z. Script most us z) (same_script e) (started_script st k q)
-has_script ss (has_let a st k q) e = absurd (no_script e)
-has_script ss (has_column a st k q) e = absurd (no_script e)
-has_script ss (has_let_name a p st k q) e = absurd (no_script e)
-has_script ss (has_column_name a p st k q) e = absurd (no_script e)
-has_script ss (has_within st k head h q) e = absurd (no_script e)
+has_script ss h e = absurd (no_script e)
 
 -- what the machine reads, the grammar derives
 pub script_derives : (most : ℕ) (ts : List Lexeme) (s : Stage) (ss : List Statement) → script_run most ts Opening ≡ Ok s → script_finish s ≡ Some ss → Script most ts ss

@@ -5,8 +5,8 @@ use Rattle.pl_grammar.specs.declared.Place.{Place}
 use Rattle.pl_grammar.specs.declared.PrefixSign.{PrefixSign}
 use Rattle.pl_grammar.specs.declared.BinarySign.{BinarySign}
 use Rattle.pl_grammar.specs.declared.PrefixSign.TheVariants.{Minus, Not}
-use Rattle.pl_grammar.specs.declared.BinarySign.TheVariants.{Or, And, Less, LessEqual, Greater, GreaterEqual, Equal, NotEqual, Add, Sub, Mul, Div}
-use Rattle.pl_grammar.specs.Tree.{Name, Number, LargeNumber, Text, Operator, Tilde, Dot, Open, Close, Comma, Assign, Semicolon, PipelineWord, LetWord, ColumnWord, ScreenWord, Lexeme, mark, Tree, number, text, prefix, binary, method, sign_token, prefix_level, level, left_level, right_level}
+use Rattle.pl_grammar.specs.declared.BinarySign.TheVariants.{Sub}
+use Rattle.pl_grammar.specs.Tree.{Name, Number, Text, Operator, Tilde, Dot, Open, Close, Comma, Assign, Lexeme, mark, Tree, number, text, prefix, binary, method, sign_token, prefix_level, level, left_level, right_level}
 use Rattle.pl_grammar.specs.Grammar.{Derives, a_number, a_text, a_name, a_call, a_group, a_prefix, a_binary, a_member, a_method, ArgsDerive, none, some, OneArg, bare, named, MoreArgs, end, more}
 use Rattle.pl_grammar.specs.Machine.{Frame, Prefixed, Behind, Group, Call, Mode, Wanted, ArgWanted, Named, ArgNamed, Membered, Given, Dotted, State, Closed, Stop, Deep, Arg, Callee, function, method_of, operand, is_wanted, callee, args_of, applied, asked, depth, close, move, allowed, literal, named_move, sign_move, minus_move, operator_move, dot_move, open_move, close_move, comma_move, assign_move, shut, shut_empty, next_arg}
 use Rattle.pl_grammar.proofs.Levels.{levels, prefix_most}
@@ -152,11 +152,7 @@ IfWanted most false fs us = Unit {0}
 has_wants : {most : ℕ} {m : Mode} {fs : List Frame} {us : List Lexeme} → Has most m fs us → IfWanted most (is_wanted m) fs us
 has_wants (has_wanted o) = record { spare = _; opens = o }
 has_wants (has_arg_wanted o) = record { spare = _; opens = o }
-has_wants (has_named o q) = tt
-has_wants (has_arg_named o q) = tt
-has_wants (has_member z o x q) = tt
-has_wants (has_given o x q) = tt
-has_wants (has_dotted z o x q) = tt
+has_wants h = tt
 
 record HasCallee (most : ℕ) (c : Callee) (fs : List Frame) (us : List Lexeme) : Type 0 where
   spare : ℕ
@@ -171,13 +167,10 @@ IfCallee most (Some c) fs us = HasCallee most c fs us
 IfCallee most None fs us = Unit {0}
 
 has_callee : {most : ℕ} {m : Mode} {fs : List Frame} {us : List Lexeme} → Has most m fs us → IfCallee most (callee m) fs us
-has_callee (has_wanted o) = tt
-has_callee (has_arg_wanted o) = tt
 has_callee (has_named {p = p} {n = n} {ts = ts} o q) = record { spare = _; before = ts; own = mark p (Name n) ∷ []; opens = o; read = function_read; whole = q }
 has_callee (has_arg_named {p = p} {n = n} {ts = ts} o q) = record { spare = _; before = ts; own = mark p (Name n) ∷ []; opens = o; read = function_read; whole = q }
 has_callee (has_member {p = p} z {n = n} {ts = ts} {xs = xs} o x q) = record { spare = _; before = ts; own = xs ++ (mark z Dot ∷ (mark p (Name n) ∷ [])); opens = o; read = method_read z x; whole = q }
-has_callee (has_given o x q) = tt
-has_callee (has_dotted z o x q) = tt
+has_callee h = tt
 
 -- each token's move keeps the tokens
 
@@ -207,17 +200,7 @@ sign_keeps most fs us p s false w = tt
 
 minus_keeps : (most : ℕ) (fs : List Frame) (us : List Lexeme) (p : Place) (o : BinarySign) (b : Bool) → IfWanted most b fs us → Keeps most (minus_move p o b fs) (us ++ (mark p (Operator o) ∷ []))
 minus_keeps most fs us p Sub b w = sign_keeps most fs us p Minus b w
-minus_keeps most fs us p Or b w = tt
-minus_keeps most fs us p And b w = tt
-minus_keeps most fs us p Less b w = tt
-minus_keeps most fs us p LessEqual b w = tt
-minus_keeps most fs us p Greater b w = tt
-minus_keeps most fs us p GreaterEqual b w = tt
-minus_keeps most fs us p Equal b w = tt
-minus_keeps most fs us p NotEqual b w = tt
-minus_keeps most fs us p Add b w = tt
-minus_keeps most fs us p Mul b w = tt
-minus_keeps most fs us p Div b w = tt
+minus_keeps most fs us p o b w = tt
 
 longer : (us bs os rest : List Lexeme) → us ≡ bs ++ os → us ++ rest ≡ bs ++ (os ++ rest)
 longer us bs os rest h = ap (λ z. z ++ rest) h ∙ append_assoc bs os rest
@@ -307,13 +290,8 @@ close_keeps most fs us z (Some e) m r h =
     let c = close_has r.opens 0 8 e r.own us r.derives (omega (arith, asked_most fs)) r.whole in
     let k = close 0 8 e fs in
     shut_keeps z c.opens k.height k.tree c.own us c.derives c.fits c.whole
-close_keeps most fs us z None m r (has_wanted o) = tt
 close_keeps most fs us z None m r (has_arg_wanted {acc = acc} o) = empty_keeps z acc o
-close_keeps most fs us z None m r (has_named o q) = tt
-close_keeps most fs us z None m r (has_arg_named o q) = tt
-close_keeps most fs us z None m r (has_member y o x q) = tt
-close_keeps most fs us z None m r (has_given o x q) = tt
-close_keeps most fs us z None m r (has_dotted y o x q) = tt
+close_keeps most fs us z None m r h = tt
 
 named_arg : (p c : Place) {most d : ℕ} {fs : List Frame} {ts : List Lexeme} {k : Callee} {acc : List Arg} → Opens most d (Call k acc None ∷ fs) ts → (n : List ℕ) (us : List Lexeme) → us ≡ ts ++ (mark p (Name n) ∷ []) → Opens most d (Call k acc (Some n) ∷ fs) (us ++ (mark c Assign ∷ []))
 named_arg p z (opens_call y {ts = ts} {cs = cs} {vs = vs} {ns = ns} o cr v nr q) n us h =
@@ -321,27 +299,18 @@ named_arg p z (opens_call y {ts = ts} {cs = cs} {vs = vs} {ns = ns} o cr v nr q)
     opens_call y o cr v (name_read {p = p} {q = z}) (ap (λ x. x ++ (mark z Assign ∷ [])) (h ∙ ap (λ x. x ++ (mark p (Name n) ∷ [])) (q ∙ ap (λ x. ts ++ (cs ++ (mark y Open ∷ (vs ++ x)))) f)) ∙ simp (append_assoc, append-nil) refl)
 
 assign_keeps : (c : Place) {most : ℕ} {m : Mode} {fs : List Frame} {us : List Lexeme} → Has most m fs us → Keeps most (assign_move m fs) (us ++ (mark c Assign ∷ []))
-assign_keeps z (has_wanted o) = tt
-assign_keeps z (has_arg_wanted o) = tt
-assign_keeps z (has_named o q) = tt
 assign_keeps z {us = us} (has_arg_named {p = p} {n = n} o q) = λ room. has_wanted (named_arg p z o n us q)
-assign_keeps z (has_member y o x q) = tt
-assign_keeps z (has_given o x q) = tt
-assign_keeps z (has_dotted y o x q) = tt
+assign_keeps z h = tt
 
 name_keeps : (p : Place) {most : ℕ} {m : Mode} {fs : List Frame} {us : List Lexeme} (n : List ℕ) → Has most m fs us → Keeps most (named_move p n m fs) (us ++ (mark p (Name n) ∷ []))
 name_keeps p n (has_wanted o) = λ room. has_named o refl
 name_keeps p n (has_arg_wanted o) = λ room. has_arg_named o refl
-name_keeps p n (has_named o q) = tt
-name_keeps p n (has_arg_named o q) = tt
-name_keeps p n (has_member z o x q) = tt
-name_keeps p n (has_given o x q) = tt
 name_keeps p {us = us} n (has_dotted y {ts = ts} {xs = xs} o x q) = λ room. has_member y o x (longer us ts (xs ++ (mark y Dot ∷ [])) (mark p (Name n) ∷ []) q ∙ ap (λ z. ts ++ z) (append_assoc xs (mark y Dot ∷ []) (mark p (Name n) ∷ [])))
+name_keeps p n h = tt
 
 pub move_keeps : {most : ℕ} {m : Mode} {fs : List Frame} {us : List Lexeme} (t : Lexeme) → Has most m fs us → Keeps most (move t m fs) (us ++ (t ∷ []))
 move_keeps (mark p (Name n)) h = name_keeps p n h
 move_keeps {most = most} {m = m} {fs = fs} {us = us} (mark p (Number v)) h = literal_keeps most fs us (number p v) (mark p (Number v)) (λ d. a_number (omega arith)) (is_wanted m) (has_wants h)
-move_keeps (mark p LargeNumber) h = tt
 move_keeps {most = most} {m = m} {fs = fs} {us = us} (mark p (Text v)) h = literal_keeps most fs us (text p v) (mark p (Text v)) (λ d. a_text (omega arith)) (is_wanted m) (has_wants h)
 move_keeps {most = most} {m = m} {fs = fs} {us = us} (mark p (Operator o)) h = operator_keeps most fs us p o (operand m) (is_wanted m) (has_operand h) (has_wants h)
 move_keeps {most = most} {m = m} {fs = fs} {us = us} (mark p Tilde) h = sign_keeps most fs us p Not (is_wanted m) (has_wants h)
@@ -350,11 +319,7 @@ move_keeps {most = most} {m = m} {fs = fs} {us = us} (mark p Open) h = open_keep
 move_keeps {most = most} {m = m} {fs = fs} {us = us} (mark p Close) h = close_keeps most fs us p (operand m) m (has_operand h) h
 move_keeps {most = most} {m = m} {fs = fs} {us = us} (mark p Comma) h = comma_keeps most fs us p (operand m) (has_operand h)
 move_keeps (mark p Assign) h = assign_keeps p h
-move_keeps (mark p Semicolon) h = tt
-move_keeps (mark p PipelineWord) h = tt
-move_keeps (mark p LetWord) h = tt
-move_keeps (mark p ColumnWord) h = tt
-move_keeps (mark p ScreenWord) h = tt
+move_keeps t h = tt
 
 -- a run keeps the tokens
 

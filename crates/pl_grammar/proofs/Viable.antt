@@ -6,7 +6,7 @@ use Rattle.pl_grammar.specs.Grammar.{Derives}
 use Rattle.pl_grammar.specs.Machine.{Frame, Prefixed, Behind, Group, Call, Mode, Wanted, ArgWanted, Named, ArgNamed, Membered, Given, Dotted, State, Closed, Stop, operand, applied, asked, depth, close, closed, at, move, step, then_run, run, first, outermost, finish, finished}
 use Rattle.pl_grammar.proofs.Levels.{run_step, allowed_some}
 use Rattle.pl_grammar.proofs.Complete.{reads, shut_operand}
-use Rattle.pl_grammar.proofs.Sound.{Opens, opens_nothing, opens_prefix, opens_behind, opens_group, opens_call, Has, has_wanted, has_arg_wanted, has_named, has_arg_named, has_member, has_given, has_dotted, IfOperand, has_operand, close_has, asked_most, budget, weaken}
+use Rattle.pl_grammar.proofs.Sound.{Opens, opens_nothing, Has, has_wanted, has_arg_wanted, has_named, has_arg_named, has_member, has_given, has_dotted, IfOperand, has_operand, close_has, asked_most, budget, weaken}
 use Rattle.pl_grammar.specs.Printed.{nowhere}
 
 -- the tokens from s on end an expression
@@ -34,10 +34,7 @@ outermost_derives : {most d : ℕ} {fs : List Frame} {bs : List Lexeme} → Open
 outermost_derives {most = most} {d = d} (opens_nothing p q) h e x os us y fits whole done =
     let same = whole ∙ ap (λ z. z ++ os) q in
     subst (λ z. Derives z 1 us x) p (subst (λ z. Derives d 1 us z) (some_tree done) (subst (λ z. Derives d 1 z e) (sym same) (weaken y 1 fits)))
-outermost_derives (opens_prefix s o p q) h e x os us y fits whole done = absurd (no_tree done)
-outermost_derives (opens_behind s o l p q) h e x os us y fits whole done = absurd (no_tree done)
-outermost_derives (opens_group g o q) h e x os us y fits whole done = absurd (no_tree done)
-outermost_derives (opens_call g o c v n q) h e x os us y fits whole done = absurd (no_tree done)
+outermost_derives o h e x os us y fits whole done = absurd (no_tree done)
 
 finished_derives : (most : ℕ) (o : Option Tree) (fs : List Frame) (us : List Lexeme) (x : Tree) → IfOperand most o fs us → finished o fs ≡ Some x → Derives most 1 us x
 finished_derives most (Some e) fs us x r done =

@@ -4,8 +4,8 @@ use Rattle.pl_grammar.specs.declared.Place.{Place}
 use Rattle.pl_grammar.specs.declared.PrefixSign.{PrefixSign}
 use Rattle.pl_grammar.specs.declared.BinarySign.{BinarySign}
 use Rattle.pl_grammar.specs.declared.PrefixSign.TheVariants.{Minus, Not}
-use Rattle.pl_grammar.specs.declared.BinarySign.TheVariants.{Or, And, Less, LessEqual, Greater, GreaterEqual, Equal, NotEqual, Add, Sub, Mul, Div}
-use Rattle.pl_grammar.specs.Tree.{Name, Number, LargeNumber, Text, Operator, Tilde, Dot, Open, Close, Comma, Assign, Semicolon, PipelineWord, LetWord, ColumnWord, ScreenWord, Lexeme, mark, Tree, number, text, name, call, prefix, binary, member, method, Args, no_args, arg, prefix_level, level, left_level, right_level}
+use Rattle.pl_grammar.specs.declared.BinarySign.TheVariants.{Sub}
+use Rattle.pl_grammar.specs.Tree.{Name, Number, Text, Operator, Tilde, Dot, Open, Close, Comma, Assign, Lexeme, mark, Tree, number, text, name, call, prefix, binary, member, method, Args, no_args, arg, prefix_level, level, left_level, right_level}
 
 -- what a list of arguments belongs to
 pub data Callee : Type 0 where
@@ -52,21 +52,14 @@ operand (Dotted e) = None
 abbrev pub is_wanted : Mode → Bool
 is_wanted Wanted = true
 is_wanted ArgWanted = true
-is_wanted (Named p n) = false
-is_wanted (ArgNamed p n) = false
-is_wanted (Membered p e n) = false
-is_wanted (Given e) = false
-is_wanted (Dotted e) = false
+is_wanted m = false
 
 -- what may be called by a `(` here
 abbrev pub callee : Mode → Option Callee
-callee Wanted = None
-callee ArgWanted = None
 callee (Named p n) = Some (function p n)
 callee (ArgNamed p n) = Some (function p n)
 callee (Membered p e n) = Some (method_of p e n)
-callee (Given e) = None
-callee (Dotted e) = None
+callee m = None
 
 abbrev pub args_of : List Arg → Args
 args_of [] = no_args
@@ -140,11 +133,8 @@ literal e false fs = None
 abbrev pub named_move : Place → List ℕ → Mode → List Frame → Option State
 named_move q n Wanted fs = Some (at (Named q n) fs)
 named_move q n ArgWanted fs = Some (at (ArgNamed q n) fs)
-named_move q n (Named p m) fs = None
-named_move q n (ArgNamed p m) fs = None
-named_move q n (Membered p e m) fs = None
-named_move q n (Given e) fs = None
 named_move q n (Dotted e) fs = Some (at (Membered q e n) fs)
+named_move q n m fs = None
 
 abbrev pub sign_move : Place → PrefixSign → Bool → List Frame → Option State
 sign_move p s true fs =
@@ -153,17 +143,7 @@ sign_move p s false fs = None
 
 abbrev pub minus_move : Place → BinarySign → Bool → List Frame → Option State
 minus_move p Sub w fs = sign_move p Minus w fs
-minus_move p Or w fs = None
-minus_move p And w fs = None
-minus_move p Less w fs = None
-minus_move p LessEqual w fs = None
-minus_move p Greater w fs = None
-minus_move p GreaterEqual w fs = None
-minus_move p Equal w fs = None
-minus_move p NotEqual w fs = None
-minus_move p Add w fs = None
-minus_move p Mul w fs = None
-minus_move p Div w fs = None
+minus_move p o w fs = None
 
 abbrev pub behind : Place → BinarySign → Closed → Option State
 behind p o c =
@@ -183,63 +163,39 @@ open_move false (Some c) fs = Some (at ArgWanted (Call c [] None ∷ fs))
 open_move false None fs = None
 
 abbrev pub shut : Tree → List Frame → Option State
-shut e [] = None
-shut e (Prefixed p s ∷ fs) = None
-shut e (Behind p o a ∷ fs) = None
 shut e (Group ∷ fs) = Some (at (Given e) fs)
 shut e (Call c ps n ∷ fs) = Some (at (Given (applied c (ps ++ (record { name = n; tree = e } ∷ [])))) fs)
+shut e fs = None
 
 -- a `)` where no operand was read: only after the `(` of a call
 abbrev pub shut_empty : Mode → List Frame → Option State
-shut_empty Wanted fs = None
-shut_empty ArgWanted [] = None
-shut_empty ArgWanted (Prefixed p s ∷ fs) = None
-shut_empty ArgWanted (Behind p o a ∷ fs) = None
-shut_empty ArgWanted (Group ∷ fs) = None
 shut_empty ArgWanted (Call c [] n ∷ fs) = Some (at (Given (applied c [])) fs)
-shut_empty ArgWanted (Call c (a ∷ ps) n ∷ fs) = None
-shut_empty (Named p n) fs = None
-shut_empty (ArgNamed p n) fs = None
-shut_empty (Membered p e n) fs = None
-shut_empty (Given e) fs = None
-shut_empty (Dotted e) fs = None
+shut_empty m fs = None
 
 abbrev pub close_move : Option Tree → Mode → List Frame → Option State
 close_move (Some e) m fs = let c = closed 0 e fs in shut c.tree c.frames
 close_move None m fs = shut_empty m fs
 
 abbrev pub next_arg : Tree → List Frame → Option State
-next_arg e [] = None
-next_arg e (Prefixed p s ∷ fs) = None
-next_arg e (Behind p o a ∷ fs) = None
-next_arg e (Group ∷ fs) = None
 next_arg e (Call c ps n ∷ fs) =
     Some (at ArgWanted (Call c (ps ++ (record { name = n; tree = e } ∷ [])) None ∷ fs))
+next_arg e fs = None
 
 abbrev pub comma_move : Option Tree → List Frame → Option State
 comma_move (Some e) fs = let c = closed 0 e fs in next_arg c.tree c.frames
 comma_move None fs = None
 
 abbrev pub name_arg : List ℕ → List Frame → Option State
-name_arg n [] = None
-name_arg n (Prefixed p s ∷ fs) = None
-name_arg n (Behind p o a ∷ fs) = None
-name_arg n (Group ∷ fs) = None
 name_arg n (Call c ps m ∷ fs) = Some (at Wanted (Call c ps (Some n) ∷ fs))
+name_arg n fs = None
 
 abbrev pub assign_move : Mode → List Frame → Option State
-assign_move Wanted fs = None
-assign_move ArgWanted fs = None
-assign_move (Named p n) fs = None
 assign_move (ArgNamed p n) fs = name_arg n fs
-assign_move (Membered p e n) fs = None
-assign_move (Given e) fs = None
-assign_move (Dotted e) fs = None
+assign_move m fs = None
 
 abbrev pub move : Lexeme → Mode → List Frame → Option State
 move (mark p (Name n)) m fs = named_move p n m fs
 move (mark p (Number v)) m fs = literal (number p v) (is_wanted m) fs
-move (mark p LargeNumber) m fs = None
 move (mark p (Text t)) m fs = literal (text p t) (is_wanted m) fs
 move (mark p (Operator o)) m fs = operator_move p o (operand m) (is_wanted m) fs
 move (mark p Tilde) m fs = sign_move p Not (is_wanted m) fs
@@ -248,11 +204,7 @@ move (mark p Open) m fs = open_move (is_wanted m) (callee m) fs
 move (mark p Close) m fs = close_move (operand m) m fs
 move (mark p Comma) m fs = comma_move (operand m) fs
 move (mark p Assign) m fs = assign_move m fs
-move (mark p Semicolon) m fs = None
-move (mark p PipelineWord) m fs = None
-move (mark p LetWord) m fs = None
-move (mark p ColumnWord) m fs = None
-move (mark p ScreenWord) m fs = None
+move t m fs = None
 
 -- why the machine stops
 pub data Stop : Type 0 where

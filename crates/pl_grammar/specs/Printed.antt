@@ -11,14 +11,11 @@ abbrev pub here : Token → Lexeme
 here t = mark nowhere t
 
 abbrev pub tree_level : Tree → ℕ
-tree_level (number p v) = 9
-tree_level (text p t) = 9
-tree_level (name p n) = 9
-tree_level (call p n ps) = 9
 tree_level (prefix p s e) = prefix_level s
 tree_level (binary p o a b) = level o
 tree_level (member p e n) = 8
 tree_level (method p e n ps) = 8
+tree_level e = 9
 
 -- in a place that asks for level l
 abbrev pub placed : Bool → List Lexeme → List Lexeme

@@ -67,27 +67,11 @@ result-cell (Clip low high) a b c n i h o p =
     chosen-has IsCell _ _ _ (inl refl) (chosen-has IsCell (int_lt (int_min high x) low) low _ h.0 lower)
 result-cell FillNa a b c n i h o p = chosen-has IsCell _ _ _ (at b n i o.1 p) (at a n i o.0 p)
 result-cell IfElse a b c n i h o p = chosen-has IsCell _ _ _ (at b n i o.1 p) (at c n i o.2 p)
-result-cell (Comparison t) a b c n i h o p = flag-cell _ (truth-flag _)
-result-cell And a b c n i h o p = flag-cell _ (truth-flag _)
-result-cell Or a b c n i h o p = flag-cell _ (truth-flag _)
-result-cell Not a b c n i h o p = flag-cell _ (truth-flag _)
-result-cell IsNull a b c n i h o p = flag-cell _ (truth-flag _)
-result-cell NotNull a b c n i h o p = flag-cell _ (truth-flag _)
-result-cell (NumberIs m) a b c n i h o p = flag-cell _ (truth-flag _)
-result-cell (NumberIsNot m) a b c n i h o p = flag-cell _ (truth-flag _)
+result-cell op a b c n i h o p = flag-cell _ (truth-flag _)
 
 -- a filter gives 0 or 1
 result-flag : (op : PointKind) (x y z : ℤ) → IsTrue (is_point_filter op) → IsFlag (pointwise op x y z)
 unfolding pointwise
-result-flag Add x y z h = absurd (cc h)
-result-flag Sub x y z h = absurd (cc h)
-result-flag Mul x y z h = absurd (cc h)
-result-flag Div x y z h = absurd (cc h)
-result-flag Neg x y z h = absurd (cc h)
-result-flag Abs x y z h = absurd (cc h)
-result-flag (Clip low high) x y z h = absurd (cc h)
-result-flag FillNa x y z h = absurd (cc h)
-result-flag IfElse x y z h = absurd (cc h)
 result-flag (Comparison t) x y z h = truth-flag _
 result-flag And x y z h = truth-flag _
 result-flag Or x y z h = truth-flag _
@@ -96,6 +80,7 @@ result-flag IsNull x y z h = truth-flag _
 result-flag NotNull x y z h = truth-flag _
 result-flag (NumberIs n) x y z h = truth-flag _
 result-flag (NumberIsNot n) x y z h = truth-flag _
+result-flag op x y z h = absurd (cc h)
 
 -- ---- what is written
 

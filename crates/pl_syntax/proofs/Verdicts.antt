@@ -86,13 +86,9 @@ same_made {n = n} {m = m} {ss = ss} {us = us} {p = p} {q = q} h k l = ap (λ x. 
 
 answers_script : (r : Result Script SyntaxError) (x : Parsed) → HasVersion r x.version → Gives r (AtEnd x.end) (Good x.statements) → AnswersScript r x
 answers_script (Ok s) x v h = same_made v (sym (same_good h.0)) (sym (same_end h.1))
-answers_script (Err (BadByte p)) x v h = absurd (not_good h)
-answers_script (Err (Unexpected p)) x v h = absurd (not_good h)
-answers_script (Err (TooDeep p)) x v h = absurd (not_good h)
-answers_script (Err (NumberTooLarge p)) x v h = absurd (not_good h)
-answers_script (Err (LongStatement p)) x v h = absurd (not_good h)
 answers_script (Err TooLong) x v h = absurd h
 answers_script (Err Memory) x v h = tt
+answers_script (Err e) x v h = absurd (not_good h)
 
 pub spelled_answers : (bytes : List ℕ) (r : Result Script SyntaxError) → Outcome bytes r → (x : Parsed) → Spells bytes x → AnswersScript r x
 spelled_answers bytes r o x s =
@@ -198,12 +194,7 @@ at_end bytes bs p q n v s r goes x h version =
     of_result : (r : Result Script SyntaxError) (us : List Lexeme) → verdict 0 g.Opening us (AtEnd q) ≡ finish_verdict (g.script_finish s) q → Ends r (g.script_finish s) q → Gives r (AtEnd q) (verdict 0 g.Opening us (AtEnd q))
     of_result (Ok x) us v h = (v ∙ ap (λ o. finish_verdict o q) h.0, ap AtEnd (sym h.1))
     of_result (Err (Unexpected p)) us v h = v ∙ (ap (λ o. finish_verdict o q) h.0 ∙ ap (Fault f.Unexpected) (sym h.1))
-    of_result (Err (BadByte p)) us v h = absurd h
-    of_result (Err (TooDeep p)) us v h = absurd h
-    of_result (Err (NumberTooLarge p)) us v h = absurd h
-    of_result (Err (LongStatement p)) us v h = absurd h
-    of_result (Err TooLong) us v h = absurd h
-    of_result (Err Memory) us v h = absurd h
+    of_result (Err e) us v h = absurd h
 
 pub out_of_memory : (bytes : List ℕ) (r : Result Script SyntaxError) → r ≡ Err Memory → Outcome bytes r
 out_of_memory bytes r e = let y = is_read start bytes in subst (λ z. Outcome bytes z) (sym e) (record { tokens = y.tokens; tail = y.tail; reads = y.reads; gives = tt; version = tt })
