@@ -21,9 +21,6 @@ row-at (u ∷ us) zero h = refl
 row-at (u ∷ us) (suc t) h = row-at us t (omega arith)
 
 module _ (days : List ℤ) (g : Graph) (outs : List ℕ) (from : ℕ) where
-  pub no-rows : AreRows days g outs from 0 []
-  no-rows = record { size = (let z : 0 ≡ 0 * length g = omega arith in z); rows = λ i h. absurd (omega arith) }
-
   -- one session more
   pub rows-more : (n : ℕ) (extras after : List ℕ) (uses : List Use) → AreRows days g outs from n extras → AreUses g outs uses → HaveExtras days (from + n) g outs uses
       → after ≡ extras ++ map extra_in uses → AreRows days g outs from (n + 1) after
