@@ -4,7 +4,7 @@ use Rattle.std.specs.List.{list_any}
 use Rattle.std.specs.Int.{int_min}
 use Rattle.std.proofs.lemmas.Int.{ints}
 use Rattle.std.proofs.lemmas.Bool.{cases_lt, cases_eq, true≢false}
-use Rattle.std.proofs.lemmas.List.{length-set, get_or-set_same, get_or-set_other, length-replicate}
+use Rattle.std.proofs.lemmas.List.{length-set, get_or-set_same, get_or-set_other, length-replicate, get_or_past}
 use Rattle.std.proofs.lemmas.Option.{slice_get_within}
 use Rattle.std.specs.Int.Signed.{≤ℤ_refl}
 use Rattle.pl_spec.specs.declared.Column.{Column}
@@ -23,7 +23,8 @@ use Rattle.pl_spec.proofs.Windows.{before-zero}
 use Rattle.pl_planner.specs.declared.uses.Use.{Use}
 use Rattle.pl_planner.specs.Uses.{all_asked, marked, unused, use_at}
 use Rattle.pl_planner.proofs.Asking.{Found, Grows, all_given, all_grow, all_sound, each-asks, found-group, found-input, found-mask}
-use Rattle.pl_planner.proofs.Gathers.{all_unused, back-few, back-of}
+use Rattle.pl_planner.proofs.Counting.{all_same}
+use Rattle.pl_planner.proofs.Gathers.{back-few, back-of}
 use Rattle.pl_planner.specs.Extra.{Ask, asks, asks_back, back_from}
 use Rattle.pl_planner.specs.Columns.{is_bar, own_depth}
 
@@ -43,11 +44,6 @@ pub has-bar : (is : List Input) → list_any is_bar is ≡ true → (i : ℕ) ×
 has-bar [] e = absurd (let bad : false ≡ true = e in cc)
 has-bar (BarColumn c ∷ is) e = (0, c, refl)
 has-bar (TermInput u ∷ is) e = let r = has-bar is e in (suc r.0, r.1, r.2)
-
-past_unused : (us : List Use) (k : ℕ) → length us ≤ k → use_at us k ≡ unused
-past_unused [] k h = refl
-past_unused (u ∷ us) zero h = absurd (omega arith)
-past_unused (u ∷ us) (suc k) h = past_unused us k (omega arith)
 
 -- ---- the least of some sessions is one of them
 
@@ -278,7 +274,7 @@ module _ (days : List ℤ) (up : AllPairs (λ a b. a <ℤ b) days) (g : Graph) (
         one : (j : ℕ) → (use_at us j).used ≡ true → (j ≡ t) × ((use_at us j).extra ≡ 0)
         one j u = elim (cases_eq j t) [
           | inl s ↦ (s, ap (λ i. (use_at us i).extra) s ∙ ap (λ (x : Use). x.extra) at)
-          | inr n ↦ absurd (true≢false (sym u ∙ ap (λ (x : Use). x.used) (ap (λ l. use_at l j) e ∙ get_or-set_other (replicate (t + 1) unused) t j first unused n ∙ all_unused (t + 1) j)))
+          | inr n ↦ absurd (true≢false (sym u ∙ ap (λ (x : Use). x.used) (ap (λ l. use_at l j) e ∙ get_or-set_other (replicate (t + 1) unused) t j first unused n ∙ all_same (t + 1) j unused)))
         ]
 
         same : (j b : ℕ) → j ≡ t → b ≡ 0 → R t (pos d) ≡ R j (before (pos d) b)
@@ -318,7 +314,7 @@ module _ (days : List ℤ) (up : AllPairs (λ a b. a <ℤ b) days) (g : Graph) (
       low-k : k ≤ t
       low-k = elim (cases_lt t k) [
         | inr l ↦ l
-        | inl l ↦ absurd (true≢false (sym u ∙ ap (λ (x : Use). x.used) (past_unused us k (omega (arith, h.long, l)))))
+        | inl l ↦ absurd (true≢false (sym u ∙ ap (λ (x : Use). x.used) (get_or_past us k unused (omega (arith, h.long, l)))))
       ]
 
       asked-low : (i : ℕ) (a : Ask) → slice_get list i ≡ Some a → (a.0 < k) × (a.1 ≤ c + (n.window - 1)) × (R k (before (pos d) b) ≤ℤ R a.0 (before (pos d) a.1))
