@@ -2,7 +2,7 @@
 use Rattle.std.proofs.Common.{◌≡◌, ℕ, suc, ◌<◌, ◌-◌, true, false, not, ℤ, pos, ◌≤ℤ◌, List, [], ◌∷◌, ◌++◌, length, get_or, Some, option_map, unwrap_or, slice_get, refl, sym, ◌∙◌, ap, arith, All}
 use Rattle.std.proofs.lemmas.Bool.{true≢false}
 use Rattle.std.proofs.lemmas.Int.{ints}
-use Rattle.std.proofs.lemmas.List.{get_or_append_left}
+use Rattle.std.proofs.lemmas.List.{get_or_push, length_push, get_or_append_left}
 use Rattle.std.proofs.lemmas.List.Elements.{All-append, All-cons}
 use Rattle.std.specs.List.{position_or_len}
 use Rattle.std.specs.Ordering.{int_eq}
@@ -33,10 +33,6 @@ use Rattle.pl_daily.specs.Terms.{HoldsStart, begins}
 
 at_end : (xs : List ℤ) (x : ℤ) → slice_get (xs ++ x ∷ []) (length xs) ≡ Some x
 at_end xs x = slice_get-append_right xs (x ∷ []) (length xs) 0 (omega arith)
-
-got_at_end : (xs : List ℤ) (x : ℤ) → get_or (xs ++ x ∷ []) (length xs) (pos 0) ≡ x
-got_at_end [] x = refl
-got_at_end (y ∷ ys) x = got_at_end ys x
 
 start_at_end : (f : Frequency) (xs : List ℤ) (x : ℤ) → period_start f (xs ++ x ∷ []) (pos (length xs)) ≡ pos (first_session f (xs ++ x ∷ []) x)
 unfolding period_start
@@ -69,14 +65,10 @@ module _ (f : Frequency) (g : Start) (next now : FedDay) (earlier : List FedDay)
 
   pub begun_later : not (same_period f now.day next.day) ≡ true → period_start f zs (pos (suc (length earlier))) ≡ pos (suc (length earlier))
   begun_later other =
-      let inside : length xs < length zs = (let e = long_by_one xs next.day in omega (arith, e)) in
+      let inside : length xs < length zs = (let e = length_push xs next.day in omega (arith, e)) in
       ap (λ n. period_start f zs (pos n)) (sym long) ∙ start_at_end f xs next.day
-      ∙ ap pos (first_at (same_period f next.day) zs (length xs) (pos 0) inside (ap (same_period f next.day) (got_at_end xs next.day) ∙ int_eq-itself (period f next.day)) (is_other other))
+      ∙ ap pos (first_at (same_period f next.day) zs (length xs) (pos 0) inside (ap (same_period f next.day) (get_or_push xs next.day (pos 0) (length xs) refl) ∙ int_eq-itself (period f next.day)) (is_other other))
       ∙ ap pos long
-    where
-      long_by_one : (ys : List ℤ) (y : ℤ) → length (ys ++ y ∷ []) ≡ suc (length ys)
-      long_by_one [] y = refl
-      long_by_one (z ∷ ys) y = ap suc (long_by_one ys y)
 
   now_is : slice_get xs (length earlier) ≡ Some now.day
   now_is = ap (slice_get xs) (sym (length-days earlier)) ∙ at_end (days_of earlier) now.day

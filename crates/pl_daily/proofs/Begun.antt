@@ -1,5 +1,5 @@
 -- What is held before the first day.
-use Rattle.std.proofs.Common.{◌≡◌, ℕ, zero, suc, ◌+◌, ◌<◌, ◌≤◌, true, false, pos, List, [], ◌∷◌, ◌++◌, length, get_or, set, replicate, Option, Some, None, option_map, slice_get, refl, sym, ◌∙◌, ap, subst, arith, inl, inr, All, get_or-set_same, get_or-set_other}
+use Rattle.std.proofs.Common.{◌≡◌, ℕ, ◌+◌, ◌<◌, ◌≤◌, true, false, pos, List, [], ◌∷◌, ◌++◌, length, get_or, set, replicate, Option, Some, None, option_map, slice_get, refl, sym, ◌∙◌, ap, subst, arith, inl, inr, All, get_or-set_same, get_or-set_other}
 use Rattle.std.specs.Prelude.{is_some, IfNone}
 use Rattle.std.proofs.lemmas.Bool.{cases_eq, true≢false}
 use Rattle.std.proofs.lemmas.List.{length-replicate, length-append, length-map}
@@ -26,6 +26,7 @@ use Rattle.pl_daily.specs.Capacities.{column_window, term_window}
 use Rattle.pl_daily.specs.Daily.{Held, HasBeenFed, start_in}
 use Rattle.pl_daily.specs.Room.{AreBegun, AreBegunStarts, HasColumns, IsBegun, no_session}
 use Rattle.pl_daily.specs.Terms.{AreStartCells, AreStarts, AreTerms, IsStartRoom, rooms}
+use Rattle.pl_planner.proofs.Counting.{all_same}
 use Rattle.pl_daily.proofs.Firsts.{none-first}
 use Rattle.pl_daily.proofs.Greatest.{column-window-in, term-window-in}
 
@@ -72,11 +73,6 @@ start_full assets n s e is = record {
 
 -- ---- all of it
 
-nothing_at : (m k : ℕ) → get_or (replicate m no_session) k None ≡ None
-nothing_at zero k = refl
-nothing_at (suc m) zero = refl
-nothing_at (suc m) (suc k) = nothing_at m k
-
 -- rings with the same room have room for the same windows
 pub windows_stay : (p : Pipeline) (old new : List TermCells) → rooms new ≡ rooms old → ((u : ℕ) (t : TermCells) → slice_get old u ≡ Some t → t.rings.capacity ≡ term_window p u)
     → (u : ℕ) (t : TermCells) → slice_get new u ≡ Some t → t.rings.capacity ≡ term_window p u
@@ -118,7 +114,7 @@ module _ (assets : ℕ) (p : Pipeline) (x : Capacities) (bars : BarRings) (terms
         let b : IsBegun assets p u t = begun.each u t (ap (λ ts. slice_get ts u) (sym is) ∙ e) in
         b.begins (ap (λ q. is_used q u) (sym pipeline) ∙ used) (start_in h) h.pipeline u many (ap (λ q. empty_cell q u) (sym pipeline));
     starts = record { each = λ k s e f u down. record { session = λ some. absurd (omega (arith, some)); row = λ some. absurd (omega (arith, some)) } };
-    since = none-first h.pipeline h.since (λ k. ap (λ os. get_or os k None) since ∙ nothing_at m k);
+    since = none-first h.pipeline h.since (λ k. ap (λ os. get_or os k None) since ∙ all_same m k no_session);
     answered = λ some. absurd (omega (arith, some, none));
     kept = λ answers. absurd (true≢false (sym answers ∙ silent));
   }

@@ -7,6 +7,7 @@ use Rattle.std.proofs.lemmas.Int.{ints, by_lt_z}
 use Rattle.std.proofs.lemmas.Option.{slice_get_within}
 use Rattle.std.specs.Cmp.{both_ways}
 use Rattle.std.proofs.lemmas.List.Folds.{list_all-append}
+use Rattle.circular_buffer.proofs.Places.{slice_get-append_left}
 use Rattle.pl_pipeline.specs.Term.{Term, Node, term_at, IsGraph}
 use Rattle.pl_pipeline.specs.Graph.{contains, mentions, reach, reads_at, Used}
 use Rattle.pl_pipeline.specs.Graph.Used.{output, mentioned}
@@ -31,11 +32,6 @@ use Rattle.pl_values.proofs.Operations.{all-at}
 
 -- ---- one day more
 
-append-at : {X : Type 0} (xs ys : List X) (i : ℕ) → i < length xs → slice_get xs i ≡ slice_get (xs ++ ys) i
-append-at [] ys i h = absurd (omega arith)
-append-at (x ∷ xs) ys zero h = refl
-append-at (x ∷ xs) ys (suc i) h = append-at xs ys i (omega arith)
-
 module _ (days : List ℤ) (day : ℤ) where
   abbrev more : List ℤ
   more = days ++ day ∷ []
@@ -44,7 +40,7 @@ module _ (days : List ℤ) (day : ℤ) where
   long-more = length-append days (day ∷ [])
 
   append-same : (d i : ℕ) → d < length days → pos i ≤ℤ pos d → slice_get days i ≡ slice_get more i
-  append-same d i l h = append-at days (day ∷ []) i (omega (arith, ints))
+  append-same d i l h = sym (slice_get-append_left days (day ∷ []) i (omega (arith, ints)))
 
   -- for an earlier session a term reaches as far back
   pub reach-more : (t : Term) (d : ℕ) → d < length days → reach days t (pos d) ≡ reach more t (pos d)

@@ -1,6 +1,7 @@
 -- One term more has the day.
-use Rattle.std.proofs.Common.{◌≡◌, ℕ, zero, suc, ◌+◌, ◌<◌, ◌≤◌, true, false, ℤ, List, [], ◌∷◌, length, set, length-set, Some, slice_get, refl, sym, ◌∙◌, ap, arith, subst, All, inl, inr}
+use Rattle.std.proofs.Common.{◌≡◌, ℕ, ◌+◌, ◌<◌, ◌≤◌, true, false, ℤ, List, ◌∷◌, length, set, length-set, Some, slice_get, sym, ◌∙◌, ap, arith, subst, All, inl, inr}
 use Rattle.std.proofs.lemmas.Bool.{cases_eq, true≢false}
+use Rattle.circular_buffer.proofs.Places.{slice_get-set_other, slice_get-set_same}
 use Rattle.std.proofs.Math.Seq.{map-set_same}
 use Rattle.std.proofs.lemmas.Option.{get_or_from_slice_get, slice_get_within, same_Some}
 use Rattle.pl_spec.specs.declared.Frequency.{Frequency}
@@ -18,16 +19,7 @@ use Rattle.pl_daily.proofs.Begins.{held_anew, held_on}
 use Rattle.pl_daily.proofs.Downsampled.{one_way}
 
 set_there : {X : Type 0} (xs : List X) (k : ℕ) (y t : X) → k < length xs → slice_get (set xs k y) k ≡ Some t → y ≡ t
-set_there [] k y t h e = absurd (omega (arith, h))
-set_there (x ∷ xs) zero y t h e = same_Some y t e
-set_there (x ∷ xs) (suc k) y t h e = set_there xs k y t (omega (arith, h)) e
-
-set_elsewhere : {X : Type 0} (xs : List X) (k u : ℕ) (y : X) → (u ≡ k → ⊥) → slice_get (set xs k y) u ≡ slice_get xs u
-set_elsewhere [] k u y h = refl
-set_elsewhere (x ∷ xs) zero zero y h = absurd (h refl)
-set_elsewhere (x ∷ xs) zero (suc u) y h = refl
-set_elsewhere (x ∷ xs) (suc k) zero y h = refl
-set_elsewhere (x ∷ xs) (suc k) (suc u) y h = set_elsewhere xs k u y (λ e. h (ap suc e))
+set_there xs k y t h e = same_Some y t (sym (slice_get-set_same xs k y h) ∙ e)
 
 -- ---- the start of a term
 
@@ -68,11 +60,11 @@ module _ (l : Lent) (k : ℕ) (cells : List TermCells) where
             | inl same ↦
                 let there : slice_get (set cells k made) k ≡ Some t = ap (slice_get (set cells k made)) (sym same) ∙ e in
                 subst (λ j. HoldsTerm g (next ∷ days) p j t) (sym same) (subst (λ c. HoldsTerm g (next ∷ days) p k c) (set_there cells k made t inside there) here)
-            | inr other ↦ at.terms.done u t (omega (arith, below, other)) used_u (sym (set_elsewhere cells k u made other) ∙ e)
+            | inr other ↦ at.terms.done u t (omega (arith, below, other)) used_u (sym (slice_get-set_other cells k u made other) ∙ e)
           ];
           left = λ u t above used_u e.
               let other : u ≡ k → ⊥ = λ same. omega (arith, above, same) in
-              at.terms.left u t (omega (arith, above)) used_u (sym (set_elsewhere cells k u made other) ∙ e);
+              at.terms.left u t (omega (arith, above)) used_u (sym (slice_get-set_other cells k u made other) ∙ e);
         },
         start,
       )
@@ -84,14 +76,14 @@ terms_more assets p rings now k was made are is inside full room = record {
   many = length-set now k made ∙ are.many;
   full = λ u t used e. elim (cases_eq u k) [
     | inl same ↦ subst (AreTermCells assets) (set_there now k made t inside (ap (slice_get (set now k made)) (sym same) ∙ e)) full
-    | inr other ↦ are.full u t used (sym (set_elsewhere now k u made other) ∙ e)
+    | inr other ↦ are.full u t used (sym (slice_get-set_other now k u made other) ∙ e)
   ];
   values = λ j n place u t used e kind input at. elim (cases_eq u k) [
     | inl same ↦
         let fits : n.window ≤ was.rings.capacity = are.values j n place u was used e kind input (ap (slice_get now) same ∙ is) in
         let made_is : made ≡ t = set_there now k made t inside (ap (slice_get (set now k made)) (sym same) ∙ at) in
         subst (λ (c : TermCells). n.window ≤ c.rings.capacity) made_is (omega (arith, fits, room))
-    | inr other ↦ are.values j n place u t used e kind input (sym (set_elsewhere now k u made other) ∙ at)
+    | inr other ↦ are.values j n place u t used e kind input (sym (slice_get-set_other now k u made other) ∙ at)
   ];
   bars = are.bars;
   bar_rings = are.bar_rings;
@@ -108,7 +100,7 @@ starts_more assets p now k made are inside full = record {
     | inl same ↦
         let is : made ≡ s = set_there now k made s inside (ap (slice_get (set now k made)) (sym same) ∙ e) in
         subst (λ i. IsStartRoom assets p i s) (sym same) (subst (λ x. IsStartRoom assets p k x) is full)
-    | inr other ↦ are.full j s (sym (set_elsewhere now k j made other) ∙ e)
+    | inr other ↦ are.full j s (sym (slice_get-set_other now k j made other) ∙ e)
   ];
 }
 
@@ -138,11 +130,11 @@ module _ (l : Lent) (terms : List TermCells) (starts : List StartCells) where
             | inl same ↦
                 let new_is : new ≡ t = set_there firsts k new t inside (ap (slice_get (set firsts k new)) (sym same) ∙ e) in
                 subst (λ i. IsStartOf g (next ∷ days) p i t) (sym same) (subst (λ c. IsStartOf g (next ∷ days) p k c) new_is y.1)
-            | inr other ↦ x.1.done j t (omega (arith, below, other)) (sym (set_elsewhere firsts k j new other) ∙ e)
+            | inr other ↦ x.1.done j t (omega (arith, below, other)) (sym (slice_get-set_other firsts k j new other) ∙ e)
           ];
           left = λ j t above e.
               let other : j ≡ k → ⊥ = λ same. omega (arith, above, same) in
-              x.1.left j t (omega (arith, above)) (sym (set_elsewhere firsts k j new other) ∙ e);
+              x.1.left j t (omega (arith, above)) (sym (slice_get-set_other firsts k j new other) ∙ e);
         },
       )
 

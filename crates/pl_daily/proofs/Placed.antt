@@ -1,5 +1,5 @@
 -- A used term on its day has what it reads.
-use Rattle.std.proofs.Common.{◌≡◌, ℕ, zero, suc, ◌<◌, ◌≤◌, true, ℤ, pos, ◌-ℤ◌, List, [], ◌∷◌, length, get_or, Some, slice_get, refl, sym, ◌∙◌, ap, arith, subst, All, Bor}
+use Rattle.std.proofs.Common.{◌≡◌, ℕ, ◌<◌, ◌≤◌, true, ℤ, pos, ◌-ℤ◌, List, [], ◌∷◌, length, get_or, Some, slice_get, refl, sym, ◌∙◌, ap, arith, subst, All, Bor}
 use Rattle.std.proofs.lemmas.Int.{ints}
 use Rattle.std.proofs.lemmas.List.{get_or_default}
 use Rattle.std.proofs.lemmas.Option.{slice_get_within}
@@ -40,13 +40,9 @@ use Rattle.pl_daily.specs.declared.starts.StartCells.{StartCells}
 use Rattle.pl_daily.specs.declared.terms.Lent.{Lent}
 use Rattle.pl_daily.specs.Terms
 use Rattle.pl_daily.specs.Terms.{start_at, start_of, AreTerms, Downsamples, IsAt, IsRowOf, IsStartOf, IsStartRoom, IsTermRow, TermsHold}
+use Rattle.circular_buffer.proofs.Places.{slice_get-some}
 use Rattle.pl_daily.proofs.Begins.{days_are}
 use Rattle.pl_daily.proofs.KeptPlaces.{sid_is}
-
-some_at : {X : Type 0} (xs : List X) (i : ℕ) → i < length xs → (x : X) × (slice_get xs i ≡ Some x)
-some_at [] i h = absurd (omega (arith, h))
-some_at (x ∷ xs) zero h = (x, refl)
-some_at (x ∷ xs) (suc i) h = some_at xs i (omega (arith, h))
 
 cell_is : (w : World) (p : Pipeline) (sids : List ℕ) (u i s : ℕ) → cell_of w p sids u i s ≡ cell_on w p sids u i (pos s)
 unfolding cell_of
@@ -100,7 +96,7 @@ module _ (t : TermDay) (next : FedDay) (days : List FedDay) (s : StartCells)
 
   row_held : (u : ℕ) → (u < t.term.0) × (u < length t.terms.now) × (is_used p u ≡ true) → HoldsRow t v u
   row_held u h =
-      let x = some_at t.terms.now u h.1 in
+      let x = slice_get-some t.terms.now u h.1 in
       let full = are.full u x.0 h.2 x.1 in
       let hold = held.done u x.0 h.0 h.2 x.1 in
       record {
@@ -114,7 +110,7 @@ module _ (t : TermDay) (next : FedDay) (days : List FedDay) (s : StartCells)
 
   rings_held : (place u : ℕ) → is_windowed n.kind ≡ true → slice_get n.inputs place ≡ Some (TermInput u) → (u < t.term.0) × (u < length t.terms.now) × (is_used p u ≡ true) → HoldsRings t v u
   rings_held place u kind e h =
-      let x = some_at t.terms.now u h.1 in
+      let x = slice_get-some t.terms.now u h.1 in
       let full = are.full u x.0 h.2 x.1 in
       let hold = held.done u x.0 h.0 h.2 x.1 in
       let fits : n.window ≤ x.0.rings.capacity = are.values t.term.0 n place u x.0 used node kind e x.1 in

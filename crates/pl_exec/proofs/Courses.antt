@@ -19,7 +19,7 @@ use Rattle.pl_exec.specs.ChunkInputs.{IsArrayOf, IsCourse, IsLent, IsMaskLent, I
 use Rattle.pl_exec.proofs.Held.{term_session_is, held}
 
 pub course_session : (c : Course) → IsCourse c → (j : ℕ) → j < c.count → IsTermSession (session_in c j)
-course_session c is j h = term_session_is (session_in c j) is.chunk is.run is.node (let l = is.low in omega arith) (let e = is.end in omega arith) is.none
+course_session c is j h = term_session_is (session_in c j) is.chunk is.run is.node (let l = is.low in omega arith) (let e = is.end in omega arith) is.empty
 
 pub course_node : (c : Course) → IsCourse c → IsNode (task_in c).pipeline c.term.0 (node_in c)
 course_node c is = record { checked = is.chunk.task.checked; node = is.node }

@@ -94,10 +94,10 @@ module _ (t : TermSession) (is : IsTermSession t) where
   -- what is computed for all assets, and then put away where they are not kept
   pub kept_out : (keep made out : List ℤ) → IsKept t keep → ((i : ℕ) → i < assets_in (task_at t) → IsGivenCell w p sids t.term.0 n i t.session (get_or made i (pos 0)))
       → length out ≡ assets_in (task_at t)
-      → ((i : ℕ) → i < assets_in (task_at t) → get_or out i (pos 0) ≡ kept_or t.none keep (λ j. get_or made j (pos 0)) i) → IsRowOfTerm t out
+      → ((i : ℕ) → i < assets_in (task_at t) → get_or out i (pos 0) ≡ kept_or t.empty keep (λ j. get_or made j (pos 0)) i) → IsRowOfTerm t out
   kept_out keep made out kept given size picked =
-      kept-cells w p sids t.term.0 n (λ i. i) (λ i. t.session) (assets_in (task_at t)) (λ i. get_or made i (pos 0)) out t.none is.none
-      (λ i h. picked i h ∙ ap (λ b. chosen b (get_or made i (pos 0)) t.none) (kept.each i h)) size given
+      kept-cells w p sids t.term.0 n (λ i. i) (λ i. t.session) (assets_in (task_at t)) (λ i. get_or made i (pos 0)) out t.empty is.empty
+      (λ i h. picked i h ∙ ap (λ b. chosen b (get_or made i (pos 0)) t.empty) (kept.each i h)) size given
 
   pub section_is : (values keep : List ℤ) (labels : Option (List ℤ)) → IsInputRow w p sids (assets_in (task_at t)) (slice_get n.inputs 0) t.session values → IsKept t keep
       → IsGroupRow w p sids n.group t.session labels

@@ -32,15 +32,15 @@ later_ready t w low s n up h r = record {
     later size u x = record { known = x.known; used = x.used; held = x.held; some = x.some; early = (let y = x.early in omega arith) }
 
 pub term_session_is : (t : TermSession) → AreChunkInputs t.chunk.now → IsRun (task_at t) t.workspace.now t.term.0 → slice_get (graph_in (task_at t)) t.term.0 ≡ Some (node_at t) → low_in (task_at t) t.term.0 ≤ t.session → t.session ≤ t.chunk.now.to
-    → t.none ≡ empty_cell (task_at t).pipeline t.term.0 → IsTermSession t
-term_session_is t chunk run node low late none = record {
+    → t.empty ≡ empty_cell (task_at t).pipeline t.term.0 → IsTermSession t
+term_session_is t chunk run node low late empty = record {
   chunk = chunk;
   node = node;
   ready = later_ready (task_at t) t.workspace.now _ t.session (node_at t) chunk.task.days low (run.ready (node_at t) node);
   late = late;
   deep = (let d = run.deep (node_at t) node in omega arith);
   all = chunk.task.columns.all t.term.0 t.session run.used low late;
-  none = none;
+  empty = empty;
 }
 
 -- the array of term u, as the code has it, and its cell for an asset on a session

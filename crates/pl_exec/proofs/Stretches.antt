@@ -164,7 +164,7 @@ more_given P xs ys done n k within size so_far more m h = elim (cases_lt m done)
 
 -- and then the empty value where the asset is not kept
 pub kept_lane : (c : Course) (is : IsCourse c) (i : ℕ) (made out : List ℤ) → ((j : ℕ) → j < c.count → IsGivenOn c i j (get_or made j (pos 0)))
-    → ((j : ℕ) → j < c.count → get_or out j (pos 0) ≡ chosen (is_kept (task_in c).world (task_in c).pipeline (sids_in (task_in c)) (node_in c).mask i (c.low + j)) (get_or made j (pos 0)) c.none)
+    → ((j : ℕ) → j < c.count → get_or out j (pos 0) ≡ chosen (is_kept (task_in c).world (task_in c).pipeline (sids_in (task_in c)) (node_in c).mask i (c.low + j)) (get_or made j (pos 0)) c.empty)
     → length out ≡ c.count → FillsLane c i out
 kept_lane c is i made out given kept size =
-    kept-cells (task_in c).world (task_in c).pipeline (sids_in (task_in c)) c.term.0 (node_in c) (λ j. i) (λ j. c.low + j) c.count (λ j. get_or made j (pos 0)) out c.none is.none kept size given
+    kept-cells (task_in c).world (task_in c).pipeline (sids_in (task_in c)) c.term.0 (node_in c) (λ j. i) (λ j. c.low + j) c.count (λ j. get_or made j (pos 0)) out c.empty is.empty kept size given

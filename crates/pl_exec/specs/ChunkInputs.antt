@@ -107,7 +107,7 @@ pub record IsTermSession (t : TermSession) : Type 0 where
   pub late : t.session ≤ t.chunk.now.to
   pub deep : (node_at t).window ≤ t.session + 1
   pub all : HasAll (task_at t).world (sids_in (task_at t)) t.session
-  pub none : t.none ≡ empty_cell (task_at t).pipeline t.term.0
+  pub empty : t.empty ≡ empty_cell (task_at t).pipeline t.term.0
 
 -- who is kept
 abbrev pub IsKept : TermSession → List ℤ → Type 0
@@ -129,18 +129,18 @@ pub record IsCourse (c : Course) : Type 0 where
   pub chunk : AreChunkInputs c.chunk.now
   pub run : IsRun (task_in c) c.workspace.now c.term.0
   pub node : slice_get (graph_in (task_in c)) c.term.0 ≡ Some (node_in c)
-  pub none : c.none ≡ empty_cell (task_in c).pipeline c.term.0
+  pub empty : c.empty ≡ empty_cell (task_in c).pipeline c.term.0
   pub low : c.low ≡ low_in (task_in c) c.term.0
   pub end : c.low + c.count ≡ c.chunk.now.to + 1
   pub some : 1 ≤ c.count
 
 -- a used term over the arrays in a workspace
 abbrev pub course_at : Bor ChunkInputs → TermId → Bor Node → Bor Slots → Course
-course_at j k n w = record { chunk = j; term = k; node = n; workspace = w; none = empty_cell (task_of j.now).pipeline k.0; low = low_in (task_of j.now) k.0; count = count_in (task_of j.now) k.0 }
+course_at j k n w = record { chunk = j; term = k; node = n; workspace = w; empty = empty_cell (task_of j.now).pipeline k.0; low = low_in (task_of j.now) k.0; count = count_in (task_of j.now) k.0 }
 
 -- on session j of them
 abbrev pub session_in : Course → ℕ → TermSession
-session_in c j = record { chunk = c.chunk; term = c.term; node = c.node; session = c.low + j; workspace = c.workspace; none = c.none }
+session_in c j = record { chunk = c.chunk; term = c.term; node = c.node; session = c.low + j; workspace = c.workspace; empty = c.empty }
 
 -- the cells of an asset
 abbrev pub FillsLane : Course → ℕ → List ℤ → Type 0

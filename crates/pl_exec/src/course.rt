@@ -12,14 +12,14 @@ use pl_terms::{Node, TermId};
 use pl_values::empty_value;
 use pl_workspace::Workspace;
 
-/// Term `term`, which is `node`, on `count` sessions from `low` on; `none` is its empty value.
+/// Term `term`, which is `node`, on `count` sessions from `low` on; `empty` is its empty value.
 #[derive(Clone, Copy)]
 pub(crate) struct Course<'t> {
     pub(crate) chunk: &'t ChunkInputs<'t>,
     pub(crate) term: TermId,
     pub(crate) node: &'t Node,
     pub(crate) workspace: &'t Workspace,
-    pub(crate) none: i64,
+    pub(crate) empty: i64,
     pub(crate) low: usize,
     pub(crate) count: usize,
 }
@@ -33,7 +33,7 @@ pub(crate) struct Lane<'t> {
 }
 
 // The empty value of a term.
-fn none_of(chunk: &ChunkInputs<'_>, term: TermId) -> i64
+fn empty_of(chunk: &ChunkInputs<'_>, term: TermId) -> i64
     requires { term.0 < length (graph_in (task_of chunk.now)) }
     ensures { result ≡ empty_cell (task_of chunk.now).pipeline term.0 }
 {
@@ -59,7 +59,7 @@ pub(crate) fn course_of<'t>(
         term,
         node,
         workspace,
-        none: none_of(chunk, term),
+        empty: empty_of(chunk, term),
         low,
         count: chunk.to + 1 - low,
     }
@@ -78,6 +78,6 @@ pub(crate) fn on_session<'t>(course: &Course<'t>, j: usize) -> TermSession<'t>
         node: course.node,
         session: course.low + j,
         workspace: course.workspace,
-        none: course.none,
+        empty: course.empty,
     }
 }

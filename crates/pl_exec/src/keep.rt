@@ -34,11 +34,11 @@ fn keep_cells(lane: &Lane<'_>, out: &mut [i64])
     ensures each { (j : ℕ) → j < lane.now.course.now.count → get_or out.new j (pos 0) ≡ chosen
         (is_kept (task_in lane.now.course.now).world (task_in lane.now.course.now).pipeline
         (sids_in (task_in lane.now.course.now)) (node_in lane.now.course.now).mask lane.now.i
-        (lane.now.course.now.low + j)) (get_or out.old j (pos 0)) lane.now.course.now.none }
+        (lane.now.course.now.low + j)) (get_or out.old j (pos 0)) lane.now.course.now.empty }
 {
     for j in 0..out.len() {
         let keep = is_kept(&on_session(lane.course, j), &lane.sources.mask, lane.i);
-        out[j] = choose(keep, out[j], lane.course.none);
+        out[j] = choose(keep, out[j], lane.course.empty);
     }
 }
 
@@ -50,7 +50,7 @@ pub(crate) fn keep_lane(lane: &Lane<'_>, out: &mut [i64])
     ensures each { (j : ℕ) → j < lane.now.course.now.count → get_or out.new j (pos 0) ≡ chosen
         (is_kept (task_in lane.now.course.now).world (task_in lane.now.course.now).pipeline
         (sids_in (task_in lane.now.course.now)) (node_in lane.now.course.now).mask lane.now.i
-        (lane.now.course.now.low + j)) (get_or out.old j (pos 0)) lane.now.course.now.none }
+        (lane.now.course.now.low + j)) (get_or out.old j (pos 0)) lane.now.course.now.empty }
 {
     if !is_kept_throughout(lane) {
         keep_cells(lane, out);

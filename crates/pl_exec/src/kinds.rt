@@ -81,7 +81,7 @@ fn downsampled_row(
         .sessions
         .period_start(frequency, term_session.session);
     cells_on(term_session, downsampled_input(term_session), start, out);
-    keep_values(keep, term_session.none, out);
+    keep_values(keep, term_session.empty, out);
 }
 
 /// Do the cells of the family's kinds come row by row? Those of the others come asset by asset.

@@ -14,7 +14,7 @@ use pl_terms::{Input, Node, TermId};
 use pl_values::{input_at, is_one, keep_values, mask_of, truth_of, window_of};
 use pl_workspace::Workspace;
 
-/// Term `term`, which is `node`, on a session; `none` is its empty value.
+/// Term `term`, which is `node`, on a session; `empty` is its empty value.
 #[derive(Clone, Copy)]
 pub(crate) struct TermSession<'t> {
     pub(crate) chunk: &'t ChunkInputs<'t>,
@@ -22,14 +22,14 @@ pub(crate) struct TermSession<'t> {
     pub(crate) node: &'t Node,
     pub(crate) session: usize,
     pub(crate) workspace: &'t Workspace,
-    pub(crate) none: i64,
+    pub(crate) empty: i64,
 }
 
 /// A cell where an asset is kept, and else the empty value.
-pub(crate) fn choose(keep: bool, cell: i64, none: i64) -> i64
-    ensures { result ≡ chosen keep cell none }
+pub(crate) fn choose(keep: bool, cell: i64, empty: i64) -> i64
+    ensures { result ≡ chosen keep cell empty }
 {
-    if keep { cell } else { none }
+    if keep { cell } else { empty }
 }
 
 // Does the asset in a place exist on the session of the day?

@@ -52,10 +52,6 @@ module _ (w : World) (sound : AreSound w) where
   pub start : IsStart (start_of_world w)
   start = record { sids_ascend = sound.assets.ascend; labels_in = sound.made.labels_in; numbers_in = sound.made.numbers_in }
 
-  pub last-is : (s : ℕ) → last_day (fed_days w s) ≡ day_before own_days s
-  last-is zero = refl
-  last-is (suc s) = refl
-
   pub later : (s : ℕ) → s < length own_days → IsLaterThan (last_day (fed_days w s)) (day_at own_days s)
   later zero h = tt
   later (suc s) h = sound.days.ascend s (suc s) (pos 0) (omega arith) h

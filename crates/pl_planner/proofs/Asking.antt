@@ -72,6 +72,44 @@ module _ (P : Ask → Type 0) where
       each_both P (filter_map (input_ask c n.window) n.inputs ++ number_asks b n.mask) (number_asks b n.group)
       (each_both P (filter_map (input_ask c n.window) n.inputs) (number_asks b n.mask) (each-inputs c n.window n.inputs x) (each-number b n.mask m)) (each-number b n.group g)
 
+-- ---- each is found among what it asks
+
+abbrev pub Found : List Ask → Ask → Type 0
+Found list a = (i : ℕ) × (slice_get list i ≡ Some a)
+
+in-front : (xs ys : List Ask) (a : Ask) → Found xs a → Found (xs ++ ys) a
+in-front xs ys a f = (f.0, front xs f.0 f.1)
+  where
+    front : (xs : List Ask) (i : ℕ) → slice_get xs i ≡ Some a → slice_get (xs ++ ys) i ≡ Some a
+    front [] i e = cc
+    front (x ∷ xs) zero e = e
+    front (x ∷ xs) (suc i) e = front xs i e
+
+behind : (xs ys : List Ask) (a : Ask) → Found ys a → Found (xs ++ ys) a
+behind [] ys a f = f
+behind (x ∷ xs) ys a f = let r = behind xs ys a f in (suc r.0, r.1)
+
+input-found : (back w : ℕ) (is : List Input) (i t : ℕ) → slice_get is i ≡ Some (TermInput t) → Found (filter_map (input_ask back w) is) (t, back + (w - 1))
+input-found back w [] i t e = cc
+input-found back w (BarColumn c ∷ is) zero t e = cc
+input-found back w (BarColumn c ∷ is) (suc i) t e = input-found back w is i t e
+input-found back w (TermInput k ∷ is) zero t e = let same : k ≡ t = cc in (0, ap (λ j. Some (let x : Ask = (j, back + (w - 1)) in x)) same)
+input-found back w (TermInput k ∷ is) (suc i) t e = let r = input-found back w is i t e in (suc r.0, r.1)
+
+module _ (c b : ℕ) (n : Node) where
+  abbrev read : List Ask
+  read = filter_map (input_ask c n.window) n.inputs
+
+  pub found-input : (i u : ℕ) → slice_get n.inputs i ≡ Some (TermInput u) → Found (asks_back c b n) (u, c + (n.window - 1))
+  found-input i u e =
+      in-front (read ++ number_asks b n.mask) (number_asks b n.group) (u, c + (n.window - 1)) (in-front read (number_asks b n.mask) (u, c + (n.window - 1)) (input-found c n.window n.inputs i u e))
+
+  pub found-mask : (u : ℕ) → n.mask ≡ Some u → Found (asks_back c b n) (u, b)
+  found-mask u e = in-front (read ++ number_asks b n.mask) (number_asks b n.group) (u, b) (behind read (number_asks b n.mask) (u, b) (rw e (0, refl)))
+
+  pub found-group : (u : ℕ) → n.group ≡ Some u → Found (asks_back c b n) (u, b)
+  found-group u e = behind (read ++ number_asks b n.mask) (number_asks b n.group) (u, b) (rw e (0, refl))
+
 pub lower-more : (n : Node) (a b : ℕ) → MentionsBelow n a → a ≤ b → MentionsBelow n b
 lower-more n a b h l = record {
   inputs = λ i k e. (let m : k < a = h.inputs i k e in omega arith);

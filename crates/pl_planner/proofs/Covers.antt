@@ -1,7 +1,7 @@
 -- What a plan says is what the definitions say.
-use Rattle.std.proofs.Common.{◌≡◌, ℕ, suc, ◌+◌, ◌-◌, ◌*◌, ◌<◌, ◌≤◌, Bool, true, false, ◌&&◌, max, nat_le, nat_lt, if◌then◌else◌, ℤ, pos, negsuc, ◌-ℤ◌, ◌≤ℤ◌, ◌<ℤ◌, List, [], ◌∷◌, length, map, fold, filter, AllPairs, Option, Some, None, refl, sym, ◌∙◌, ap, subst, arith, inl, inr, ◌⊎◌, slice_get, get_or, ◌==◌, leb-true}
+use Rattle.std.proofs.Common.{◌≡◌, ℕ, suc, ◌+◌, ◌-◌, ◌*◌, ◌<◌, ◌≤◌, Bool, true, false, ◌&&◌, max, nat_le, nat_lt, if◌then◌else◌, ℤ, pos, negsuc, ◌-ℤ◌, ◌≤ℤ◌, ◌<ℤ◌, List, length, map, fold, AllPairs, Option, Some, None, refl, sym, ◌∙◌, ap, subst, arith, inl, inr, ◌⊎◌, slice_get, get_or, leb-true}
 use Rattle.std.specs.List.{list_any, range_with_len, count_by}
-use Rattle.std.proofs.lemmas.Bool.{true≢false, cases_lt, or_right, eqb-true, and_from, and_parts}
+use Rattle.std.proofs.lemmas.Bool.{true≢false, cases_lt, or_right, and_from, and_parts}
 use Rattle.std.proofs.lemmas.Bool.Decides.{nat_tests}
 use Rattle.std.proofs.lemmas.Int.{ints}
 use Rattle.std.proofs.lemmas.Option.{slice_get_within}
@@ -29,28 +29,12 @@ use Rattle.pl_planner.specs.Laws.{ReadsAreCovered}
 use Rattle.pl_planner.proofs.Pipelines.{IsPipeline, is-pipeline}
 use Rattle.pl_planner.proofs.Gathers.{mention_of_ask}
 use Rattle.pl_planner.proofs.Counting.{count_more, most_in, columns-few}
-use Rattle.pl_planner.proofs.Live.{some_holds, used_within, live_is, bound_is}
+use Rattle.pl_planner.proofs.Live.{contains-filter, some_holds, used_within, live_is, bound_is}
 use Rattle.pl_planner.proofs.Lows.{Asked, asked-of, Back, needs-back, low-is, back-used, needs-rise}
 use Rattle.pl_planner.proofs.Tables.{ReachedAt, most-at, most-in, extra-used, extra-some}
 
--- ---- lists of chosen terms
-
-contains-filter : (f : ℕ → Bool) (xs : List ℕ) (t : ℕ) → contains (filter f xs) t ≡ (f t && contains xs t)
-contains-filter f [] t = none (f t)
-  where
-    none : (b : Bool) → false ≡ (b && false)
-    none true = refl
-    none false = refl
-contains-filter f (x ∷ xs) t = here (f x) refl (contains-filter f xs t) (x == t) refl
-  where
-    here : (b : Bool) → f x ≡ b → contains (filter f xs) t ≡ (f t && contains xs t) → (e : Bool) → (x == t) ≡ e → contains (filter f (x ∷ xs)) t ≡ (f t && contains (x ∷ xs) t)
-    here true h ih true q = let is : x ≡ t = eqb-true x t q in let ft : f t ≡ true = ap f (sym is) ∙ h in rw (h, q, ft) refl
-    here true h ih false q = rw (h, q) ih
-    here false h ih true q = let is : x ≡ t = eqb-true x t q in let ft : f t ≡ false = ap f (sym is) ∙ h in rw (h, ih, ft) refl
-    here false h ih false q = rw (h, q) ih
-
 pub live-intro : (p : Pipeline) (k t : ℕ) → is_live p.graph (outputs p) k t ≡ true → contains (used_terms p.graph (outputs p)) t ≡ true → IsLive p k t
-live-intro p k t a b = contains-filter (is_live p.graph (outputs p) k) (used_terms p.graph (outputs p)) t ∙ and_from _ _ a b
+live-intro p k t a b = contains-filter (is_live p.graph (outputs p) k) (used_terms p.graph (outputs p)) t ∙ and_from _ _ b a
 
 -- ---- what a used term reads is computed, and live
 
@@ -274,16 +258,9 @@ module _ (days : List ℤ) (rise : AllPairs (λ a b. a <ℤ b) days) (p : Pipeli
     live-kept : (k t : ℕ) → k < length g → contains (live_terms g outs k) t ≡ (nat_le t k && is_kept uses k t)
     live-kept k t h =
         contains-filter (is_live g outs k) (used_terms g outs) t
-        ∙ ap (λ b. is_live g outs k t && b) (sym (used-is t))
-        ∙ and-other (is_live g outs k t) (is_used plan t)
+        ∙ ap (λ b. b && is_live g outs k t) (sym (used-is t))
         ∙ used-live
       where
-        and-other : (a b : Bool) → (a && b) ≡ (b && a)
-        and-other true true = refl
-        and-other true false = refl
-        and-other false true = refl
-        and-other false false = refl
-
         used-live : (is_used plan t && is_live g outs k t) ≡ (nat_le t k && is_kept uses k t)
         used-live = ap (λ b. b && is_live g outs k t) (used-here t) ∙ live_is g outs uses ok.graph are k t h
 

@@ -1,10 +1,10 @@
 -- How far back terms are read, and the least session that a value needs.
-use Rattle.std.proofs.Common.{◌≡◌, ℕ, zero, suc, ◌+◌, ◌-◌, ◌-ℤ◌, ◌*◌, ◌<◌, ◌≤◌, Bool, true, false, max, ℤ, pos, ◌≤ℤ◌, ◌<ℤ◌, List, [], ◌∷◌, ◌++◌, length, map, filter_map, AllPairs, Option, Some, None, slice_get, replicate, refl, sym, ◌∙◌, ap, subst, arith, inl, inr, ◌⊎◌}
+use Rattle.std.proofs.Common.{◌≡◌, ℕ, zero, suc, ◌+◌, ◌-◌, ◌-ℤ◌, ◌*◌, ◌<◌, ◌≤◌, Bool, true, false, max, ℤ, pos, ◌≤ℤ◌, ◌<ℤ◌, List, [], ◌∷◌, length, map, AllPairs, Option, Some, None, slice_get, replicate, refl, sym, ◌∙◌, ap, subst, arith, inl, inr, ◌⊎◌}
 use Rattle.std.specs.List.{list_any}
 use Rattle.std.specs.Int.{int_min}
 use Rattle.std.proofs.lemmas.Int.{ints}
 use Rattle.std.proofs.lemmas.Bool.{cases_lt, cases_eq, true≢false}
-use Rattle.std.proofs.lemmas.List.{length-set, get_or-set_same, get_or-set_other, length-replicate}
+use Rattle.std.proofs.lemmas.List.{length-set, get_or-set_same, get_or-set_other, length-replicate, get_or_past}
 use Rattle.std.proofs.lemmas.Option.{slice_get_within}
 use Rattle.std.specs.Int.Signed.{≤ℤ_refl}
 use Rattle.pl_spec.specs.declared.Column.{Column}
@@ -22,34 +22,13 @@ use Rattle.pl_spec.proofs.Signed.{le-eq, min-either}
 use Rattle.pl_spec.proofs.Windows.{before-zero}
 use Rattle.pl_planner.specs.declared.uses.Use.{Use}
 use Rattle.pl_planner.specs.Uses.{all_asked, marked, unused, use_at}
-use Rattle.pl_planner.proofs.Asking.{Grows, all_given, all_grow, all_sound, each-asks}
-use Rattle.pl_planner.proofs.Gathers.{all_unused, back-few, back-of}
-use Rattle.pl_planner.specs.Extra.{Ask, asks, asks_back, back_from, input_ask, number_asks}
+use Rattle.pl_planner.proofs.Asking.{Found, Grows, all_given, all_grow, all_sound, each-asks, found-group, found-input, found-mask}
+use Rattle.pl_planner.proofs.Counting.{all_same}
+use Rattle.pl_planner.proofs.Gathers.{back-few, back-of}
+use Rattle.pl_planner.specs.Extra.{Ask, asks, asks_back, back_from}
 use Rattle.pl_planner.specs.Columns.{is_bar, own_depth}
 
-abbrev pub Found : List Ask → ℕ → ℕ → Type 0
-Found list j x = (i : ℕ) × (slice_get list i ≡ Some (let a : Ask = (j, x) in a))
-
 -- ---- what a node reads
-
-in-front : (xs ys : List Ask) (j x : ℕ) → Found xs j x → Found (xs ++ ys) j x
-in-front xs ys j x f = (f.0, front xs f.0 f.1)
-  where
-    front : (xs : List Ask) (i : ℕ) → slice_get xs i ≡ Some (let a : Ask = (j, x) in a) → slice_get (xs ++ ys) i ≡ Some (let a : Ask = (j, x) in a)
-    front [] i e = cc
-    front (y ∷ xs) zero e = e
-    front (y ∷ xs) (suc i) e = front xs i e
-
-behind : (xs ys : List Ask) (j x : ℕ) → Found ys j x → Found (xs ++ ys) j x
-behind [] ys j x f = f
-behind (y ∷ xs) ys j x f = let r = behind xs ys j x f in (suc r.0, r.1)
-
-input-found : (b w : ℕ) (is : List Input) (i u : ℕ) → slice_get is i ≡ Some (TermInput u) → Found (filter_map (input_ask b w) is) u (b + (w - 1))
-input-found b w [] i u e = cc
-input-found b w (BarColumn c ∷ is) zero u e = cc
-input-found b w (BarColumn c ∷ is) (suc i) u e = input-found b w is i u e
-input-found b w (TermInput k ∷ is) zero u e = let same : k ≡ u = cc in (0, ap (λ j. Some (let a : Ask = (j, b + (w - 1)) in a)) same)
-input-found b w (TermInput k ∷ is) (suc i) u e = let r = input-found b w is i u e in (suc r.0, r.1)
 
 bar-found : (is : List Input) (i : ℕ) (c : Column) → slice_get is i ≡ Some (BarColumn c) → list_any is_bar is ≡ true
 bar-found [] i c e = cc
@@ -65,11 +44,6 @@ pub has-bar : (is : List Input) → list_any is_bar is ≡ true → (i : ℕ) ×
 has-bar [] e = absurd (let bad : false ≡ true = e in cc)
 has-bar (BarColumn c ∷ is) e = (0, c, refl)
 has-bar (TermInput u ∷ is) e = let r = has-bar is e in (suc r.0, r.1, r.2)
-
-past_unused : (us : List Use) (k : ℕ) → length us ≤ k → use_at us k ≡ unused
-past_unused [] k h = refl
-past_unused (u ∷ us) zero h = absurd (omega arith)
-past_unused (u ∷ us) (suc k) h = past_unused us k (omega arith)
 
 -- ---- the least of some sessions is one of them
 
@@ -251,20 +225,7 @@ module _ (days : List ℤ) (up : AllPairs (λ a b. a <ℤ b) days) (g : Graph) (
               rw e (le-eq _ _ _ h (ap (λ z. before z n.window) moved ∙ before-more d c n.window))
 
       abbrev Attains : Type 0
-      Attains = (before d (own_depth c b n) ≤ℤ R k (before d b)) ⊎ ((u x : ℕ) × Found (asks_back c b n) u x × (R u (before d x) ≤ℤ R k (before d b)))
-
-      found-input : (i u : ℕ) → slice_get n.inputs i ≡ Some (TermInput u) → Found (asks_back c b n) u (c + (n.window - 1))
-      found-input i u e =
-          in-front (filter_map (input_ask c n.window) n.inputs ++ number_asks b n.mask) (number_asks b n.group) u (c + (n.window - 1))
-          (in-front (filter_map (input_ask c n.window) n.inputs) (number_asks b n.mask) u (c + (n.window - 1)) (input-found c n.window n.inputs i u e))
-
-      found-number : (u : ℕ) → (n.mask ≡ Some u) ⊎ (n.group ≡ Some u) → Found (asks_back c b n) u b
-      found-number u h =
-          let read = filter_map (input_ask c n.window) n.inputs in
-          elim h [
-            | inl e ↦ in-front (read ++ number_asks b n.mask) (number_asks b n.group) u b (behind read (number_asks b n.mask) u b (rw e (0, refl)))
-            | inr e ↦ behind (read ++ number_asks b n.mask) (number_asks b n.group) u b (rw e (0, refl))
-          ]
+      Attains = (before d (own_depth c b n) ≤ℤ R k (before d b)) ⊎ ((u x : ℕ) × Found (asks_back c b n) (u, x) × (R u (before d x) ≤ℤ R k (before d b)))
 
       own-more : b ≤ own_depth c b n
       own-more = here (list_any is_bar n.inputs) refl
@@ -287,8 +248,8 @@ module _ (days : List ℤ) (up : AllPairs (λ a b. a <ℤ b) days) (g : Graph) (
             (let e : own_depth c b n ≡ c + n.window = own-bars c b n (bar-found n.inputs r.0 r.1 r.2) in
             let same : before d (own_depth c b n) ≡ R k (before d b) = ap (before d) e ∙ sym (ap (λ z. before z n.window) moved ∙ before-more d c n.window) ∙ sym r.3 in
             inl (le-eq _ _ _ (≤ℤ_refl (before d (own_depth c b n))) same))
-        | inr (inr (inl r)) ↦ inr (r.1, c + (n.window - 1), found-input r.0 r.1 r.2, subst (λ z. R r.1 z ≤ℤ R k (before d b)) (ap (λ z. before z (n.window - 1)) moved ∙ before-more d c (n.window - 1)) r.3)
-        | inr (inr (inr r)) ↦ inr (r.0, b, found-number r.0 r.1, r.2)
+        | inr (inr (inl r)) ↦ inr (r.1, c + (n.window - 1), found-input c b n r.0 r.1 r.2, subst (λ z. R r.1 z ≤ℤ R k (before d b)) (ap (λ z. before z (n.window - 1)) moved ∙ before-more d c (n.window - 1)) r.3)
+        | inr (inr (inr r)) ↦ inr (r.0, b, (elim r.1 [ inl e ↦ found-mask c b n r.0 e | inr e ↦ found-group c b n r.0 e ]), r.2)
       ]
 
   -- ---- the pass from a term down
@@ -313,7 +274,7 @@ module _ (days : List ℤ) (up : AllPairs (λ a b. a <ℤ b) days) (g : Graph) (
         one : (j : ℕ) → (use_at us j).used ≡ true → (j ≡ t) × ((use_at us j).extra ≡ 0)
         one j u = elim (cases_eq j t) [
           | inl s ↦ (s, ap (λ i. (use_at us i).extra) s ∙ ap (λ (x : Use). x.extra) at)
-          | inr n ↦ absurd (true≢false (sym u ∙ ap (λ (x : Use). x.used) (ap (λ l. use_at l j) e ∙ get_or-set_other (replicate (t + 1) unused) t j first unused n ∙ all_unused (t + 1) j)))
+          | inr n ↦ absurd (true≢false (sym u ∙ ap (λ (x : Use). x.used) (ap (λ l. use_at l j) e ∙ get_or-set_other (replicate (t + 1) unused) t j first unused n ∙ all_same (t + 1) j unused)))
         ]
 
         same : (j b : ℕ) → j ≡ t → b ≡ 0 → R t (pos d) ≡ R j (before (pos d) b)
@@ -353,7 +314,7 @@ module _ (days : List ℤ) (up : AllPairs (λ a b. a <ℤ b) days) (g : Graph) (
       low-k : k ≤ t
       low-k = elim (cases_lt t k) [
         | inr l ↦ l
-        | inl l ↦ absurd (true≢false (sym u ∙ ap (λ (x : Use). x.used) (past_unused us k (omega (arith, h.long, l)))))
+        | inl l ↦ absurd (true≢false (sym u ∙ ap (λ (x : Use). x.used) (get_or_past us k unused (omega (arith, h.long, l)))))
       ]
 
       asked-low : (i : ℕ) (a : Ask) → slice_get list i ≡ Some a → (a.0 < k) × (a.1 ≤ c + (n.window - 1)) × (R k (before (pos d) b) ≤ℤ R a.0 (before (pos d) a.1))
@@ -413,16 +374,6 @@ module _ (days : List ℤ) (up : AllPairs (λ a b. a <ℤ b) days) (g : Graph) (
         room_own = (let few : own_depth c b n ≤ c + 1260 = own-few k n at (pos d) b c moved in let room-b : b + 1260 * k ≤ d + 1260 * t = h.room k u in let near : c ≤ max b d = back-few days d n.kind b in
             omega (arith, few, h.room_own, room-b, near, low-k));
       })
-
-    pub passed : (us : List Use) (k deepest : ℕ) → Covers days g t d us (k + 1) deepest → (use_at us k).used ≡ false → Covers days g t d us k deepest
-    passed us k deepest h e = record { long = h.long; own = h.own; marked = h.marked; met = meets h.met; room = h.room; room_own = h.room_own }
-      where
-        meets : Meets days g t d us (k + 1) deepest → Meets days g t d us k deepest
-        meets (inl l) = inl l
-        meets (inr r) = elim (cases_lt r.0 k) [
-          | inl below ↦ inr (r.0, below, r.2, r.3)
-          | inr above ↦ absurd (let last : r.0 ≡ k = (let l : r.0 < k + 1 = r.1 in omega arith) in true≢false (sym r.2 ∙ ap (λ j. (use_at us j).used) last ∙ e))
-        ]
 
     pub ended : (us : List Use) (deepest : ℕ) → Covers days g t d us 0 deepest → before (pos d) deepest ≡ R t (pos d)
     ended us deepest h = here h.met

@@ -17,6 +17,7 @@ use Rattle.pl_planner.specs.Extra as extra
 use Rattle.pl_planner.specs.Extra.{Ask, back_from, input_ask, number_asks, asks, asks_of, asks_at, IsBack, IsExtra}
 use Rattle.pl_planner.specs.Uses.{unused, use_at, all_asked, marked, all_marked, AreUses, HaveExtras}
 use Rattle.pl_spec.proofs.Each.{each_at}
+use Rattle.pl_planner.proofs.Counting.{all_same}
 use Rattle.pl_planner.proofs.Asking.{Grows, all_grow, all_given, all_sound, all_else, each-asks}
 
 -- ---- what a node asks of is what it mentions
@@ -309,11 +310,6 @@ marked_at count (o ∷ outs) us t within =
       | inr p ↦ tail p
     ]
 
-pub all_unused : (n t : ℕ) → use_at (replicate n unused) t ≡ unused
-all_unused zero t = refl
-all_unused (suc n) zero = refl
-all_unused (suc n) (suc t) = all_unused n t
-
 after_all_terms : (g : Graph) (u t : ℕ) → length g ≤ u → contains (mentions_at g u) t ≡ true → ⊥
 after_all_terms g u t h c = let e : slice_get g u ≡ None = slice_get_past g u h in let none = rw e at c in true≢false (sym none)
 
@@ -336,7 +332,7 @@ begun days s g outputs within =
         × (((contains outputs t ≡ true) × ((use_at (all_marked (replicate (length g) unused) (length g) outputs) t).last ≡ length g)) ⊎ (Used g outputs (use_at (all_marked (replicate (length g) unused) (length g) outputs) t).last × (contains (mentions_at g (use_at (all_marked (replicate (length g) unused) (length g) outputs) t).last) t ≡ true)))
     here t true e lo h = rw ((marked_at (length g) outputs (replicate (length g) unused) t lo).0 e) (extra.output e, inl (e, refl))
     here t false e lo h =
-        let is = (marked_at (length g) outputs (replicate (length g) unused) t lo).1 e ∙ all_unused (length g) t in
+        let is = (marked_at (length g) outputs (replicate (length g) unused) t lo).1 e ∙ all_same (length g) t unused in
         absurd (true≢false (sym h ∙ ap (λ (x : Use). x.used) is))
 
 -- ---- the sums stay small

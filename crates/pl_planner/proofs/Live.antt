@@ -3,6 +3,7 @@ use Rattle.std.proofs.Common.{◌≡◌, ℕ, zero, suc, ◌+◌, ◌-◌, ◌<�
 use Rattle.std.specs.List.{range_with_len, count_by, list_any}
 use Rattle.std.proofs.lemmas.Bool.Decides.{nat_tests}
 use Rattle.std.proofs.lemmas.Bool.{cases_lt, true≢false, or_cases, or_left, or_right, eq-eqb, eqb-true, and_from, and_parts}
+use Rattle.std.proofs.lemmas.List.{get_or_past}
 use Rattle.std.proofs.lemmas.List.Elements.{filter-append}
 use Rattle.std.proofs.lemmas.List.Sums.{length-filter}
 use Rattle.std.proofs.lemmas.List.Folds.{list_any-append}
@@ -51,6 +52,22 @@ module _ (g : Graph) where
           let back : [] ≡ filter q (n ∷ []) = rw own refl in
           ap (λ l. l ++ []) front ∙ ap (λ l. filter q (range_with_len 0 n) ++ l) back ∙ sym split
 
+-- ---- a list of chosen terms
+
+pub contains-filter : (p : ℕ → Bool) (xs : List ℕ) (t : ℕ) → contains (filter p xs) t ≡ (contains xs t && p t)
+contains-filter p [] t = refl
+contains-filter p (x ∷ xs) t = here (p x) refl (x == t) refl (contains-filter p xs t)
+  where
+    here : (b : Bool) → p x ≡ b → (c : Bool) → (x == t) ≡ c → contains (filter p xs) t ≡ (contains xs t && p t) → contains (filter p (x ∷ xs)) t ≡ (contains (x ∷ xs) t && p t)
+    here true e true f ih = let s : p t ≡ true = ap p (sym (eqb-true x t f)) ∙ e in rw (e, f, s) refl
+    here true e false f ih = rw (e, f) ih
+    here false e true f ih = let s : p t ≡ false = ap p (sym (eqb-true x t f)) ∙ e in rw (e, f) (ih ∙ rw s (and_false (contains xs t)))
+      where
+        and_false : (a : Bool) → (a && false) ≡ false
+        and_false true = refl
+        and_false false = refl
+    here false e false f ih = rw (e, f) ih
+
 -- ---- a test of some of a list
 
 pub record Some_of (f : ℕ → Bool) (xs : List ℕ) : Type 0 where
@@ -78,13 +95,30 @@ le_not a b h l = grind (arith, nat_tests)
 pub used_within : (g : Graph) (outputs : List ℕ) (ok : IsGraph g) {uses : List Use} → AreUses g outputs uses → (t : ℕ) → Used g outputs t → t < length g
 used_within g outputs ok {uses} are t u = elim (cases_lt t (length g)) [
   | inl p ↦ p
-  | inr p ↦ absurd (true≢false (sym ((are.used t).1 u) ∙ ap (λ (x : Use). x.used) (past uses t (let s = are.size in omega arith))))
+  | inr p ↦ absurd (true≢false (sym ((are.used t).1 u) ∙ ap (λ (x : Use). x.used) (get_or_past uses t unused (let s = are.size in omega arith))))
 ]
-  where
-    past : (us : List Use) (j : ℕ) → length us ≤ j → use_at us j ≡ unused
-    past [] j h = refl
-    past (x ∷ xs) zero h = absurd (omega arith)
-    past (x ∷ xs) (suc j) h = past xs j (omega arith)
+
+-- ---- what is held at once
+
+-- by which terms are used, and which are kept with a term
+module _ (g : Graph) (outputs : List ℕ) (used : ℕ → Bool) (kept : ℕ → ℕ → Bool) (listed : used_terms g outputs ≡ filter used (range_with_len 0 (length g)))
+    (lives : (k t : ℕ) → k < length g → (used t && is_live g outputs k t) ≡ (nat_le t k && kept k t)) where
+  live_count : (k : ℕ) → k < length g → length (live_terms g outputs k) ≡ count_by (kept k) (range_with_len 0 (k + 1))
+  live_count k h =
+      let long : length g ≡ k + 1 + (length g - (k + 1)) = omega arith in
+      ap (λ l. length (filter (is_live g outputs k) l)) listed
+      ∙ ap length (filter-twice (is_live g outputs k) used (range_with_len 0 (length g)))
+      ∙ length-filter (λ t. used t && is_live g outputs k t) (range_with_len 0 (length g))
+      ∙ count_same (λ t. used t && is_live g outputs k t) (λ t. nat_le t k && kept k t) (λ t. lives k t h) (range_with_len 0 (length g))
+      ∙ ap (λ n. count_by (λ t. nat_le t k && kept k t) (range_with_len 0 n)) long
+      ∙ count_cut (kept k) k (length g - (k + 1))
+
+  pub bound_held : fold max 0 (map (λ k. if used k then count_by (kept k) (range_with_len 0 (k + 1)) + columns_at g k else 0) (range_with_len 0 (length g))) ≡ bound g outputs
+  bound_held =
+      most_same (λ k. if used k then count_by (kept k) (range_with_len 0 (k + 1)) + columns_at g k else 0) (λ k. if used k then length (live_terms g outputs k) + columns_at g k else 0) (length g)
+      (λ k h. ap (λ n. if used k then n + columns_at g k else 0) (sym (live_count k h)))
+      ∙ sym (most_chosen (λ k. length (live_terms g outputs k) + columns_at g k) used (range_with_len 0 (length g)) 0)
+      ∙ ap (λ l. fold max 0 (map (λ k. length (live_terms g outputs k) + columns_at g k) l)) (sym listed)
 
 module _ (g : Graph) (outputs : List ℕ) (uses : List Use) (ok : IsGraph g) (are : AreUses g outputs uses) where
   abbrev used : ℕ → Bool
@@ -136,19 +170,5 @@ module _ (g : Graph) (outputs : List ℕ) (uses : List Use) (ok : IsGraph g) (ar
       here false e true l = rw (e, l) refl
       here false e false l = rw (e, l) refl
 
-  live_count : (k : ℕ) → k < length g → length (live_terms g outputs k) ≡ count_by (is_kept uses k) (range_with_len 0 (k + 1))
-  live_count k h =
-      let long : length g ≡ k + 1 + (length g - (k + 1)) = omega arith in
-      ap (λ l. length (filter (is_live g outputs k) l)) used_listed
-      ∙ ap length (filter-twice (is_live g outputs k) used (range_with_len 0 (length g)))
-      ∙ length-filter (λ t. used t && is_live g outputs k t) (range_with_len 0 (length g))
-      ∙ count_same (λ t. used t && is_live g outputs k t) (λ t. nat_le t k && is_kept uses k t) (λ t. live_is k t h) (range_with_len 0 (length g))
-      ∙ ap (λ n. count_by (λ t. nat_le t k && is_kept uses k t) (range_with_len 0 n)) long
-      ∙ count_cut (is_kept uses k) k (length g - (k + 1))
-
   pub bound_is : fold max 0 (map (held_at g uses) (range_with_len 0 (length g))) ≡ bound g outputs
-  bound_is =
-      most_same (held_at g uses) (λ k. if used k then length (live_terms g outputs k) + columns_at g k else 0) (length g)
-      (λ k h. ap (λ n. if used k then n + columns_at g k else 0) (sym (live_count k h)))
-      ∙ sym (most_chosen (λ k. length (live_terms g outputs k) + columns_at g k) used (range_with_len 0 (length g)) 0)
-      ∙ ap (λ l. fold max 0 (map (λ k. length (live_terms g outputs k) + columns_at g k) l)) (sym used_listed)
+  bound_is = bound_held g outputs used (is_kept uses) used_listed live_is

@@ -1,7 +1,7 @@
 -- Lows by the definitions, from the numbers of sessions that terms are read back; and the least reach.
-use Rattle.std.proofs.Common.{◌≡◌, ℕ, zero, suc, ◌+◌, ◌-◌, ◌<◌, ◌≤◌, Bool, true, false, max, ℤ, pos, ◌-ℤ◌, ◌≤ℤ◌, ◌<ℤ◌, List, [], ◌∷◌, ◌++◌, length, map, filter_map, AllPairs, Option, Some, None, refl, sym, ◌∙◌, ap, subst, arith, inl, inr, slice_get, ◌==◌}
+use Rattle.std.proofs.Common.{◌≡◌, ℕ, zero, suc, ◌+◌, ◌-◌, ◌<◌, ◌≤◌, Bool, true, false, max, ℤ, pos, ◌-ℤ◌, ◌≤ℤ◌, ◌<ℤ◌, List, [], ◌∷◌, length, map, filter_map, AllPairs, Option, Some, None, refl, sym, ◌∙◌, ap, subst, arith, inl, inr, slice_get, ◌==◌}
 use Rattle.std.specs.List.{list_any}
-use Rattle.std.proofs.lemmas.Bool.{true≢false, cases_lt, or_cases, eqb-true, eq-eqb, or_left, or_right}
+use Rattle.std.proofs.lemmas.Bool.{cases_lt, eq-eqb, or_left, or_right}
 use Rattle.std.proofs.lemmas.Int.{ints}
 use Rattle.pl_spec.specs.Window.{before}
 use Rattle.pl_pipeline.specs.Term.{Input, Node, Graph, term_at}
@@ -12,10 +12,12 @@ use Rattle.pl_laws.specs.LowLaws.{ReachCovers, bar_from, own_from}
 use Rattle.pl_laws.proofs.Reaches.{AllFrom, below_least}
 use Rattle.pl_laws.proofs.Lows.{reach-covers, reaches-meet, reads-rise, least_above}
 use Rattle.pl_planner.specs.declared.uses.Use.{Use}
-use Rattle.pl_planner.specs.Extra.{Ask, back_from, input_ask, number_asks, asks, asks_of, asks_at, IsBack, IsExtra}
+use Rattle.pl_planner.specs.Extra.{Ask, back_from, asks, asks_of, asks_at, IsBack, IsExtra}
 use Rattle.pl_planner.specs.Uses.{use_at, AreUses, HaveExtras}
 use Rattle.pl_planner.specs.Columns.{is_bar, bars_back, node_back, reads_back, most_back}
-use Rattle.pl_planner.proofs.Pipelines.{IsPipeline}
+use Rattle.pl_spec.proofs.Each.{each_at}
+use Rattle.pl_planner.proofs.Asking.{Found, each-asks, found-group, found-input, found-mask}
+use Rattle.pl_planner.proofs.Pipelines.{IsPipeline, output-below}
 use Rattle.pl_planner.proofs.Gathers.{mention_of_ask, back-of, back-rises}
 use Rattle.pl_planner.proofs.Counting.{most_in, most_more}
 use Rattle.pl_planner.proofs.Live.{used_within}
@@ -23,71 +25,19 @@ use Rattle.pl_planner.proofs.Depths.{has-bar}
 
 -- ---- what a node asks for is what it reads
 
-abbrev Each : (Ask → Type 0) → List Ask → Type 0
-Each P list = (i : ℕ) (a : Ask) → slice_get list i ≡ Some a → P a
-
-each-append : (P : Ask → Type 0) (xs ys : List Ask) → Each P xs → Each P ys → Each P (xs ++ ys)
-each-append P [] ys h k i a e = k i a e
-each-append P (x ∷ xs) ys h k zero a e = h 0 a e
-each-append P (x ∷ xs) ys h k (suc i) a e = each-append P xs ys (λ j b f. h (suc j) b f) k i a e
-
-each-input : (P : Ask → Type 0) (back w : ℕ) (is : List Input) → ((i t : ℕ) → slice_get is i ≡ Some (TermInput t) → P (t, back + (w - 1))) → Each P (filter_map (input_ask back w) is)
-each-input P back w [] h i a e = cc
-each-input P back w (BarColumn c ∷ is) h i a e = each-input P back w is (λ j t f. h (suc j) t f) i a e
-each-input P back w (TermInput t ∷ is) h zero a e = let is : (let x : Ask = (t, back + (w - 1)) in x) ≡ a = cc in subst P is (h 0 t refl)
-each-input P back w (TermInput t ∷ is) h (suc i) a e = each-input P back w is (λ j u f. h (suc j) u f) i a e
-
-each-number : (P : Ask → Type 0) (m : ℕ) (o : Option ℕ) → ((t : ℕ) → o ≡ Some t → P (t, m)) → Each P (number_asks m o)
-each-number P m None h i a e = cc
-each-number P m (Some t) h zero a e = let is : (let x : Ask = (t, m) in x) ≡ a = cc in subst P is (h t refl)
-each-number P m (Some t) h (suc i) a e = cc
-
 -- the first session of an input that is read
 read-before : (days : List ℤ) (s : ℕ) (n : Node) (m : ℕ) → before (reads_at days n.kind (pos s -ℤ pos m)) (n.window - 1) ≡ pos s -ℤ pos (back_from days s n.kind m + (n.window - 1))
 read-before days s n m = let e = back-of days s n.kind m in omega (arith, ints)
 
 module _ (days : List ℤ) (s : ℕ) (n : Node) (m : ℕ) where
-  Read : Ask → Type 0
+  abbrev Read : Ask → Type 0
   Read a = Reads days n (pos s -ℤ pos m) a.0 (pos s -ℤ pos a.1)
 
-  ask-reads : Each Read (asks days s n m)
-  unfolding Read
-  ask-reads =
-      each-append Read (filter_map (input_ask (back_from days s n.kind m) n.window) n.inputs ++ number_asks m n.mask) (number_asks m n.group)
-      (each-append Read (filter_map (input_ask (back_from days s n.kind m) n.window) n.inputs) (number_asks m n.mask)
-      (each-input Read (back_from days s n.kind m) n.window n.inputs (λ i t e. subst (Reads days n (pos s -ℤ pos m) t) (read-before days s n m) (Reads.input i e)))
-      (each-number Read m n.mask (λ t e. Reads.mask e))) (each-number Read m n.group (λ t e. Reads.group e))
-
   pub read-of : (i : ℕ) (a : Ask) → slice_get (asks days s n m) i ≡ Some a → Reads days n (pos s -ℤ pos m) a.0 (pos s -ℤ pos a.1)
-  unfolding Read
-  read-of i a e = ask-reads i a e
+  read-of i a e = each_at Read (asks days s n m) i a
+      (each-asks Read (back_from days s n.kind m) m n (λ j t f. subst (Reads days n (pos s -ℤ pos m) t) (read-before days s n m) (Reads.input j f)) (λ t f. Reads.mask f) (λ t f. Reads.group f)) e
 
 -- ---- and what it reads it asks for
-
-abbrev Found : List Ask → Ask → Type 0
-Found list a = (i : ℕ) × (slice_get list i ≡ Some a)
-
-in-front : (xs ys : List Ask) (a : Ask) → Found xs a → Found (xs ++ ys) a
-in-front xs ys a f = (f.0, front xs f.0 f.1)
-  where
-    front : (xs : List Ask) (i : ℕ) → slice_get xs i ≡ Some a → slice_get (xs ++ ys) i ≡ Some a
-    front [] i e = cc
-    front (x ∷ xs) zero e = e
-    front (x ∷ xs) (suc i) e = front xs i e
-
-behind : (xs ys : List Ask) (a : Ask) → Found ys a → Found (xs ++ ys) a
-behind [] ys a f = f
-behind (x ∷ xs) ys a f = let r = behind xs ys a f in (suc r.0, r.1)
-
-input-found : (back w : ℕ) (is : List Input) (i t : ℕ) → slice_get is i ≡ Some (TermInput t) → Found (filter_map (input_ask back w) is) (t, back + (w - 1))
-input-found back w [] i t e = cc
-input-found back w (BarColumn c ∷ is) zero t e = cc
-input-found back w (BarColumn c ∷ is) (suc i) t e = input-found back w is i t e
-input-found back w (TermInput k ∷ is) zero t e = let same : k ≡ t = cc in (0, ap (λ j. Some (let x : Ask = (j, back + (w - 1)) in x)) same)
-input-found back w (TermInput k ∷ is) (suc i) t e = let r = input-found back w is i t e in (suc r.0, r.1)
-
-number-found : (m : ℕ) (o : Option ℕ) (t : ℕ) → o ≡ Some t → Found (number_asks m o) (t, m)
-number-found m o t e = rw e (0, refl)
 
 module _ (days : List ℤ) (s : ℕ) (n : Node) (m : ℕ) where
   -- so many sessions before s
@@ -97,23 +47,9 @@ module _ (days : List ℤ) (s : ℕ) (n : Node) (m : ℕ) where
     pub is : r ≡ pos s -ℤ pos back
 
   pub asked-of : (t : ℕ) (r : ℤ) → Reads days n (pos s -ℤ pos m) t r → Asked t r
-  asked-of t r (Reads.input i e) = record {
-    back = back_from days s n.kind m + (n.window - 1);
-    found = in-front (filter_map (input_ask (back_from days s n.kind m) n.window) n.inputs ++ number_asks m n.mask) (number_asks m n.group) (t, back_from days s n.kind m + (n.window - 1))
-        (in-front (filter_map (input_ask (back_from days s n.kind m) n.window) n.inputs) (number_asks m n.mask) (t, back_from days s n.kind m + (n.window - 1)) (input-found (back_from days s n.kind m) n.window n.inputs i t e));
-    is = read-before days s n m;
-  }
-  asked-of t r (Reads.mask e) = record {
-    back = m;
-    found = in-front (filter_map (input_ask (back_from days s n.kind m) n.window) n.inputs ++ number_asks m n.mask) (number_asks m n.group) (t, m)
-        (behind (filter_map (input_ask (back_from days s n.kind m) n.window) n.inputs) (number_asks m n.mask) (t, m) (number-found m n.mask t e));
-    is = refl;
-  }
-  asked-of t r (Reads.group e) = record {
-    back = m;
-    found = behind (filter_map (input_ask (back_from days s n.kind m) n.window) n.inputs ++ number_asks m n.mask) (number_asks m n.group) (t, m) (number-found m n.group t e);
-    is = refl;
-  }
+  asked-of t r (Reads.input i e) = record { back = back_from days s n.kind m + (n.window - 1); found = found-input (back_from days s n.kind m) m n i t e; is = read-before days s n m }
+  asked-of t r (Reads.mask e) = record { back = m; found = found-mask (back_from days s n.kind m) m n t e; is = refl }
+  asked-of t r (Reads.group e) = record { back = m; found = found-group (back_from days s n.kind m) m n t e; is = refl }
 
 -- ---- lows
 
@@ -215,17 +151,10 @@ module _ (days : List ℤ) (rise : AllPairs (λ a b. a <ℤ b) days) (g : Graph)
   wide : (k : ℕ) (n : Node) → slice_get g k ≡ Some n → 1 ≤ n.window
   wide k n e = (ok.windows k n e).0
 
-  output-within : (os : List ℕ) (t : ℕ) → contains os t ≡ true → ((i o : ℕ) → slice_get os i ≡ Some o → o < length g) → t < length g
-  output-within [] t h within = absurd (true≢false (sym h))
-  output-within (o ∷ os) t h within = elim (or_cases (o == t) (contains os t) h) [
-    | inl p ↦ (let is : o ≡ t = eqb-true o t p in let l = within 0 o refl in omega arith)
-    | inr p ↦ output-within os t p (λ i x e. within (suc i) x e)
-  ]
-
   -- what an output reaches lies no farther back
   reach-above : (t : ℕ) → contains outs t ≡ true → (pos s -ℤ pos most) ≤ℤ reach days (term_at g t) (pos s)
   reach-above t h =
-      let met = reaches-meet days rise g ok.graph wide outs (pos s) t (pos s) (output-within outs t h ok.outputs_in) (Needs.output h) in
+      let met = reaches-meet days rise g ok.graph wide outs (pos s) t (pos s) (output-below g outs ok t h) (Needs.output h) in
       above met.0 met.1 met.2 met.3 met.4 met.5
     where
       above : (u : ℕ) (n : Node) (r : ℤ) → Needs days g outs (pos s) u r → slice_get g u ≡ Some n → own_from days n r ≡ reach days (term_at g t) (pos s) → (pos s -ℤ pos most) ≤ℤ reach days (term_at g t) (pos s)

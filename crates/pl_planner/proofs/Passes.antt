@@ -1,42 +1,27 @@
 -- The pass from the last term to the first over the pipelines of the language.
-use Rattle.std.proofs.Common.{◌≡◌, ℕ, zero, suc, ◌+◌, ◌*◌, ◌-◌, ◌<◌, ◌≤◌, Bool, true, false, ℤ, ◌<ℤ◌, AllPairs, List, [], ◌∷◌, length, Some, refl, sym, ap, subst, arith, inl, inr, slice_get, ◌==◌, replicate}
+use Rattle.std.proofs.Common.{◌≡◌, ℕ, zero, suc, ◌+◌, ◌*◌, ◌-◌, ◌<◌, ◌≤◌, Bool, true, false, ℤ, ◌<ℤ◌, AllPairs, List, length, Some, refl, ap, subst, arith, slice_get, replicate}
 use Rattle.std.specs.List.{list_any}
-use Rattle.std.proofs.lemmas.Bool.{true≢false, or_cases, eqb-true}
 use Rattle.std.proofs.lemmas.Option.{slice_get_within}
 use Rattle.pl_pipeline.specs.Term.{Node, Graph, MentionsBelow}
-use Rattle.pl_pipeline.specs.Graph.{contains}
 use Rattle.pl_pipeline.specs.Kind.{Kind}
 use Rattle.pl_planner.specs.declared.uses.Use.{Use}
 use Rattle.pl_planner.specs.Extra.{asks, asks_of, asks_at, back_from, IsBack}
 use Rattle.pl_planner.specs.Columns.{is_bar, bars_back}
 use Rattle.pl_planner.specs.Uses.{unused, use_at, all_asked, all_marked, AreUses, HaveExtras}
-use Rattle.pl_planner.proofs.Pipelines.{IsPipeline}
+use Rattle.pl_planner.proofs.Pipelines.{IsPipeline, output-below}
 use Rattle.pl_planner.proofs.Asking.{lower-more}
 use Rattle.pl_planner.proofs.Gathers.{AreGathered, begun, step, gathered, extras, needed_few, back-few}
 
 module _ (days : List ℤ) (rise : AllPairs (λ a b. a <ℤ b) days) (s : ℕ) (g : Graph) (outs : List ℕ) (ok : IsPipeline g outs) where
-  outputs_in : (i o : ℕ) → slice_get outs i ≡ Some o → o < length g
-  outputs_in = ok.outputs_in
-
-  outputs_below : (t : ℕ) → contains outs t ≡ true → t < length g
-  outputs_below t h = here outs outputs_in h
-    where
-      here : (os : List ℕ) → ((i o : ℕ) → slice_get os i ≡ Some o → o < length g) → contains os t ≡ true → t < length g
-      here [] in_graph h = absurd (true≢false (sym h))
-      here (o ∷ os) in_graph h = elim (or_cases (o == t) (contains os t) h) [
-        | inl p ↦ (let is : o ≡ t = eqb-true o t p in let l = in_graph 0 o refl in omega arith)
-        | inr p ↦ here os (λ i x e. in_graph (suc i) x e) p
-      ]
-
   pub pass_begun : (us : List Use) (n : ℕ) → n ≡ length g → us ≡ all_marked (replicate (length g) unused) n outs → AreGathered days s g outs n us
-  pass_begun us n e f = rw (f, e) (begun days s g outs outputs_in)
+  pass_begun us n e f = rw (f, e) (begun days s g outs ok.outputs_in)
 
   pub pass_node : (k : ℕ) (n : Node) → slice_get g k ≡ Some n → (1 ≤ n.window) × (n.window ≤ 1260)
   pass_node k n e = ok.windows k n e
 
   -- no term is computed so many sessions early
   few-back : length g ≤ 256 → (t n : ℕ) → IsBack days s g outs t n → n ≤ s + 1260 * 256
-  few-back few t n b = let l = (needed_few days rise s g outs ok.graph outputs_below (λ j n e. (ok.windows j n e).1) t n b).0 in omega arith
+  few-back few t n b = let l = (needed_few days rise s g outs ok.graph (output-below g outs ok) (λ j n e. (ok.windows j n e).1) t n b).0 in omega arith
 
   back-short : (k : Kind) (n : ℕ) → n ≤ s + 1260 * 256 → back_from days s k n ≤ s + 1260 * 256
   back-short k n h = let l = back-few days s k n in omega arith

@@ -84,6 +84,9 @@ pub record IsPipeline (g : Graph) (outs : List ℕ) : Type 0 where
   pub windows : (k : ℕ) (n : Node) → slice_get g k ≡ Some n → (1 ≤ n.window) × (n.window ≤ 1260)
   pub reads : (k : ℕ) (n : Node) → slice_get g k ≡ Some n → ReadsTerms n
 
+pub output-below : (g : Graph) (outs : List ℕ) → IsPipeline g outs → (t : ℕ) → contains outs t ≡ true → t < length g
+output-below g outs is t h = let at = place-of outs t h in is.outputs_in at.0 t at.1
+
 columns-in : (g : Graph) (cs : List NamedColumn) (screen : Option ℕ) → ((i : ℕ) (c : NamedColumn) → slice_get cs i ≡ Some c → c.term < length g)
     → ((t : ℕ) → screen ≡ Some t → t < length g) → (i o : ℕ) → slice_get (map (λ (c : NamedColumn). c.term) cs ++ option_to_list screen) i ≡ Some o → o < length g
 columns-in g [] None cols scr i o e = cc

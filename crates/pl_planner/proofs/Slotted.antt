@@ -1,36 +1,24 @@
 -- Slots that are taken, and the lowest free one.
-use Rattle.std.proofs.Common.{◌≡◌, ◌≢◌, ℕ, zero, suc, ◌+◌, ◌<◌, ◌≤◌, ◌⊎◌, Bool, true, false, ◌||◌, List, [], ◌∷◌, ◌++◌, length, get_or, set, replicate, sum_by, fold, refl, sym, ◌∙◌, ap, subst, arith, inl, inr, get_or-set_same, get_or-set_other, length-set}
+use Rattle.std.proofs.Common.{◌≡◌, ◌≢◌, ℕ, zero, suc, ◌+◌, ◌*◌, ◌<◌, ◌≤◌, ◌⊎◌, Bool, true, false, ◌||◌, List, [], ◌∷◌, ◌++◌, length, get_or, set, replicate, sum_by, fold, refl, sym, ◌∙◌, ap, subst, arith, inl, inr, get_or-set_same, get_or-set_other, length-set}
 use Rattle.std.specs.List.{range_with_len, count_by}
 use Rattle.std.proofs.lemmas.Bool.{cases_lt, cases_eq, true≢false, or_cases, or_left, or_right}
 use Rattle.std.proofs.lemmas.List.Sums.{sum_by-set}
-use Rattle.std.proofs.lemmas.List.{length_push}
+use Rattle.std.proofs.lemmas.List.{get_or_append_left, get_or_past, get_or_push, length-replicate, length_push}
+use Rattle.std.proofs.lemmas.List.Folds.{sum_by-replicate}
 use Rattle.pl_planner.specs.declared.uses.Use.{Use}
 use Rattle.pl_planner.specs.declared.slots.TermSlots.{TermSlots}
 use Rattle.pl_planner.specs.Uses.{is_kept}
 use Rattle.pl_planner.specs.Slotting.{no_slots, slots_at, own_slot, kept_below, one, IsHad, IsHadBefore, IsLowest, IsSlotted, AreSlotted, Takes, Tells, IsTaken}
-use Rattle.pl_planner.proofs.Counting.{count_more, one-or}
-
-none_in : (n : ℕ) → sum_by one (replicate n false) ≡ 0
-none_in zero = refl
-none_in (suc n) = none_in n
-
-long_replicate : (n : ℕ) → length (replicate n false) ≡ n
-long_replicate zero = refl
-long_replicate (suc n) = ap suc (long_replicate n)
-
-all_free : (n i : ℕ) → get_or (replicate n false) i false ≡ false
-all_free zero i = refl
-all_free (suc n) zero = refl
-all_free (suc n) (suc i) = all_free n i
+use Rattle.pl_planner.proofs.Counting.{all_same, count_more, one-or}
 
 pub none_taken : (uses : List Use) (slots : List TermSlots) (k : ℕ) (taken : List Bool) → taken ≡ replicate 260 false → IsTaken uses slots k 0 taken
 none_taken uses slots k taken e = record {
-  size = ap length e ∙ long_replicate 260;
+  size = ap length e ∙ length-replicate 260 false;
   tells = record {
     yes = λ s h. (let l = h.below in absurd (omega arith));
-    no = λ s h. absurd (true≢false (sym h ∙ ap (λ l. get_or l s false) e ∙ all_free 260 s));
+    no = λ s h. absurd (true≢false (sym h ∙ ap (λ l. get_or l s false) e ∙ all_same 260 s false));
   };
-  few = (let z : sum_by one taken ≡ 0 = ap (sum_by one) e ∙ none_in 260 in omega arith);
+  few = (let z : sum_by one taken ≡ 260 * 0 = ap (sum_by one) e ∙ sum_by-replicate one 260 false in omega arith);
 }
 
 module _ (uses : List Use) (slots : List TermSlots) (k t : ℕ) (taken : List Bool) (so_far : IsTaken uses slots k t taken) (low : own_slot slots t ≤ 256) where
@@ -224,26 +212,12 @@ four_free uses slots k taken is few = omega (arith, is.few, is.size, few, count_
 
 -- ---- the slots of the terms before stay
 
-at_front : (slots : List TermSlots) (new : TermSlots) (t : ℕ) → t < length slots → slots_at (slots ++ new ∷ []) t ≡ slots_at slots t
-at_front [] new t h = absurd (omega arith)
-at_front (x ∷ xs) new zero h = refl
-at_front (x ∷ xs) new (suc t) h = at_front xs new t (omega arith)
-
-at_end : (slots : List TermSlots) (new : TermSlots) → slots_at (slots ++ new ∷ []) (length slots) ≡ new
-at_end [] new = refl
-at_end (x ∷ xs) new = at_end xs new
-
-past_end : (slots : List TermSlots) (t : ℕ) → length slots ≤ t → slots_at slots t ≡ no_slots
-past_end [] t h = refl
-past_end (x ∷ xs) zero h = absurd (omega arith)
-past_end (x ∷ xs) (suc t) h = past_end xs t (omega arith)
-
 module _ (uses : List Use) (slots : List TermSlots) (new : TermSlots) where
   had : (k s : ℕ) → k ≤ length slots → IsHad uses slots k k s → IsHad uses (slots ++ new ∷ []) k k s
-  had k s h i = record { term = i.term; below = i.below; kept = i.kept; has = ap (λ (x : TermSlots). x.own) (at_front slots new i.term (let l = i.below in omega arith)) ∙ i.has }
+  had k s h i = record { term = i.term; below = i.below; kept = i.kept; has = ap (λ (x : TermSlots). x.own) (get_or_append_left slots (new ∷ []) no_slots i.term (let l = i.below in omega arith)) ∙ i.has }
 
   had_back : (k s : ℕ) → k ≤ length slots → IsHad uses (slots ++ new ∷ []) k k s → IsHad uses slots k k s
-  had_back k s h i = record { term = i.term; below = i.below; kept = i.kept; has = sym (ap (λ (x : TermSlots). x.own) (at_front slots new i.term (let l = i.below in omega arith))) ∙ i.has }
+  had_back k s h i = record { term = i.term; below = i.below; kept = i.kept; has = sym (ap (λ (x : TermSlots). x.own) (get_or_append_left slots (new ∷ []) no_slots i.term (let l = i.below in omega arith))) ∙ i.has }
 
   same_lowest : (T S : ℕ → Type 0) → ((s : ℕ) → T s → S s) → ((s : ℕ) → S s → T s) → (slot : ℕ) → IsLowest T slot → IsLowest S slot
   same_lowest T S f g slot l = record { free = λ h. l.free (g slot h); lowest = λ s h. f s (l.lowest s h) }
@@ -273,15 +247,15 @@ module _ (uses : List Use) (slots : List TermSlots) (new : TermSlots) where
   pub more_slotted : length slots < 256 → AreSlotted uses slots → IsSlotted uses slots (length slots) new → AreSlotted uses (slots ++ new ∷ [])
   more_slotted few so_far is = record {
     each = λ k h. elim (cases_lt k (length slots)) [
-      | inl p ↦ subst (IsSlotted uses (slots ++ new ∷ []) k) (sym (at_front slots new k p)) (still_slotted k (slots_at slots k) (omega arith) (so_far.each k p))
+      | inl p ↦ subst (IsSlotted uses (slots ++ new ∷ []) k) (sym (get_or_append_left slots (new ∷ []) no_slots k p)) (still_slotted k (slots_at slots k) (omega arith) (so_far.each k p))
       | inr p ↦ (let e : k ≡ length slots = (let l = length_push slots new in omega arith) in
-          subst (λ j. IsSlotted uses (slots ++ new ∷ []) j (slots_at (slots ++ new ∷ []) j)) (sym e) (subst (IsSlotted uses (slots ++ new ∷ []) (length slots)) (sym (at_end slots new)) (still_slotted (length slots) new (omega arith) is)))
+          subst (λ j. IsSlotted uses (slots ++ new ∷ []) j (slots_at (slots ++ new ∷ []) j)) (sym e) (subst (IsSlotted uses (slots ++ new ∷ []) (length slots)) (sym (get_or_push slots new no_slots (length slots) refl)) (still_slotted (length slots) new (omega arith) is)))
     ];
     few = λ t. elim (cases_lt t (length slots)) [
-      | inl p ↦ (let e : own_slot (slots ++ new ∷ []) t ≡ own_slot slots t = ap (λ (x : TermSlots). x.own) (at_front slots new t p) in let l = so_far.few t in omega arith)
+      | inl p ↦ (let e : own_slot (slots ++ new ∷ []) t ≡ own_slot slots t = ap (λ (x : TermSlots). x.own) (get_or_append_left slots (new ∷ []) no_slots t p) in let l = so_far.few t in omega arith)
       | inr p ↦ elim (cases_eq t (length slots)) [
-        | inl q ↦ (let e : own_slot (slots ++ new ∷ []) t ≡ new.own = ap (own_slot (slots ++ new ∷ [])) q ∙ ap (λ (x : TermSlots). x.own) (at_end slots new) in let l = is.below in let m = count_few uses (length slots) (length slots) in omega arith)
-        | inr q ↦ (let e : own_slot (slots ++ new ∷ []) t ≡ 0 = ap (λ (x : TermSlots). x.own) (past_end (slots ++ new ∷ []) t (let l = length_push slots new in omega arith)) in omega arith)
+        | inl q ↦ (let e : own_slot (slots ++ new ∷ []) t ≡ new.own = ap (own_slot (slots ++ new ∷ [])) q ∙ ap (λ (x : TermSlots). x.own) (get_or_push slots new no_slots (length slots) refl) in let l = is.below in let m = count_few uses (length slots) (length slots) in omega arith)
+        | inr q ↦ (let e : own_slot (slots ++ new ∷ []) t ≡ 0 = ap (λ (x : TermSlots). x.own) (get_or_past (slots ++ new ∷ []) t no_slots (let l = length_push slots new in omega arith)) in omega arith)
       ]
     ];
   }

@@ -2,33 +2,21 @@
 use Rattle.std.proofs.Common.{◌≡◌, ℕ, zero, suc, ◌+◌, ◌-◌, ◌*◌, ◌/◌, ◌%◌, ◌<◌, ◌≤◌, true, false, Bool, max, ℤ, List, [], ◌∷◌, ◌++◌, length, map, fold, get_or, refl, sym, ◌∙◌, ap, subst, arith, inl, inr, length-append}
 use Rattle.std.proofs.lemmas.Bool.{cases_lt}
 use Rattle.std.proofs.lemmas.Nat.{mul-le, div-add-mod'}
-use Rattle.std.proofs.lemmas.List.{get_or_append_left, get_or-append-add}
+use Rattle.std.proofs.lemmas.List.{get_or_append_left, get_or-append-add, get_or-map, length-map}
 use Rattle.pl_pipeline.specs.Term.{Graph}
 use Rattle.pl_spec.proofs.Places.{row-within}
 use Rattle.pl_planner.specs.declared.uses.Use.{Use}
-use Rattle.pl_planner.specs.Uses.{use_at, AreUses, HaveExtras}
+use Rattle.pl_planner.specs.Uses.{unused, AreUses, HaveExtras}
 use Rattle.pl_planner.specs.Rows.{extra_in, extra_at, AreRows, most_extra}
 
 -- ---- places
 
-row-long : (us : List Use) → length (map extra_in us) ≡ length us
-row-long [] = refl
-row-long (u ∷ us) = ap suc (row-long us)
-
-row-at : (us : List Use) (t : ℕ) → t < length us → get_or (map extra_in us) t 0 ≡ extra_in (use_at us t)
-row-at [] t h = absurd (omega arith)
-row-at (u ∷ us) zero h = refl
-row-at (u ∷ us) (suc t) h = row-at us t (omega arith)
-
 module _ (days : List ℤ) (g : Graph) (outs : List ℕ) (from : ℕ) where
-  pub no-rows : AreRows days g outs from 0 []
-  no-rows = record { size = (let z : 0 ≡ 0 * length g = omega arith in z); rows = λ i h. absurd (omega arith) }
-
   -- one session more
   pub rows-more : (n : ℕ) (extras after : List ℕ) (uses : List Use) → AreRows days g outs from n extras → AreUses g outs uses → HaveExtras days (from + n) g outs uses
       → after ≡ extras ++ map extra_in uses → AreRows days g outs from (n + 1) after
   rows-more n extras after uses rows are have e =
-      let long : length (map extra_in uses) ≡ length g = row-long uses ∙ are.size in
+      let long : length (map extra_in uses) ≡ length g = length-map uses extra_in ∙ are.size in
       let more : (n + 1) * length g ≡ n * length g + length g = omega arith in
       record {
         size = ap length e ∙ length-append extras (map extra_in uses) ∙ (let a = rows.size in omega arith);
@@ -46,7 +34,7 @@ module _ (days : List ℤ) (g : Graph) (outs : List ℕ) (from : ℕ) where
             have = subst (λ k. HaveExtras days (from + k) g outs uses) (sym same) have;
             is = λ t l. (let a = rows.size in
                 ap (λ xs. get_or xs (i * length g + t) 0) e ∙ ap (λ k. get_or (extras ++ map extra_in uses) (k * length g + t) 0) same
-                ∙ ap (λ k. get_or (extras ++ map extra_in uses) (k + t) 0) (sym a) ∙ get_or-append-add extras (map extra_in uses) t 0 ∙ row-at uses t (let z = are.size in omega arith));
+                ∙ ap (λ k. get_or (extras ++ map extra_in uses) (k + t) 0) (sym a) ∙ get_or-append-add extras (map extra_in uses) t 0 ∙ get_or-map extra_in uses t unused 0 (let z = are.size in omega arith));
           })
         ];
       }

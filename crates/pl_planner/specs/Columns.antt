@@ -24,7 +24,8 @@ is_bar (TermInput k) = false
 abbrev pub bars_back : Node → ℕ
 bars_back n = if list_any is_bar n.inputs then n.window else 0
 
--- where the own bars of a node begin that is computed so many sessions early and reads its inputs so many before
+-- how many sessions early the own bars of a node begin that is computed so many early and reads its inputs up to
+-- so many early
 abbrev pub own_depth : ℕ → ℕ → Node → ℕ
 own_depth back depth n = if list_any is_bar n.inputs then back + n.window else depth
 

@@ -34,8 +34,8 @@ pub record IsLowest (IsTaken : ℕ → Type 0) (slot : ℕ) : Type 0 where
   pub free : IsTaken slot → ⊥
   pub lowest : (s : ℕ) → s < slot → IsTaken s
 
--- what term k finds taken for a column: what the terms below have that are kept, its own, and what its columns
--- before have
+-- what term k finds taken for a column: what the terms below have that are kept, its own slot, and those of
+-- its columns before
 abbrev pub IsHadBefore : List Use → List TermSlots → ℕ → TermSlots → ℕ → ℕ → Type 0
 IsHadBefore uses slots k new i slot = (IsHad uses slots k k slot ⊎ (new.own ≡ slot)) ⊎ ((j : ℕ) × (j < i) × (get_or new.columns j 0 ≡ slot))
 

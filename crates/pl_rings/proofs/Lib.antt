@@ -2,7 +2,6 @@ pub mod PartsWorld
 pub mod Fed
 pub mod Moves
 pub mod Cells
-pub mod Written
 pub mod Advances
 pub mod Beginning
 pub mod Full

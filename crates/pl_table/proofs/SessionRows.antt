@@ -6,7 +6,7 @@ use Rattle.std.proofs.lemmas.Grind.{flat_map-append}
 use Rattle.pl_spec.specs.declared.Format.{Format}
 use Rattle.pl_spec.specs.World.{World, exists}
 use Rattle.pl_pipeline.specs.Table.{Pipeline, Row, is_kept, table_row, session_rows}
-use Rattle.pl_pipeline.specs.Text.{row_line}
+use Rattle.pl_pipeline.specs.Text.{header, row_line, text}
 use Rattle.pl_spec.proofs.Lists.{filter-twice}
 use Rattle.pl_values.specs.Arrays.{HasAll}
 use Rattle.pl_table.specs.Outcomes.{lines, rows_of_sessions}
@@ -43,6 +43,11 @@ rows_end w p s sids i h = ap (rows_of w p s) (drop_all i sids h)
 -- the lines of rows
 pub lines-append : (w : World) (p : Pipeline) (format : Format) (a b : List Row) → lines w p format (a ++ b) ≡ lines w p format a ++ lines w p format b
 lines-append w p format a b = flat_map-append (row_line w p format) a b
+
+-- the text of a table is its header and its lines
+pub text-is : (w : World) (p : Pipeline) (format : Format) (rows : List Row) (head : List ℕ) → head ≡ header p format → text w p format rows ≡ head ++ lines w p format rows
+unfolding text
+text-is w p format rows head is = ap (λ (h : List ℕ). h ++ lines w p format rows) (sym is)
 
 -- ---- sessions
 

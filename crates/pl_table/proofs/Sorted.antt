@@ -54,81 +54,47 @@ abbrev is_numbers : Sort → Bool
 is_numbers Numbers = true
 is_numbers r = false
 
-window-filters : (k : WindowKind) → is_window_filter k ≡ is_filters (window_sort k)
-window-filters kind.All = refl
-window-filters kind.Any = refl
-window-filters (kind.AtLeastN n) = refl
-window-filters kind.AllPresent = refl
-window-filters k = refl
+-- whether a kind is a filter or is numbered is what its sort says
+abbrev IsSorted : Bool → Bool → Sort → Type 0
+IsSorted filter numbered r = (filter ≡ is_filters r) × (numbered ≡ is_numbers r)
 
-window-numbers : (k : WindowKind) → false ≡ is_numbers (window_sort k)
-window-numbers kind.All = refl
-window-numbers kind.Any = refl
-window-numbers (kind.AtLeastN n) = refl
-window-numbers kind.AllPresent = refl
-window-numbers k = refl
+window-sorted : (k : WindowKind) → IsSorted (is_window_filter k) false (window_sort k)
+window-sorted kind.All = (refl, refl)
+window-sorted kind.Any = (refl, refl)
+window-sorted (kind.AtLeastN n) = (refl, refl)
+window-sorted kind.AllPresent = (refl, refl)
+window-sorted k = (refl, refl)
 
-point-filters : (k : PointKind) → is_point_filter k ≡ is_filters (point_sort k)
-point-filters kind.Add = refl
-point-filters kind.Sub = refl
-point-filters kind.Mul = refl
-point-filters kind.Div = refl
-point-filters kind.Neg = refl
-point-filters kind.Abs = refl
-point-filters (kind.Clip low high) = refl
-point-filters kind.FillNa = refl
-point-filters kind.IfElse = refl
-point-filters k = refl
+point-sorted : (k : PointKind) → IsSorted (is_point_filter k) false (point_sort k)
+point-sorted kind.Add = (refl, refl)
+point-sorted kind.Sub = (refl, refl)
+point-sorted kind.Mul = (refl, refl)
+point-sorted kind.Div = (refl, refl)
+point-sorted kind.Neg = (refl, refl)
+point-sorted kind.Abs = (refl, refl)
+point-sorted (kind.Clip low high) = (refl, refl)
+point-sorted kind.FillNa = (refl, refl)
+point-sorted kind.IfElse = (refl, refl)
+point-sorted k = (refl, refl)
 
-point-numbers : (k : PointKind) → false ≡ is_numbers (point_sort k)
-point-numbers kind.Add = refl
-point-numbers kind.Sub = refl
-point-numbers kind.Mul = refl
-point-numbers kind.Div = refl
-point-numbers kind.Neg = refl
-point-numbers kind.Abs = refl
-point-numbers (kind.Clip low high) = refl
-point-numbers kind.FillNa = refl
-point-numbers kind.IfElse = refl
-point-numbers k = refl
+cross-sorted : (k : CrossKind) → IsSorted (is_cross_filter k) (is_numbered (kind.Cross k)) (cross_sort k)
+cross-sorted (kind.Quantiles bins) = (refl, refl)
+cross-sorted (kind.Top n) = (refl, refl)
+cross-sorted (kind.Bottom n) = (refl, refl)
+cross-sorted (kind.PercentileBetween low high) = (refl, refl)
+cross-sorted k = (refl, refl)
 
-cross-filters : (k : CrossKind) → is_cross_filter k ≡ is_filters (cross_sort k)
-cross-filters (kind.Quantiles bins) = refl
-cross-filters (kind.Top n) = refl
-cross-filters (kind.Bottom n) = refl
-cross-filters (kind.PercentileBetween low high) = refl
-cross-filters k = refl
-
-cross-numbers : (k : CrossKind) → is_numbered (kind.Cross k) ≡ is_numbers (cross_sort k)
-cross-numbers (kind.Quantiles bins) = refl
-cross-numbers (kind.Top n) = refl
-cross-numbers (kind.Bottom n) = refl
-cross-numbers (kind.PercentileBetween low high) = refl
-cross-numbers k = refl
-
-filters-are : (k : Kind) → is_filter k ≡ is_filters (sort_of k)
+sorted : (k : Kind) → IsSorted (is_filter k) (is_numbered k) (sort_of k)
 unfolding sort_of
-filters-are (kind.Constant c) = refl
-filters-are (kind.Label n) = refl
-filters-are (kind.Number n) = refl
-filters-are (kind.StaticSids s) = refl
-filters-are (kind.Window k) = window-filters k
-filters-are (kind.Point k) = point-filters k
-filters-are (kind.LabelTest k) = refl
-filters-are (kind.Cross k) = cross-filters k
-filters-are (kind.Downsample f) = refl
-
-numbers-are : (k : Kind) → is_numbered k ≡ is_numbers (sort_of k)
-unfolding sort_of
-numbers-are (kind.Constant c) = refl
-numbers-are (kind.Label n) = refl
-numbers-are (kind.Number n) = refl
-numbers-are (kind.StaticSids s) = refl
-numbers-are (kind.Window k) = window-numbers k
-numbers-are (kind.Point k) = point-numbers k
-numbers-are (kind.LabelTest k) = refl
-numbers-are (kind.Cross k) = cross-numbers k
-numbers-are (kind.Downsample f) = refl
+sorted (kind.Constant c) = (refl, refl)
+sorted (kind.Label n) = (refl, refl)
+sorted (kind.Number n) = (refl, refl)
+sorted (kind.StaticSids s) = (refl, refl)
+sorted (kind.Window k) = window-sorted k
+sorted (kind.Point k) = point-sorted k
+sorted (kind.LabelTest k) = (refl, refl)
+sorted (kind.Cross k) = cross-sorted k
+sorted (kind.Downsample f) = (refl, refl)
 
 -- ---- fields
 
@@ -140,10 +106,10 @@ missing-text x false e = rw e refl
 number-field : (format : Format) (texts : List (List ℕ)) (k : Kind) (r : Writing) (x : ℤ) → sort_of k ≡ sort_written r → (sort_written r ≡ Labels → ⊥)
     → number_text k x ≡ cell_field format texts r x
 number-field format texts k Cell x s other =
-    let f = filters-are k ∙ ap is_filters s in let n = numbers-are k ∙ ap is_numbers s in rw (f, n) (missing-text x (is_missing x) refl)
-number-field format texts k Truth x s other = let f = filters-are k ∙ ap is_filters s in rw f refl
+    let f = (sorted k).0 ∙ ap is_filters s in let n = (sorted k).1 ∙ ap is_numbers s in rw (f, n) (missing-text x (is_missing x) refl)
+number-field format texts k Truth x s other = let f = (sorted k).0 ∙ ap is_filters s in rw f refl
 number-field format texts k Whole x s other =
-    let f = filters-are k ∙ ap is_filters s in let n = numbers-are k ∙ ap is_numbers s in rw (f, n) refl
+    let f = (sorted k).0 ∙ ap is_filters s in let n = (sorted k).1 ∙ ap is_numbers s in rw (f, n) refl
 number-field format texts k Label x s other = absurd (other refl)
 
 coded-field : (format : Format) (texts : List (List ℕ)) (k : Kind) (v : Value) → IsCoded texts v → value_field format k v ≡ cell_field format texts Label (in_array texts v)

@@ -101,15 +101,6 @@ module _ (o : Outcome) (ok : IsOutcome o) (t : ℕ) (output : contains (outputs 
     own : (ok.arrays t output).cells ≡ cells
     own = let e : Live (ok.arrays t output).cells ≡ Live cells = sym (ok.arrays t output).live ∙ live in cc
 
-    pub ends_within : start + count ≤ length cells
-    ends_within =
-        let low = low_at o.asked.plan.now t o.from in
-        let r = low_within in
-        let room = (ok.arrays t output).holds.room in
-        let m = mul-le (place + 1) (o.to + 1 - low) (places_of o) (o.to + 1 - low) (omega arith) (omega arith) in
-        let e : (place + 1) * (o.to + 1 - low) ≡ place * (o.to + 1 - low) + (o.to + 1 - low) = omega arith in
-        omega (arith, m, e, room, ap length own)
-
     pub part-at : (j : ℕ) → j < count → get_or (take count (drop start cells)) j (pos 0) ≡ cell_of (world_in o) (pipeline_in o) (sids_in o) t place (first + j)
     part-at j h =
         let low = low_at o.asked.plan.now t o.from in

@@ -16,7 +16,7 @@ cells_on-requires-clause-late c = let a = c.period_start-start.ensures.within in
 
 pub returns : goal.returns
 returns c =
-    let e : FitsSigned w64 c.args.term_session.now.none = search rules in
+    let e : FitsSigned w64 c.args.term_session.now.empty = search rules in
     let kept = simp to_z-of_z at c.keep_values.ensures.each in
     kept_out c.args.term_session.now c.requires.term_session c.args.keep.now c.cells_on.new.row c.keep_values.new.out c.requires.keep
     (start_given c.args.term_session.now c.requires.term_session c.args.frequency c.downsampled_input.result.0 c.period_start-start.result c.cells_on.new.row c.requires.kind c.downsampled_input.ensures

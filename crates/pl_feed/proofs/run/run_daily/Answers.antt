@@ -1,17 +1,11 @@
-use Rattle.std.proofs.Common.{◌≡◌, ◌++◌, ◌∙◌, ℕ, List, sym, ap, inr, append-nil}
+use Rattle.std.proofs.Common.{◌++◌, ◌∙◌, sym, inr, append-nil}
 use Rattle.pl_outside.proofs.Pieces.{writing-start, writing-more, writing-end, writing-stop, writing-over}
-use Rattle.pl_spec.specs.declared.Format.{Format}
-use Rattle.pl_spec.specs.World.{World}
-use Rattle.pl_pipeline.specs.Table.{Pipeline, Row, table}
-use Rattle.pl_pipeline.specs.Text.{header, text}
+use Rattle.pl_pipeline.specs.Table.{table}
+use Rattle.pl_pipeline.specs.Text.{text}
 use Rattle.pl_table.specs.Asked.{asked_pipeline, asked_world}
 use Rattle.pl_table.specs.Outcomes.{lines}
+use Rattle.pl_table.proofs.SessionRows.{text-is}
 use Rattle.pl_feed.proofs.run.run_daily.Goals as goal
-
--- the text of a table is its header and its lines
-text-is : (w : World) (p : Pipeline) (format : Format) (rows : List Row) (head : List ℕ) → head ≡ header p format → text w p format rows ≡ head ++ lines w p format rows
-unfolding text
-text-is w p format rows head is = ap (λ (h : List ℕ). h ++ lines w p format rows) (sym is)
 
 pub returns-in-Ok-clause-writes : goal.returns-in-Ok-clause-writes
 returns-in-Ok-clause-writes g c =

@@ -1,4 +1,4 @@
-use Rattle.std.proofs.Common.{◌≡◌, ◌≤◌, ◌<◌, ◌+◌, ◌++◌, length, ◌∙◌, refl, sym, ap, arith, length-append}
+use Rattle.std.proofs.Common.{rules, ◌≡◌, ◌≤◌, ◌<◌, ◌+◌, ◌++◌, length, ◌∙◌, refl, sym, ap, arith, length-append}
 use Rattle.std.proofs.lemmas.Result.{err_from_is_err_and}
 use Rattle.pl_outside.proofs.Pieces.{writing-start, writing-more, writing-end, writing-stop, writing-over, written-none, written-more}
 use Rattle.pl_pipeline.specs.Table.{table}
@@ -56,56 +56,36 @@ loop-session-preserved g c =
       steps = omega (arith, c.feed.ensures.cost, steps-next w p s, c.loop-session.invariant.steps);
     }
 
-pub returns-in_err-write_session-clause-writes : goal.returns-in_err-write_session-clause-writes
-returns-in_err-write_session-clause-writes g c =
+pub returns-in_err-write_session : goal.returns-in_err-write_session
+returns-in_err-write_session g c =
     let w = asked_world c.args.asked.now in
     let p = asked_pipeline c.args.asked.now in
     let plan = c.args.asked.now.plan.now in
     let s = c.loop-session.session in
     let inside : s ≤ plan.to = omega (arith, c.loop-session-test.true, c.to-session-end.ensures.value) in
     let next = ap (lines w p c.args.asked.now.format) (left-next w p plan.from plan.to s inside) ∙ lines-append w p c.args.asked.now.format (rows_in_range w p plan.from s) (rows_left w p plan.from plan.to (s + 1)) in
+    let few = steps-few w p (s + 1) (plan.to + 1) (omega (arith, inside)) in
     let q = err_from_is_err_and c.from_residual-in_err-write_session.result c.from_residual-in_err-write_session.ensures.1 in
-    rw (q.1, q.2) (writing-stop _ _ (writing-over next c.loop-session.invariant.writing) c.in_err-write_session.ensures.writes)
+    record {
+      writes = rw (q.1, q.2) (writing-stop _ _ (writing-over next c.loop-session.invariant.writing) c.in_err-write_session.ensures.writes);
+      pieces = rw q.1 (search rules);
+      cost = rw q.1 (search rules);
+      at_most = omega (arith, c.feed.ensures.cost, steps-next w p s, few, steps-all w p plan.to, c.loop-session.invariant.steps);
+    }
 
-pub returns-in_err-write_session-clause-at_most : goal.returns-in_err-write_session-clause-at_most
-returns-in_err-write_session-clause-at_most g c =
-    let w = asked_world c.args.asked.now in
-    let p = asked_pipeline c.args.asked.now in
-    let plan = c.args.asked.now.plan.now in
-    let s = c.loop-session.session in
-    let inside : s + 1 ≤ plan.to + 1 = omega (arith, c.loop-session-test.true, c.to-session-end.ensures.value) in
-    omega (arith, c.feed.ensures.cost, steps-next w p s, steps-few w p (s + 1) (plan.to + 1) inside, steps-all w p plan.to, c.loop-session.invariant.steps)
-
-pub returns-clause-writes : goal.returns-clause-writes
-returns-clause-writes g c =
-    let w = asked_world c.args.asked.now in
-    let p = asked_pipeline c.args.asked.now in
-    let plan = c.args.asked.now.plan.now in
-    let after : plan.to < c.loop-session.session = omega (arith, c.loop-session-test.false, c.to-session-end.ensures.value) in
-    writing-end (writing-over (ap (lines w p c.args.asked.now.format) (left-none w p plan.from plan.to c.loop-session.session c.requires.asked.plan.order after)) c.loop-session.invariant.writing)
-
-pub returns-clause-pieces : goal.returns-clause-pieces
-returns-clause-pieces g c =
+-- all sessions were fed
+pub returns : goal.returns
+returns g c =
     let w = asked_world c.args.asked.now in
     let p = asked_pipeline c.args.asked.now in
     let plan = c.args.asked.now.plan.now in
     let after : plan.to < c.loop-session.session = omega (arith, c.loop-session-test.false, c.to-session-end.ensures.value) in
     let none = left-none w p plan.from plan.to c.loop-session.session c.requires.asked.plan.order after in
-    written-more (written-none refl) c.loop-session.invariant.pieces.1 (omega (arith, ap length none, c.loop-session.invariant.pieces.2))
-
--- all sessions were fed
-pub returns-clause-cost : goal.returns-clause-cost
-returns-clause-cost g c =
-    let w = asked_world c.args.asked.now in
-    let p = asked_pipeline c.args.asked.now in
-    let plan = c.args.asked.now.plan.now in
-    let done : c.loop-session.session ≡ plan.to + 1 = omega (arith, c.loop-session-test.false, c.to-session-end.ensures.value, c.loop-session.invariant.within) in
-    omega (arith, ap (steps_below w p) done, steps-all w p plan.to, c.loop-session.invariant.steps)
-
-pub returns-clause-at_most : goal.returns-clause-at_most
-returns-clause-at_most g c =
-    let w = asked_world c.args.asked.now in
-    let p = asked_pipeline c.args.asked.now in
-    let plan = c.args.asked.now.plan.now in
-    let done : c.loop-session.session ≡ plan.to + 1 = omega (arith, c.loop-session-test.false, c.to-session-end.ensures.value, c.loop-session.invariant.within) in
-    omega (arith, ap (steps_below w p) done, steps-all w p plan.to, c.loop-session.invariant.steps)
+    let done : c.loop-session.session ≡ plan.to + 1 = omega (arith, after, c.loop-session.invariant.within) in
+    let steps = ap (steps_below w p) done in
+    record {
+      writes = writing-end (writing-over (ap (lines w p c.args.asked.now.format) none) c.loop-session.invariant.writing);
+      pieces = written-more (written-none refl) c.loop-session.invariant.pieces.1 (omega (arith, ap length none, c.loop-session.invariant.pieces.2));
+      cost = omega (arith, steps, steps-all w p plan.to, c.loop-session.invariant.steps);
+      at_most = omega (arith, steps, steps-all w p plan.to, c.loop-session.invariant.steps);
+    }

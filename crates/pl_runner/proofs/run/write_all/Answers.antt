@@ -1,4 +1,4 @@
-use Rattle.std.proofs.Common.{◌≡◌, ◌≤◌, ◌<◌, ◌+◌, ◌-◌, ◌*◌, ◌++◌, ◌∙◌, ℕ, ℤ, length, pos, refl, sym, ap, arith, length-append}
+use Rattle.std.proofs.Common.{rules, ◌≡◌, ◌≤◌, ◌<◌, ◌+◌, ◌-◌, ◌*◌, ◌++◌, ◌∙◌, ℕ, ℤ, length, pos, refl, sym, ap, arith, length-append}
 use Rattle.std.specs.Int.{int_rem_euclid}
 use Rattle.std.proofs.lemmas.Int.{ints}
 use Rattle.std.proofs.lemmas.Nat.{mul-le}
@@ -46,8 +46,8 @@ returns-in_err-write_bytes-clause-writes g c =
     rw (q.1, q.2)
     (writing-stop c.args.header.now whole (writing-start g.O.Sink.taken g.O.Sink.faults g.O.Sink.sound g.O.Sink.room c.args.out.now (c.args.header.now ++ whole)) c.in_err-write_bytes.ensures.writes)
 
-pub returns-in_err-report-clause-writes : goal.returns-in_err-report-clause-writes
-returns-in_err-report-clause-writes g c =
+pub returns-in_err-report : goal.returns-in_err-report
+returns-in_err-report g c =
     let w = world_of c.args.asked.now.world in
     let p = pipeline_of c.args.asked.now.checked.now in
     let plan = c.args.asked.now.plan.now in
@@ -60,20 +60,14 @@ returns-in_err-report-clause-writes g c =
     let rest = rows_of_sessions w p s (plan.to + 1 - s) in
     let next = ap (lines w p c.args.asked.now.format) (rows-next w p plan.from plan.to c.args.size i c.requires.asked.plan.order c.requires.some before chunk is)
     ∙ lines-append w p c.args.asked.now.format (rows_of_sessions w p chunk.from (chunk.to + 1 - chunk.from)) rest in
-    let q = err_from_is_err_and c.from_residual-in_err-report.result c.from_residual-in_err-report.ensures.1 in
-    rw (q.1, q.2) (writing-stop _ _ (writing-over next c.loop-i.invariant.writing) c.in_err-report.ensures.writes)
-
-pub returns-in_err-report-clause-at_most : goal.returns-in_err-report-clause-at_most
-returns-in_err-report-clause-at_most g c =
-    let w = world_of c.args.asked.now.world in
-    let p = pipeline_of c.args.asked.now.checked.now in
-    let plan = c.args.asked.now.plan.now in
-    let count : c.chunk_count-i-end.result ≡ chunk_count plan.from plan.to c.args.size = c.chunk_count-i-end.ensures.value ∙ ap (λ (n : ℕ). chunk_count n c.to.result c.args.size) c.from.ensures.value ∙ ap (λ (n : ℕ). chunk_count plan.from n c.args.size) c.to.ensures.value in
-    let is : c.chunk_at-chunk.result ≡ chunk_at plan.from plan.to c.args.size c.loop-i.i = c.chunk_at-chunk.ensures.value ∙ ap (λ (n : ℕ). chunk_at n c.to-in-loop-i.result c.args.size c.loop-i.i) c.from-in-loop-i.ensures.value ∙ ap (λ (n : ℕ). chunk_at plan.from n c.args.size c.loop-i.i) c.to-in-loop-i.ensures.value in
-    let before : c.loop-i.i < chunk_count plan.from plan.to c.args.size = omega (arith, count) in
-    let next = steps-next w p plan c.args.size c.loop-i.i before c.chunk_at-chunk.result is in
+    let steps = steps-next w p plan c.args.size i before chunk is in
     let done = c.loop-i.invariant.done in
-    omega (arith, next, done.1, done.3, c.in_err-report.ensures.cost)
+    let q = err_from_is_err_and c.from_residual-in_err-report.result c.from_residual-in_err-report.ensures.1 in
+    record {
+      writes = rw (q.1, q.2) (writing-stop _ _ (writing-over next c.loop-i.invariant.writing) c.in_err-report.ensures.writes);
+      done = rw q.1 (search rules);
+      at_most = omega (arith, steps, done.1, done.3, c.in_err-report.ensures.cost);
+    }
 
 pub loop-i-preserved : goal.loop-i-preserved
 loop-i-preserved g c =
@@ -107,17 +101,8 @@ loop-i-preserved g c =
       buffers = λ j h. c.in_ok-report.ensures.done.1.buffers (chunk_at plan.from plan.to size j) (c.loop-i.invariant.buffers j h);
     }
 
-pub returns-clause-writes : goal.returns-clause-writes
-returns-clause-writes g c =
-    let w = world_of c.args.asked.now.world in
-    let p = pipeline_of c.args.asked.now.checked.now in
-    let plan = c.args.asked.now.plan.now in
-    let count : c.chunk_count-i-end.result ≡ chunk_count plan.from plan.to c.args.size = c.chunk_count-i-end.ensures.value ∙ ap (λ (n : ℕ). chunk_count n c.to.result c.args.size) c.from.ensures.value ∙ ap (λ (n : ℕ). chunk_count plan.from n c.args.size) c.to.ensures.value in
-    let after : chunk_count plan.from plan.to c.args.size ≤ c.loop-i.i = omega (arith, count) in
-    writing-end (writing-over (ap (lines w p c.args.asked.now.format) (rows-end w p plan.from plan.to c.args.size c.loop-i.i c.requires.asked.plan.order c.requires.some after)) c.loop-i.invariant.writing)
-
-pub returns-clause-done : goal.returns-clause-done
-returns-clause-done g c =
+pub returns : goal.returns
+returns g c =
     let w = world_of c.args.asked.now.world in
     let p = pipeline_of c.args.asked.now.checked.now in
     let plan = c.args.asked.now.plan.now in
@@ -127,13 +112,18 @@ returns-clause-done g c =
     let sum : c.loop-i.totals.sum ≡ rows_sum w.texts (table w p plan.from plan.to) = omega (arith, ints, ap (rows_sum w.texts) none, c.loop-i.invariant.sum) in
     let done = c.loop-i.invariant.done in
     let last = steps-end w p plan c.args.size c.loop-i.i after in
-    let n : done.0 ≡ run_steps w p plan c.args.size = omega (arith, last, done.3) in (
-      written-more (written-none refl) c.loop-i.invariant.pieces (omega (arith, c.rows.ensures)),
-      record {
-        rows = omega (arith, c.rows.ensures, ap length none, c.loop-i.invariant.rows);
-        cells = c.cells.ensures ∙ ap (λ (x : ℤ). int_rem_euclid x (pos 18446744073709551616)) sum;
-        peak = c.loop-i.invariant.peak (omega (arith, after));
-        applied = done.2 ∙ ap saturated n;
-      },
-      omega (arith, done.1, n),
-    )
+    let n : done.0 ≡ run_steps w p plan c.args.size = omega (arith, last, done.3) in
+    record {
+      writes = writing-end (writing-over (ap (lines w p c.args.asked.now.format) none) c.loop-i.invariant.writing);
+      done = (
+        written-more (written-none refl) c.loop-i.invariant.pieces (omega (arith, c.rows.ensures)),
+        record {
+          rows = omega (arith, c.rows.ensures, ap length none, c.loop-i.invariant.rows);
+          cells = c.cells.ensures ∙ ap (λ (x : ℤ). int_rem_euclid x (pos 18446744073709551616)) sum;
+          peak = c.loop-i.invariant.peak (omega (arith, after));
+          applied = done.2 ∙ ap saturated n;
+        },
+        omega (arith, done.1, n),
+      );
+      at_most = omega (arith, done.1, n);
+    }

@@ -11,69 +11,62 @@ use Rattle.pl_exec.specs.Tasks.{HoldsOutputs, chunk_steps}
 use Rattle.pl_runner.proofs.ChunkWork as work
 use Rattle.pl_runner.proofs.run.write_chunk.Goals as goal
 
-pub execute_chunk-report-requires-clause-cols : goal.execute_chunk-report-requires-clause-cols
-execute_chunk-report-requires-clause-cols g c =
+pub execute_chunk-report-requires : goal.execute_chunk-report-requires
+execute_chunk-report-requires g c =
     let w = world_of c.args.asked.now.world in
     let p = pipeline_of c.args.asked.now.checked.now in
-    work.are-columns c.args.asked.now.world.sessions.now w p c.args.asked.now.plan.now c.args.chunk c.requires.asked.checked c.requires.asked.plan c.requires.from c.requires.order c.requires.to c.deref.result.now (c.deref.ensures.value ∙ c.put_columns.ensures.cols) c.requires.asked.world.sids_ascend
-
-pub execute_chunk-report-requires-clause-cross : goal.execute_chunk-report-requires-clause-cross
-execute_chunk-report-requires-clause-cross g c =
-    let w = world_of c.args.asked.now.world in
-    let p = pipeline_of c.args.asked.now.checked.now in
-    let few = work.few-columns c.args.asked.now.world.sessions.now w p c.args.asked.now.plan.now c.args.chunk c.requires.asked.checked c.requires.asked.plan c.requires.from c.requires.order c.requires.to c.deref.result.now (c.deref.ensures.value ∙ c.put_columns.ensures.cols) in
-    omega (arith, few, c.requires.buffers.cross)
-
-pub execute_chunk-report-requires-clause-rows : goal.execute_chunk-report-requires-clause-rows
-execute_chunk-report-requires-clause-rows g c =
-    let w = world_of c.args.asked.now.world in
-    let p = pipeline_of c.args.asked.now.checked.now in
-    let few = work.few-columns c.args.asked.now.world.sessions.now w p c.args.asked.now.plan.now c.args.chunk c.requires.asked.checked c.requires.asked.plan c.requires.from c.requires.order c.requires.to c.deref.result.now (c.deref.ensures.value ∙ c.put_columns.ensures.cols) in
-    omega (arith, few, c.requires.buffers.rows)
-
-pub execute_chunk-report-requires-clause-room : goal.execute_chunk-report-requires-clause-room
-execute_chunk-report-requires-clause-room g c =
-    let w = world_of c.args.asked.now.world in
-    let p = pipeline_of c.args.asked.now.checked.now in
-    work.has-room c.args.asked.now.world.sessions.now w p c.args.asked.now.plan.now c.args.chunk c.requires.asked.checked c.requires.asked.plan c.requires.from c.requires.order c.requires.to c.deref.result.now (c.deref.ensures.value ∙ c.put_columns.ensures.cols) c.args.buffers.now.workspace.len c.requires.buffers.room
-
-pub write_rows-requires-clause-outcome : goal.write_rows-requires-clause-outcome
-write_rows-requires-clause-outcome g c =
-    let w = world_of c.args.asked.now.world in
-    let p = pipeline_of c.args.asked.now.checked.now in
-    let own : c.deref-2.result.now ≡ columns_of w p c.args.asked.now.plan.now c.args.chunk = c.deref-2.ensures.value ∙ c.put_columns.ensures.cols in
-    let same : c.deref.result.now ≡ c.deref-2.result.now = c.deref.ensures.value ∙ sym c.deref-2.ensures.value in
-    let up = c.requires.asked.world.sids_ascend in
-    let cols = work.are-columns c.args.asked.now.world.sessions.now w p c.args.asked.now.plan.now c.args.chunk c.requires.asked.checked c.requires.asked.plan c.requires.from c.requires.order c.requires.to c.deref-2.result.now own up in
-    let there = work.all-there c.args.asked.now.world.sessions.now w p c.args.asked.now.plan.now c.args.chunk c.requires.asked.checked c.requires.asked.plan c.requires.from c.requires.order c.requires.to c.deref-2.result.now own up in
-    let outputs = subst (λ cs. HoldsOutputs (work.work w p c.args.asked.now.plan.now cs c.args.chunk) c.execute_chunk-report.new.workspace) same c.execute_chunk-report.ensures.outputs in
+    let days = c.args.asked.now.world.sessions.now in
+    let plan = c.args.asked.now.plan.now in
+    let asked = c.requires.asked in
+    let buffers = c.requires.buffers in
+    let own = c.deref.ensures.value ∙ c.put_columns.ensures.cols in
+    let few = work.few-columns days w p plan c.args.chunk asked.checked asked.plan c.requires.from c.requires.order c.requires.to c.deref.result.now own in
     record {
-      asked = c.requires.asked;
+      made = asked.sound.made;
+      plan = asked.plan;
       from = c.requires.from;
       order = c.requires.order;
       to = c.requires.to;
-      fits = omega (arith, c.requires.to, c.requires.asked.plan.within, c.requires.asked.sound.days.few);
-      cols = cols.within;
-      all = there;
-      arrays = λ t out. let a = outputs.arrays t out in record { cells = a.cells; live = a.is; holds = a.holds };
+      cols = work.are-columns days w p plan c.args.chunk asked.checked asked.plan c.requires.from c.requires.order c.requires.to c.deref.result.now own asked.world.sids_ascend;
+      cross = omega (arith, few, buffers.cross);
+      rows = omega (arith, few, buffers.rows);
+      free = buffers.free;
+      slots = buffers.slots;
+      room = work.has-room days w p plan c.args.chunk asked.checked asked.plan c.requires.from c.requires.order c.requires.to c.deref.result.now own c.args.buffers.now.workspace.len buffers.room;
     }
 
-pub write_rows-requires-clause-few : goal.write_rows-requires-clause-few
-write_rows-requires-clause-few g c =
+pub write_rows-requires : goal.write_rows-requires
+write_rows-requires g c =
     let w = world_of c.args.asked.now.world in
     let p = pipeline_of c.args.asked.now.checked.now in
-    let few = work.few-columns c.args.asked.now.world.sessions.now w p c.args.asked.now.plan.now c.args.chunk c.requires.asked.checked c.requires.asked.plan c.requires.from c.requires.order c.requires.to c.deref-2.result.now (c.deref-2.ensures.value ∙ c.put_columns.ensures.cols) in
-    let m = mul-le (c.args.chunk.to + 1 - c.args.chunk.from) (length c.deref-2.result.now) (c.args.chunk.to + 1 - c.args.chunk.from) (length c.args.asked.now.world.assets.now) (omega arith) few in
-    omega (arith, m, c.requires.few)
-
-pub write_rows-requires-clause-room : goal.write_rows-requires-clause-room
-write_rows-requires-clause-room g c =
-    let w = world_of c.args.asked.now.world in
-    let p = pipeline_of c.args.asked.now.checked.now in
-    let few = work.few-columns c.args.asked.now.world.sessions.now w p c.args.asked.now.plan.now c.args.chunk c.requires.asked.checked c.requires.asked.plan c.requires.from c.requires.order c.requires.to c.deref-2.result.now (c.deref-2.ensures.value ∙ c.put_columns.ensures.cols) in
-    let m = mul-le (height * length c.deref-2.result.now) (length p.columns + 1) (height * length w.assets) (length p.columns + 1) (omega (arith, few)) (omega arith) in
-    let own = ap (λ (l : List ℤ). length l) c.deref_mut.ensures.value in
-    omega (arith, m, own, c.requires.buffers.tile)
+    let days = c.args.asked.now.world.sessions.now in
+    let plan = c.args.asked.now.plan.now in
+    let asked = c.requires.asked in
+    let chunk = c.args.chunk in
+    let cs = c.deref-2.result.now in
+    let own : cs ≡ columns_of w p plan chunk = c.deref-2.ensures.value ∙ c.put_columns.ensures.cols in
+    let same : c.deref.result.now ≡ cs = c.deref.ensures.value ∙ sym c.deref-2.ensures.value in
+    let up = asked.world.sids_ascend in
+    let cols = work.are-columns days w p plan chunk asked.checked asked.plan c.requires.from c.requires.order c.requires.to cs own up in
+    let there = work.all-there days w p plan chunk asked.checked asked.plan c.requires.from c.requires.order c.requires.to cs own up in
+    let few = work.few-columns days w p plan chunk asked.checked asked.plan c.requires.from c.requires.order c.requires.to cs own in
+    let outputs = subst (λ xs. HoldsOutputs (work.work w p plan xs chunk) c.execute_chunk-report.new.workspace) same c.execute_chunk-report.ensures.outputs in
+    let rows = mul-le (chunk.to + 1 - chunk.from) (length cs) (chunk.to + 1 - chunk.from) (length c.args.asked.now.world.assets.now) (omega arith) few in
+    let cells = mul-le (height * length cs) (length p.columns + 1) (height * length w.assets) (length p.columns + 1) (omega (arith, few)) (omega arith) in
+    record {
+      outcome = record {
+        asked = asked;
+        from = c.requires.from;
+        order = c.requires.order;
+        to = c.requires.to;
+        fits = omega (arith, c.requires.to, asked.plan.within, asked.sound.days.few);
+        cols = cols.within;
+        all = there;
+        arrays = λ t out. let a = outputs.arrays t out in record { cells = a.cells; live = a.is; holds = a.holds };
+      };
+      room = omega (arith, cells, ap (λ (l : List ℤ). length l) c.deref_mut.ensures.value, c.requires.buffers.tile);
+      few = omega (arith, rows, c.requires.few);
+    }
 
 pub returns-clause-done : goal.returns-clause-done
 returns-clause-done g c =

@@ -63,23 +63,17 @@ loop-session-preserved g c =
       few = omega (arith, more, c.loop-session.invariant.few, c.in_ok-write_session.ensures.few);
     }
 
-pub returns-clause-writes : goal.returns-clause-writes
-returns-clause-writes g c =
+pub returns : goal.returns
+returns g c =
     let o = c.args.outcome.now in let w = world_in o in let pl = pipeline_in o in
-    writing-end (writing-over (ap (lines w pl o.asked.format) (sessions-end w pl c.loop-session.session o.to (omega arith))) c.loop-session.invariant.writing)
-
-pub returns-clause-rows : goal.returns-clause-rows
-returns-clause-rows g c =
-    let o = c.args.outcome.now in
-    omega (arith, ap length (sessions-end (world_in o) (pipeline_in o) c.loop-session.session o.to (omega arith)), c.loop-session.invariant.rows)
-
-pub returns-clause-sum : goal.returns-clause-sum
-returns-clause-sum g c =
-    let o = c.args.outcome.now in
-    omega (arith, ints, ap (rows_sum (world_in o).texts) (sessions-end (world_in o) (pipeline_in o) c.loop-session.session o.to (omega arith)), c.loop-session.invariant.sum)
-
-pub returns-clause-few : goal.returns-clause-few
-returns-clause-few g c =
-    let end : c.loop-session.session ≡ c.args.outcome.now.to + 1 = omega (arith, c.loop-session.invariant.within) in
-    let e = ap (λ (s : ℕ). (s - c.args.outcome.now.from) * length c.args.outcome.now.cols.now) end in
-    omega (arith, e, c.loop-session.invariant.few)
+    let none = sessions-end w pl c.loop-session.session o.to (omega arith) in
+    let end : c.loop-session.session ≡ o.to + 1 = omega (arith, c.loop-session.invariant.within) in
+    let all = ap (λ (s : ℕ). (s - o.from) * length o.cols.now) end in
+    record {
+      writes = writing-end (writing-over (ap (lines w pl o.asked.format) none) c.loop-session.invariant.writing);
+      pieces = c.loop-session.invariant.pieces;
+      rows = omega (arith, ap length none, c.loop-session.invariant.rows);
+      sum = omega (arith, ints, ap (rows_sum w.texts) none, c.loop-session.invariant.sum);
+      few = omega (arith, all, c.loop-session.invariant.few);
+      room = c.loop-session.invariant.room;
+    }

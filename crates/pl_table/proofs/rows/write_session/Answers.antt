@@ -66,23 +66,16 @@ loop-place-preserved g c =
           }
     ]
 
-pub returns-clause-writes : goal.returns-clause-writes
-returns-clause-writes g c =
+pub returns : goal.returns
+returns g c =
     let o = c.args.table.now.outcome.now in let w = world_in o in let pl = pipeline_in o in
     let done : length (sids_in o) ≤ c.loop-place.place = omega (arith, length-map o.cols.now (sid_at o.asked.world.assets.now)) in
-    writes-over (ap (lines w pl o.asked.format) (rows_of_session w pl (sids_in o) c.args.session (c.requires.table.outcome.all c.args.session c.requires.session.from c.requires.session.to)))
-    (writing-end (writing-over (ap (lines w pl o.asked.format) (rows_end w pl c.args.session (sids_in o) c.loop-place.place done)) c.loop-place.invariant.writing))
-
-pub returns-clause-rows : goal.returns-clause-rows
-returns-clause-rows g c =
-    let o = c.args.table.now.outcome.now in let w = world_in o in let pl = pipeline_in o in
-    let done : length (sids_in o) ≤ c.loop-place.place = omega (arith, length-map o.cols.now (sid_at o.asked.world.assets.now)) in
+    let none = rows_end w pl c.args.session (sids_in o) c.loop-place.place done in
     let all = rows_of_session w pl (sids_in o) c.args.session (c.requires.table.outcome.all c.args.session c.requires.session.from c.requires.session.to) in
-    omega (arith, ap length all, ap length (rows_end w pl c.args.session (sids_in o) c.loop-place.place done), c.loop-place.invariant.rows)
-
-pub returns-clause-sum : goal.returns-clause-sum
-returns-clause-sum g c =
-    let o = c.args.table.now.outcome.now in let w = world_in o in let pl = pipeline_in o in
-    let done : length (sids_in o) ≤ c.loop-place.place = omega (arith, length-map o.cols.now (sid_at o.asked.world.assets.now)) in
-    let all = rows_of_session w pl (sids_in o) c.args.session (c.requires.table.outcome.all c.args.session c.requires.session.from c.requires.session.to) in
-    omega (arith, ints, ap (rows_sum w.texts) all, ap (rows_sum w.texts) (rows_end w pl c.args.session (sids_in o) c.loop-place.place done), c.loop-place.invariant.sum)
+    record {
+      writes = writes-over (ap (lines w pl o.asked.format) all) (writing-end (writing-over (ap (lines w pl o.asked.format) none) c.loop-place.invariant.writing));
+      pieces = c.loop-place.invariant.pieces;
+      rows = omega (arith, ap length all, ap length none, c.loop-place.invariant.rows);
+      sum = omega (arith, ints, ap (rows_sum w.texts) all, ap (rows_sum w.texts) none, c.loop-place.invariant.sum);
+      few = omega arith;
+    }

@@ -1,6 +1,6 @@
 use Rattle.std.proofs.Common.{◌≡◌, length, ap, arith}
 use Rattle.pl_terms.proofs.Graphs.{graph-long}
-use Rattle.pl_exec.proofs.course.none_of.Goals as goal
+use Rattle.pl_exec.proofs.course.empty_of.Goals as goal
 
 pub empty_value-requires : goal.empty_value-requires
 empty_value-requires c =
