@@ -7,21 +7,20 @@ use Rattle.pl_pipeline.specs.Text.{kind_at}
 use Rattle.pl_terms.specs.Sorts as sorts
 use Rattle.pl_terms.specs.Sorts.{Place, Series, sort_of, sort_at, takes_sort, fits, all_fit, optional_fits, has_mask, has_group, places, IsAllowed}
 
+pub takes-none : (p : Place) → takes_sort p None ≡ false
+takes-none Series = refl
+takes-none p = refl
+
 sort-in : (g : Graph) (p : Place) (k : ℕ) → takes_sort p (sort_at g k) ≡ true → k < length g
 sort-in g p k h = here (slice_get g k) refl
   where
-    none : (p : Place) → takes_sort p None ≡ false
-    none Series = refl
-    none p = refl
-
     here : (o : Option Node) → slice_get g k ≡ o → k < length g
     here (Some n) e = slice_get_within g k n e
-    here None e = absurd (let no : false ≡ true = sym (none p) ∙ sym (ap (λ o. takes_sort p (option_map (λ n. sort_of (kind_at g k)) o)) e) ∙ h in cc)
+    here None e = absurd (let no : false ≡ true = sym (takes-none p) ∙ sym (ap (λ o. takes_sort p (option_map (λ n. sort_of (kind_at g k)) o)) e) ∙ h in cc)
 
 inputs-in : (g : Graph) (ps : List Place) (is : List Input) (i k : ℕ) → all_fit g ps is ≡ true → slice_get is i ≡ Some (TermInput k) → k < length g
-inputs-in g [] [] i k h e = absurd (let no : None ≡ Some (TermInput k) = e in cc)
+inputs-in g ps [] i k h e = absurd (let no : None ≡ Some (TermInput k) = e in cc)
 inputs-in g [] (j ∷ is) i k h e = absurd (let no : false ≡ true = h in cc)
-inputs-in g (p ∷ ps) [] i k h e = absurd (let no : false ≡ true = h in cc)
 inputs-in g (p ∷ ps) (j ∷ is) zero k h e =
     let r = and_parts (fits g p j) (all_fit g ps is) h in
     let same : j ≡ TermInput k = (let s : Some j ≡ Some (TermInput k) = e in cc) in

@@ -1,5 +1,6 @@
 -- How the commands end.
 use Rattle.std.proofs.Common.{◌≡◌, inl, inr, ℕ, ◌+◌, ◌≤◌, Bool, List, [], Option, Some, None, Result, Ok, Err, OnOk, IfOk, IfErr, IsErrOf, ◌⊎◌, refl, sym, ap, subst, subst₂, arith}
+use Rattle.pl_outside.specs.Counts.{Rose}
 use Rattle.pl_outside.specs.Taken.{Writes}
 use Rattle.pl_outside.proofs.Pieces.{writes-over}
 use Rattle.pl_words.specs.declared.request.InputFile.{InputFile}
@@ -9,7 +10,7 @@ use Rattle.pl_judge.specs.declared.fault.Fault.{Fault}
 use Rattle.pl_judge.specs.declared.fault.Fault.TheVariants.{Usage, Unread, Unloaded, Unwritten, Memory}
 use Rattle.pl_judge.specs.Contents.{Contents}
 use Rattle.pl_judge.specs.Work.{work}
-use Rattle.pl_judge.specs.Stages.{IsStop, IsRisen}
+use Rattle.pl_judge.specs.Stages.{IsStop, IsRisen, HasRead}
 use Rattle.pl_judge.proofs.StepsRead.{read-all}
 use Rattle.pl_load.specs.Views.{ShelfView, KeeperView, Change, change, unchanged}
 use Rattle.pl_load.specs.Loads.{IsLoadOf}
@@ -17,7 +18,7 @@ use Rattle.pl_load.proofs.Calls.{shelf-same, keeper-same, alone-same, begins-non
 use Rattle.pl_cli.specs.declared.commands.Stats.{Stats}
 use Rattle.pl_cli.specs.Texts.{text_of, TakesSteps, TellsNumbers}
 use Rattle.pl_cli.specs.Runs.{Observed}
-use Rattle.pl_cli.specs.Commands.{IsEnd, IsCaused, IsAnswered, SinkView, SinkLeft, sink_view, sink_change, observed_by, stats_told}
+use Rattle.pl_cli.specs.Commands.{IsEnd, IsDone, IsCaused, IsKept, IsAnswered, SinkView, SinkLeft, sink_view, sink_change, observed_by, stats_told}
 
 -- ---- a sink
 
@@ -88,100 +89,49 @@ risen-caused usage shelf keeper out kept f k h = k
 -- ---- a command whose work is loaded
 
 module _ {T : Type 0} {shelf : Change ShelfView} {keeper : Change KeeperView} {q : Request} {Means : Contents → T → Type 0} where
+  -- the answer of a command whose work is loaded
+  answers : {l : Result T Fault} {r : Result (Option Stats) Fault} {out : Change SinkView} {steps : Change ℕ} (h : IsLoadOf shelf keeper (Some q) (λ held. work held (Some q)) Means l)
+      → OnOk r (IsDone (observed_by shelf keeper out steps) h.held (Some q)) → IfOk r (λ stats. TellsNumbers h.held (Some q) (stats_told stats))
+      → IfErr r (IsEnd (observed_by shelf keeper out steps) h.held (Some q)) → HasRead (work h.held (Some q)) h.reads r
+      → IfErr r (IsCaused (Some q ≡ None) (Rose shelf.before.faults shelf.after.faults) (Rose keeper.before.faults keeper.after.faults) (Rose out.before.faults out.after.faults) (IsKept out steps))
+      → SinkLeft out → IsAnswered shelf keeper out steps (Some q) r
+  answers h done told end read caused kept =
+      record {
+        ended = record { held = h.held; are_held = h.are_held; done = done; told = told; ended = end; reads = h.reads; has_read = read; begun = h.begun; calls = h.calls };
+        refused = λ none. absurd (cc);
+        caused = caused;
+        shelf_left = h.shelf_left;
+        keeper_left = h.keeper_left;
+        alone = h.alone;
+        out_left = kept;
+      }
+
   -- the work stops
   pub stopped : {fault : Fault} (out : SinkView) (steps : ℕ) → IsLoadOf shelf keeper (Some q) (λ held. work held (Some q)) Means (Err fault)
       → IsAnswered shelf keeper (unchanged out) (unchanged steps) (Some q) (Err fault)
   stopped {fault = fault} out steps h =
-      record {
-        ended = record {
-          held = h.held;
-          are_held = h.are_held;
-          done = tt;
-          told = tt;
-          ended = end-of (observed_by shelf keeper (unchanged out) (unchanged steps)) h.held (Some q) _ _ fault h.risen h.ends.stopped;
-          reads = h.reads;
-          has_read = record { whole = tt; up_to = h.has_read.up_to };
-          begun = h.begun;
-          calls = h.calls;
-        };
-        refused = λ none. absurd (cc);
-        caused = risen-caused _ _ _ _ _ fault (refl, refl, refl) h.risen;
-        shelf_left = h.shelf_left;
-        keeper_left = h.keeper_left;
-        alone = h.alone;
-        out_left = sink-same out;
-      }
+      answers {r = Err fault} {out = unchanged out} {steps = unchanged steps} h tt tt
+      (end-of (observed_by shelf keeper (unchanged out) (unchanged steps)) h.held (Some q) _ _ fault h.risen h.ends.stopped) (record { whole = tt; up_to = h.has_read.up_to })
+      (risen-caused _ _ _ _ _ fault (refl, refl, refl) h.risen) (sink-same out)
 
   -- memory is wanted for the text
   pub wanting : {x : T} (out : SinkView) (steps : ℕ) → IsLoadOf shelf keeper (Some q) (λ held. work held (Some q)) Means (Ok x)
       → IsAnswered shelf keeper (unchanged out) (unchanged steps) (Some q) (Err Memory)
   wanting out steps h =
-      record {
-        ended = record {
-          held = h.held;
-          are_held = h.are_held;
-          done = tt;
-          told = tt;
-          ended = inr tt;
-          reads = h.reads;
-          has_read = read-all (Err Memory) (sym h.has_read.whole);
-          begun = h.begun;
-          calls = h.calls;
-        };
-        refused = λ none. absurd (cc);
-        caused = (refl, refl, refl);
-        shelf_left = h.shelf_left;
-        keeper_left = h.keeper_left;
-        alone = h.alone;
-        out_left = sink-same out;
-      }
+      answers {r = Err Memory} {out = unchanged out} {steps = unchanged steps} h tt tt (inr tt) (read-all (Err Memory) (sym h.has_read.whole)) (refl, refl, refl) (sink-same out)
 
   module _ {x : T} (out : Change SinkView) (steps : Change ℕ) (h : IsLoadOf shelf keeper (Some q) (λ held. work held (Some q)) Means (Ok x)) where
     all-written : (stats : Option Stats) → SinkWrites out (text_of h.held (Some q)) (Ok stats) → TakesSteps h.held (Some q) (λ n. steps.after ≡ steps.before + n)
         → TellsNumbers h.held (Some q) (stats_told stats) → IsAnswered shelf keeper out steps (Some q) (Ok stats)
     all-written stats w cost told =
-        record {
-          ended = record {
-            held = h.held;
-            are_held = h.are_held;
-            done = record { passed = h.ends.passed; text = w.all; room_left = w.room_left; cost = cost };
-            told = told;
-            ended = tt;
-            reads = h.reads;
-            has_read = read-all (Ok stats) (sym h.has_read.whole);
-            begun = h.begun;
-            calls = h.calls;
-          };
-          refused = λ none. absurd (cc);
-          caused = tt;
-          shelf_left = h.shelf_left;
-          keeper_left = h.keeper_left;
-          alone = h.alone;
-          out_left = record { stays = w.stays; later = w.later };
-        }
+        answers {r = Ok stats} {out = out} {steps = steps} h (record { passed = h.ends.passed; text = w.all; room_left = w.room_left; cost = cost }) told tt
+        (read-all (Ok stats) (sym h.has_read.whole)) tt (record { stays = w.stays; later = w.later })
 
     not-written : SinkWrites out (text_of h.held (Some q)) (Err Unwritten) → TakesSteps h.held (Some q) (λ n. steps.after ≤ steps.before + n)
         → IsAnswered shelf keeper out steps (Some q) (Err Unwritten)
     not-written w most =
-        record {
-          ended = record {
-            held = h.held;
-            are_held = h.are_held;
-            done = tt;
-            told = tt;
-            ended = (h.ends.passed, w.prefix, (λ r. absurd (cc (w.blameless r.0 r.1).0)), most);
-            reads = h.reads;
-            has_read = read-all (Err Unwritten) (sym h.has_read.whole);
-            begun = h.begun;
-            calls = h.calls;
-          };
-          refused = λ none. absurd (cc);
-          caused = w.failed;
-          shelf_left = h.shelf_left;
-          keeper_left = h.keeper_left;
-          alone = h.alone;
-          out_left = record { stays = w.stays; later = w.later };
-        }
+        answers {r = Err Unwritten} {out = out} {steps = steps} h tt tt (h.ends.passed, w.prefix, (λ r. absurd (cc (w.blameless r.0 r.1).0)), most)
+        (read-all (Err Unwritten) (sym h.has_read.whole)) w.failed (record { stays = w.stays; later = w.later })
 
     -- the text is written, or after a prefix it isn't
     pub written : (r : Result (Option Stats) Fault) → SinkWrites out (text_of h.held (Some q)) r → IfErr r (λ f. f ≡ Unwritten)
@@ -220,14 +170,7 @@ module _ {T : Type 0} {shelf : Change ShelfView} {keeper : Change KeeperView} {q
 
 no-name : (f : InputFile) → name_asked None f ≡ None
 no-name file.Pipeline = refl
-no-name file.Sessions = refl
-no-name file.Assets = refl
-no-name file.Labels = refl
-no-name file.Numbers = refl
-no-name file.Bars = refl
-no-name file.Revisions = refl
-no-name file.Payouts = refl
-no-name file.Derivation = refl
+no-name f = refl
 
 pub no-command : (shelf : ShelfView) (keeper : KeeperView) (out : SinkView) (steps : ℕ) → IsAnswered (unchanged shelf) (unchanged keeper) (unchanged out) (unchanged steps) None (Err Usage)
 unfolding work

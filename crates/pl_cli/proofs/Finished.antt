@@ -5,7 +5,6 @@ use Rattle.pl_words.specs.Request.{Request, adjustments_of}
 use Rattle.pl_words.specs.Views.{request_of}
 use Rattle.pl_words.specs.declared.request.Request.{Request as Code}
 use Rattle.pl_judge.specs.declared.fault.Fault.{Fault}
-use Rattle.pl_judge.specs.declared.fault.Fault.TheVariants as faults
 use Rattle.pl_judge.specs.declared.fault.Fault.TheVariants.{Unread, Unloaded, Unwritten, Memory}
 use Rattle.pl_judge.specs.Faults.{status_of, line_of, judged_status, judged_line}
 use Rattle.pl_judge.specs.Contents.{Contents}
@@ -64,38 +63,12 @@ end-complete o held asked f h s k r = stop-complete o held asked f h s k
 -- ---- which faults have the statuses 0 and 9
 
 not-zero : (f : Fault) → status_of f ≡ 0 → ⊥
-not-zero faults.Usage e = omega arith
-not-zero (faults.Syntax place fault) e = omega arith
-not-zero (faults.Rule place fault) e = omega arith
-not-zero (faults.Data file line fault) e = omega arith
-not-zero (faults.Row table id fault) e = omega arith
-not-zero (faults.NotSession date) e = omega arith
-not-zero (faults.UnknownSid sid) e = omega arith
-not-zero faults.UnknownColumn e = omega arith
-not-zero faults.Backwards e = omega arith
-not-zero (faults.TooEarly reach) e = omega arith
-not-zero (faults.Passed limit) e = omega arith
-not-zero (Unread file) e = omega arith
-not-zero (Unloaded table) e = omega arith
 not-zero Unwritten e = omega arith
-not-zero Memory e = omega arith
+not-zero f e = omega arith
 
 nine-is : (f : Fault) → status_of f ≡ 9 → f ≡ Unwritten
-nine-is faults.Usage e = absurd (omega arith)
-nine-is (faults.Syntax place fault) e = absurd (omega arith)
-nine-is (faults.Rule place fault) e = absurd (omega arith)
-nine-is (faults.Data file line fault) e = absurd (omega arith)
-nine-is (faults.Row table id fault) e = absurd (omega arith)
-nine-is (faults.NotSession date) e = absurd (omega arith)
-nine-is (faults.UnknownSid sid) e = absurd (omega arith)
-nine-is faults.UnknownColumn e = absurd (omega arith)
-nine-is faults.Backwards e = absurd (omega arith)
-nine-is (faults.TooEarly reach) e = absurd (omega arith)
-nine-is (faults.Passed limit) e = absurd (omega arith)
-nine-is (Unread file) e = absurd (omega arith)
-nine-is (Unloaded table) e = absurd (omega arith)
 nine-is Unwritten e = refl
-nine-is Memory e = absurd (omega arith)
+nine-is f e = absurd (omega arith)
 
 -- ---- what was read
 

@@ -1,5 +1,7 @@
 -- The keeper is read only where adjustments are asked for.
-use Rattle.std.proofs.Common.{◌≡◌, ◌⊎◌, inl, inr, ℤ, ℕ, List, [], ◌∷◌, ◌++◌, IsSome, Option, Some, None, refl}
+use Rattle.std.proofs.Common.{◌≡◌, ◌⊎◌, inl, inr, ℤ, ℕ, Bool, true, false, List, [], ◌∷◌, ◌++◌, IsSome, Option, Some, None, refl, sym, ap, ◌∙◌}
+use Rattle.std.specs.List.{list_all}
+use Rattle.std.proofs.lemmas.Bool.{true≢false, and_parts}
 use Rattle.pl_spec.specs.declared.AssetRow.{AssetRow}
 use Rattle.pl_spec.specs.declared.RawAdjust.{RawAdjust}
 use Rattle.pl_pipeline.specs.Table.{Pipeline}
@@ -13,7 +15,7 @@ use Rattle.pl_judge.specs.Contents.{Contents}
 use Rattle.pl_judge.specs.Held.{assets_held, days_held, pipeline_held, world_held}
 use Rattle.pl_judge.specs.Steps.{Source, WorkStep, ReachesRead}
 use Rattle.pl_judge.specs.Steps.Source.{Input, Load}
-use Rattle.pl_judge.specs.Range.{index_of, dates_steps, plan_steps, range_steps}
+use Rattle.pl_judge.specs.Range.{dates_steps, plan_steps, range_steps}
 use Rattle.pl_judge.specs.Work.{evaluated_steps, labels_steps, numbers_steps, adjustments_steps, revisions_steps, data_steps, plan_work, payouts_work, run_work, cell_work, explain_work, verify_work, work}
 
 no-input : {A : Type 0} {file : InputFile} {table : Table} → Some (Input file) ≡ Some (Load table) → A
@@ -28,6 +30,20 @@ reaches-one (s ∷ ss) ts source h = elim h [
   | inl p ↦ inl (inl p)
   | inr q ↦ elim (reaches-one ss ts source q.1) [ inl a ↦ inl (inr (q.0, a)) | inr b ↦ inr b ]
 ]
+
+-- whether no step loads a table, whatever the faults are
+abbrev is_no_load : Option Source → Bool
+is_no_load (Some (Load table)) = false
+is_no_load source = true
+
+abbrev loads_none : List WorkStep → Bool
+loads_none steps = list_all (λ (s : WorkStep). is_no_load s.reads) steps
+
+no-table : (ss : List WorkStep) (table : Table) → loads_none ss ≡ true → ReachesRead ss (Load table) → ⊥
+no-table [] table e h = h
+no-table (s ∷ ss) table e h =
+    let r = and_parts (is_no_load s.reads) (loads_none ss) e in
+    elim h [ inl p ↦ true≢false (sym r.0 ∙ ap is_no_load p) | inr q ↦ no-table ss table r.1 q.1 ]
 
 of-labels : (assets : List AssetRow) (labels file : Option (List ℕ)) (table : Table) → ReachesRead (labels_steps assets labels file) (Load table) → ⊥
 of-labels assets None file table h = h
@@ -45,23 +61,9 @@ of-revisions : (days : List ℤ) (assets : List AssetRow) (revisions file : Opti
 of-revisions days assets None file table h = h
 of-revisions days assets (Some n) file table h = elim h [ inl p ↦ no-input p | inr q ↦ q.1 ]
 
-of-dates : (from to : Dated) (as_of : Option Dated) (days : List ℤ) (table : Table) → ReachesRead (dates_steps from to as_of days) (Load table) → ⊥
-unfolding dates_steps
-of-dates from to as_of days table h = elim h [
-  | inl e ↦ no-read e
-  | inr a ↦ elim a.1 [
-    | inl e ↦ no-read e
-    | inr b ↦ elim b.1 [ inl e ↦ no-read e | inr c ↦ elim c.1 [ inl e ↦ no-read e | inr d ↦ d.1 ] ]
-  ]
-]
-
-of-plan : (p : Pipeline) (days : List ℤ) (from to : ℕ) (table : Table) → ReachesRead (plan_steps p days from to) (Load table) → ⊥
-unfolding plan_steps
-of-plan p days from to table h = elim h [ inl e ↦ no-read e | inr a ↦ elim a.1 [ inl e ↦ no-read e | inr b ↦ b.1 ] ]
-
 of-range : (p : Pipeline) (days : List ℤ) (from to : Dated) (as_of : Option Dated) (table : Table) → ReachesRead (range_steps p days from to as_of) (Load table) → ⊥
-of-range p days from to as_of table h =
-    elim (reaches-one (dates_steps from to as_of days) _ (Load table) h) [ inl a ↦ of-dates from to as_of days table a | inr b ↦ of-plan p days (index_of days from.day) (index_of days to.day) table b ]
+unfolding dates_steps plan_steps
+of-range p days from to as_of table h = no-table (range_steps p days from to as_of) table refl h
 
 of-data : (held : Contents) (q : WorldNames) (table : Table) → ReachesRead (data_steps held q) (Load table) → IsSome q.adjustments
 unfolding data_steps
@@ -88,9 +90,9 @@ of-data held q table h =
 
 -- no table is read with the pipeline file
 of-pipeline : (numbers file : Option (List ℕ)) (rest : List WorkStep) (table : Table) → ReachesRead (evaluated_steps file numbers ++ rest) (Load table) → ReachesRead rest (Load table)
-of-pipeline numbers file rest table h = elim h [
-  | inl p ↦ no-input p
-  | inr a ↦ elim a.1 [ inl p ↦ no-read p | inr b ↦ elim b.1 [ inl p ↦ no-read p | inr c ↦ c.1 ] ]
+of-pipeline numbers file rest table h = elim (reaches-one (evaluated_steps file numbers) rest (Load table) h) [
+  | inl a ↦ absurd (no-table (evaluated_steps file numbers) table refl a)
+  | inr b ↦ b
 ]
 
 of-run : (held : Contents) (q : RunRequest) (table : Table) → ReachesRead (run_work held q) (Load table) → IsSome q.world.adjustments
@@ -107,17 +109,11 @@ of-verify held q table h = elim (reaches-one (data_steps held q.world) _ (Load t
 
 of-cell : (p : Pipeline) (days : List ℤ) (assets : List AssetRow) (q : ExplainRequest) (table : Table) → ReachesRead (cell_steps p days assets q) (Load table) → ⊥
 unfolding cell_steps
-of-cell p days assets q table h = elim h [
-  | inl e ↦ no-read e
-  | inr a ↦ elim a.1 [
-    | inl e ↦ no-read e
-    | inr b ↦ elim b.1 [ inl e ↦ no-read e | inr c ↦ elim c.1 [ inl e ↦ no-read e | inr d ↦ d.1 ] ]
-  ]
-]
+of-cell p days assets q table h = no-table (cell_steps p days assets q) table refl h
 
 of-lines : (w : World) (p : Pipeline) (q : ExplainRequest) (table : Table) → ReachesRead (lines_step w p q ∷ []) (Load table) → ⊥
 unfolding lines_step
-of-lines w p q table h = elim h [ inl e ↦ no-read e | inr a ↦ a.1 ]
+of-lines w p q table h = no-table (lines_step w p q ∷ []) table refl h
 
 of-cell-work : (held : Contents) (q : ExplainRequest) (table : Table) → ReachesRead (cell_work held q) (Load table) → IsSome q.world.adjustments
 of-cell-work held q table h = elim (reaches-one (data_steps held q.world) _ (Load table) (of-pipeline q.world.numbers (held.file PipelineFile) _ table h)) [
@@ -132,22 +128,11 @@ of-explain held q table h = elim (reaches-one (cell_work held q) _ (Load table) 
 ]
 
 of-planning : (held : Contents) (q : PlanRequest) (table : Table) → ReachesRead (plan_work held q) (Load table) → ⊥
-of-planning held q table h = elim h [
-  | inl p ↦ no-input p
-  | inr a ↦ elim a.1 [
-    | inl p ↦ no-read p
-    | inr b ↦ elim b.1 [ inl p ↦ no-input p | inr r ↦ of-range (pipeline_held held) (days_held held) q.from q.to None table r.1 ]
-  ]
-]
+unfolding dates_steps plan_steps
+of-planning held q table h = no-table (plan_work held q) table refl h
 
 of-payouts : (held : Contents) (table : Table) → ReachesRead (payouts_work held) (Load table) → ⊥
-of-payouts held table h = elim h [
-  | inl p ↦ no-input p
-  | inr a ↦ elim a.1 [
-    | inl p ↦ no-input p
-    | inr b ↦ elim b.1 [ inl p ↦ no-input p | inr c ↦ elim c.1 [ inl p ↦ no-input p | inr d ↦ d.1 ] ]
-  ]
-]
+of-payouts held table h = no-table (payouts_work held) table refl h
 
 pub store-named : (held : Contents) (asked : Option Request) (table : Table) → ReachesRead (work held asked) (Load table) → IsSome (adjustments_of asked)
 unfolding work

@@ -23,15 +23,10 @@ use Rattle.pl_explain.proofs.Given.{got, lacked, refused, accepted}
 -- ---- three lists for each
 
 shuffle : (a b c x y z : Bool) → ((a && b && c) && (x && y && z)) ≡ ((a && x) && (b && y) && (c && z))
-shuffle false b c x y z = refl
-shuffle true false c true y z = refl
-shuffle true false c false y z = refl
-shuffle true true false true true z = refl
-shuffle true true false true false z = refl
-shuffle true true false false y z = refl
 shuffle true true true true true z = refl
-shuffle true true true true false z = refl
-shuffle true true true false y z = refl
+shuffle true true false true true z = refl
+shuffle true false c true y z = refl
+shuffle a b c x y z = refl
 
 module _ (h : Fact → Bool) (f g k : ℕ → List Fact) where
   each-list : (b : ℕ) → list_all h (f b ++ g b ++ k b) ≡ (list_all h (f b) && list_all h (g b) && list_all h (k b))

@@ -42,7 +42,7 @@ use Rattle.pl_explain.specs.declared.rows.Rows.{Rows}
 use Rattle.pl_explain.specs.Keys.{fact_of}
 use Rattle.pl_explain.specs.Given.{facts_read, given, has, has_all, mask_passes, own_facts, KeepsRows}
 use Rattle.pl_explain.proofs.Given.{given-yes}
-use Rattle.pl_explain.proofs.Values.{premises-front, premises-kept, premises-barred}
+use Rattle.pl_explain.proofs.Values.{premises-front, premises-masked}
 use Rattle.pl_explain.specs.declared.walk.Walk.{Walk}
 use Rattle.pl_explain.specs.Judging.{IsTable}
 use Rattle.pl_explain.specs.Walking.{MayBeDerived, CanStandIn, HasWalked, HoldsSoFar, Finishes, IsPut, IsTooLong, IsWalkTo}
@@ -194,7 +194,7 @@ module _ {w : World} {c : Parts} {old : Walk} (from : HoldsSoFar w c old) (t : �
       (f.0, f.1 ∙ ap (λ l. l ++ f.0) (sym same))
 
   kept : mask_passes w c n.mask a s ≡ true → own ≡ read ++ facts_read w c t a s
-  kept passed = premises-kept w c from.table.ready.checked t n is a s from.table.ready.texts there passed ∙ ap (λ l. l ++ facts_read w c t a s) (sym same)
+  kept passed = premises-masked w c from.table.ready.checked t n is a s from.table.ready.texts there true passed ∙ ap (λ l. l ++ facts_read w c t a s) (sym same)
 
   pub mask-stands : MayBeDerived w c (TermValue t a (pos s)) → Each (CanStandIn w c (t + 1)) read
   mask-stands h = each_front (CanStandIn w c (t + 1)) read front.0 (subst (λ fs. Each (CanStandIn w c (t + 1)) fs) front.1 (premises-stand w c from.table.ready.checked t a s h))
@@ -219,7 +219,7 @@ module _ {w : World} {c : Parts} {old : Walk} (from : HoldsSoFar w c old) (t : �
 
     pub stopped-finished : o ≡ Some false → Finishes w c (t + 1) old mid own
     stopped-finished e =
-        let barred = premises-barred w c from.table.ready.checked t n is a s from.table.ready.texts there (passed false e) in
+        let barred = premises-masked w c from.table.ready.checked t n is a s from.table.ready.texts there false (passed false e) in
         subst (λ fs. Finishes w c (t + 1) old mid fs) (sym (barred ∙ ap (λ l. l ++ []) (sym same) ∙ append-nil read)) first
 
     pub passed-walked : o ≡ Some true → {T : Type 0} (new : Walk) (r : Result T ExplainError) → IsWalkTo w c (t + 1) (facts_read w c t a s) mid new r → IsWalkTo w c (t + 1) own old new r

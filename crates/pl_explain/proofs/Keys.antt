@@ -3,7 +3,7 @@ use Rattle.std.proofs.Common.{◌≡◌, ℕ, ◌+◌, ◌*◌, ◌<◌, Bool, t
 use Rattle.std.proofs.lemmas.Bool.{and_parts}
 use Rattle.std.proofs.lemmas.Bool.Decides.{nat_tests}
 use Rattle.pl_spec.specs.declared.Column.{Column}
-use Rattle.pl_spec.specs.declared.Column.TheVariants.{OpenPrice, High, Low, Close, Volume}
+use Rattle.pl_spec.specs.declared.Column.TheVariants.{OpenPrice}
 use Rattle.pl_spec.specs.World.{column_number}
 use Rattle.pl_spec.proofs.Columns.{column_number-one}
 use Rattle.pl_derivation.specs.Facts.{Fact}
@@ -32,10 +32,7 @@ some-if false x y e = absurd (let bad : None ≡ Some y = e in cc)
 
 column-few : (c : Column) → column_number c < 5
 column-few OpenPrice = omega arith
-column-few High = omega arith
-column-few Low = omega arith
-column-few Close = omega arith
-column-few Volume = omega arith
+column-few c = omega arith
 
 seen-parts : (c : Column) (a s d k : ℕ) → fact_key (Seen c a (pos s) (pos d)) ≡ Some k → (a < 4294967296) × (s < 4294967296) × (d < 4294967296) × (packed (column_number c) a s d ≡ k)
 seen-parts c a s d k e =
@@ -74,6 +71,4 @@ key-same (TermValue t a (pos d)) (Seen h b (pos r) (pos e)) k x y =
 key-same (Seen c a (negsuc s) d) g k x y = absurd (let bad : None ≡ Some k = x in cc)
 key-same (Seen c a (pos s) (negsuc d)) g k x y = absurd (let bad : None ≡ Some k = x in cc)
 key-same (TermValue t a (negsuc d)) g k x y = absurd (let bad : None ≡ Some k = x in cc)
-key-same f (Seen c a (negsuc s) d) k x y = absurd (let bad : None ≡ Some k = y in cc)
-key-same f (Seen c a (pos s) (negsuc d)) k x y = absurd (let bad : None ≡ Some k = y in cc)
-key-same f (TermValue t a (negsuc d)) k x y = absurd (let bad : None ≡ Some k = y in cc)
+key-same f g k x y = absurd (let bad : None ≡ Some k = y in cc)

@@ -1,5 +1,5 @@
 -- The premises of a value, and what its kind reads.
-use Rattle.std.proofs.Common.{◌≡◌, ℕ, zero, suc, ◌<◌, Bool, true, false, ◌&&◌, ℤ, pos, List, [], ◌∷◌, ◌++◌, length, Option, Some, None, option_map, unwrap_or, slice_get, refl, sym, ◌∙◌, ap, subst, arith, append-nil, IfSome}
+use Rattle.std.proofs.Common.{◌≡◌, ℕ, zero, suc, ◌<◌, Bool, true, false, ◌&&◌, ℤ, pos, List, [], ◌∷◌, ◌++◌, length, Option, Some, None, option_map, unwrap_or, slice_get, refl, sym, ◌∙◌, ap, subst, arith, append-nil, if◌then◌else◌, IfSome}
 use Rattle.std.proofs.lemmas.Option.{slice_get_within}
 use Rattle.pl_spec.specs.Rounding.{IsCell}
 use Rattle.pl_spec.specs.World.{World as SpecWorld, exists}
@@ -43,10 +43,6 @@ use Rattle.pl_explain.proofs.Given.{given-some, given-none, given-behind, refuse
 mask-read : (w : SpecWorld) (p : Pipeline) → HasTexts w → IsGraph p.graph → (o : Option ℕ) (a : ℕ) (d : ℤ) → passes (number_read w p (number_in w p) o) a d ≡ passes (number_part w p.names p.graph o) a d
 mask-read w p known ok None a d = refl
 mask-read w p known ok (Some t) a d = ap holds (from_code w p known ok t a d)
-
-true-and : (a b c : Bool) → a ≡ true → (a && b) ≡ c → b ≡ c
-true-and true b c e h = h
-true-and false b c e h = absurd (let bad : false ≡ true = e in cc)
 
 -- the kinds of cross-sections have one place
 one-place : (k : kinds.CrossKind) → (slice_get (places (kinds.Cross k)) 1 ≡ None) × (slice_get (places (kinds.Cross k)) 2 ≡ None)
@@ -97,34 +93,20 @@ module _ (w : World) (c : Parts) (ok : IsChecked (pipeline_of c)) (t : ℕ) (n :
     mask-is known b e h =
         let kept : is_kept (world_of w) (pipeline_of c) (a ∷ []) (option_map number_of n.mask) 0 s ≡ b = kept-mask w c ok t n is a s n.mask b e h in
         mask-read (world_of w) (pipeline_of c) known ok.graph (option_map number_of n.mask) a (pos s)
-        ∙ true-and (exists (world_of w) a (pos s)) (passes (number_part (world_of w) (pipeline_of c).names (pipeline_of c).graph (option_map number_of n.mask)) a (pos s)) b e
-        (keeps-is (world_of w) (pipeline_of c) (a ∷ []) ok t (node_of n) there 0 s ∙ kept)
+        ∙ sym (ap (λ x. x && passes (number_part (world_of w) (pipeline_of c).names (pipeline_of c).graph (option_map number_of n.mask)) a (pos s)) e)
+        ∙ keeps-is (world_of w) (pipeline_of c) (a ∷ []) ok t (node_of n) there 0 s ∙ kept
 
-    -- the mask alone
-    pub premises-barred : HasTexts (world_of w) → exists (world_of w) a (pos s) ≡ true → mask_passes w c n.mask a s ≡ false
-        → own_facts w c t a s ≡ number_facts a (pos s) (option_map number_of n.mask) ++ []
+    -- the mask, and what the kind reads where it lets pass
+    pub premises-masked : HasTexts (world_of w) → exists (world_of w) a (pos s) ≡ true → (b : Bool) → mask_passes w c n.mask a s ≡ b
+        → own_facts w c t a s ≡ number_facts a (pos s) (option_map number_of n.mask) ++ (if b then facts_read w c t a s else [])
     unfolding node_of
-    premises-barred known e h = shown ∙ rw (e, mask-is known false e h) refl
-
-    -- the mask, and what the kind reads
-    pub premises-kept : HasTexts (world_of w) → exists (world_of w) a (pos s) ≡ true → mask_passes w c n.mask a s ≡ true
-        → own_facts w c t a s ≡ number_facts a (pos s) (option_map number_of n.mask) ++ facts_read w c t a s
-    unfolding node_of
-    premises-kept known e h = shown ∙ rw (e, mask-is known true e h, is) refl
+    premises-masked known e true h = shown ∙ rw (e, mask-is known true e h, is) refl
+    premises-masked known e false h = shown ∙ rw (e, mask-is known false e h) refl
 
     -- ---- what the kind reads
 
-    read-kind : (k : Kind) → kind_of n.kind ≡ k → facts_read w c t a s ≡ kind_facts (world_of w) (node_of n) k a (pos s)
+    pub read-kind : (k : Kind) → kind_of n.kind ≡ k → facts_read w c t a s ≡ kind_facts (world_of w) (node_of n) k a (pos s)
     read-kind k e = rw (is, e) refl
-
-    pub read-constant : (v : ℤ) → kind_of n.kind ≡ kinds.Constant v → facts_read w c t a s ≡ []
-    read-constant v e = read-kind (kinds.Constant v) e
-
-    pub read-label : (l : ℕ) → kind_of n.kind ≡ kinds.Label l → facts_read w c t a s ≡ []
-    read-label l e = read-kind (kinds.Label l) e
-
-    pub read-number : (l : ℕ) → kind_of n.kind ≡ kinds.Number l → facts_read w c t a s ≡ []
-    read-number l e = read-kind (kinds.Number l) e
 
     pub read-sids : is_sids (kind_of n.kind) ≡ true → facts_read w c t a s ≡ []
     read-sids e = let f = sids-is (kind_of n.kind) e in read-kind (kinds.StaticSids f.0) f.1
@@ -200,12 +182,8 @@ premises-lacks w c ok t a s h gone = let n = code-node c.graph t h in premises-n
 
 pub premises-front : (w : World) (c : Parts) (ok : IsChecked (pipeline_of c)) (t : ℕ) (n : Node) (is : slice_get c.graph t ≡ Some n) (a s : ℕ) → HasTexts (world_of w) → exists (world_of w) a (pos s) ≡ true
     → (rest : List Fact) × (own_facts w c t a s ≡ number_facts a (pos s) (option_map number_of n.mask) ++ rest)
-premises-front w c ok t n is a s known there = here (mask_passes w c n.mask a s) refl
-  where
-    here : (b : Bool) → mask_passes w c n.mask a s ≡ b
-        → (rest : List Fact) × (own_facts w c t a s ≡ number_facts a (pos s) (option_map number_of n.mask) ++ rest)
-    here true e = (facts_read w c t a s, premises-kept w c ok t n is a s known there e)
-    here false e = ([], premises-barred w c ok t n is a s known there e)
+premises-front w c ok t n is a s known there =
+    (if mask_passes w c n.mask a s then facts_read w c t a s else [], premises-masked w c ok t n is a s known there (mask_passes w c n.mask a s) refl)
 
 -- ---- what is given of a value
 
@@ -235,7 +213,7 @@ module _ {b : Basis} {t col s : ℕ} (asked : IsAskedAt b col s) (term : t < len
     barred-stated n is there o h f =
         let mask = number_facts (sid_in b col) (pos s) (option_map number_of n.mask) in
         let read = given-some b.stated.now mask (mask_passes b.world b.checked.now n.mask (sid_in b col) s) false o h f in
-        accepted b.stated.now (mask ++ []) own cell v (premises-barred b.world b.checked.now asked.on.ready.checked t n is (sid_in b col) s asked.on.ready.texts there (sym read.1))
+        accepted b.stated.now (mask ++ []) own cell v (premises-masked b.world b.checked.now asked.on.ready.checked t n is (sid_in b col) s asked.on.ready.texts there false (sym read.1))
         (both-stated b.stated.now mask [] read.0 refl)
         (e ∙ ap (λ m. number_in_value (empty (sort_kind (term_at (graph_of m) t)))) same ∙ sym (cell-barred b.world b.checked.now asked.on.ready.checked t n is (sid_in b col) s there (sym read.1))) none
 
@@ -259,7 +237,7 @@ module _ {b : Basis} {t col s : ℕ} (asked : IsAskedAt b col s) (term : t < len
     pub passed-stated : o ≡ Some true → (q : Option ℤ) → IsGiven IsCell b.stated.now (facts_in b t col s) cell q → IsOwn q
     passed-stated f q k =
         let read = given-some b.stated.now mask (mask_passes b.world b.checked.now n.mask (sid_in b col) s) true o h f in
-        let all = premises-kept b.world b.checked.now asked.on.ready.checked t n is (sid_in b col) s asked.on.ready.texts there (sym read.1) in
+        let all = premises-masked b.world b.checked.now asked.on.ready.checked t n is (sid_in b col) s asked.on.ready.texts there true (sym read.1) in
         record {
           value = k.value ∙ given-behind b.stated.now mask (facts_in b t col s) cell read.0 ∙ ap (λ fs. given b.stated.now fs cell) (sym all);
           such = k.such;

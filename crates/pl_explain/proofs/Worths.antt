@@ -29,7 +29,7 @@ use Rattle.pl_explain.specs.Given.{facts_in, given, has_all, sid_in, value_in, I
 use Rattle.pl_explain.specs.Reading.{end_of}
 use Rattle.pl_explain.proofs.Given.{got, lacked, refused, accepted}
 use Rattle.pl_explain.proofs.Facts.{end-near, window-early}
-use Rattle.pl_explain.proofs.Values.{read-constant, read-label, read-number, read-sids, read-windows, read-point, read-label-test, read-period, inputs-stated, input-lacks, same-stated}
+use Rattle.pl_explain.proofs.Values.{read-kind, read-sids, read-windows, read-point, read-label-test, read-period, inputs-stated, input-lacks, same-stated}
 
 -- a window that is stated begins at no session below 0
 in-time : (stated : FactNumbers) (o : Option Input) (i : spec.Input) → option_map input_of o ≡ Some i → (size a s : ℕ) → has_all stated (window_facts size a (pos s) (option_map input_of o)) ≡ true → size ≤ s + 1
@@ -57,16 +57,16 @@ module _ {b : Basis} {t col s : ℕ} (k : IsKeptAt b t col s) (n : Node) (is : s
   pub constant-stated : (v : ℤ) → kind_of n.kind ≡ kinds.Constant v → (x : ℤ) → x ≡ v → IsValue (Some x)
   constant-stated v e x same =
       let all = constant-given b.world b.checked.now k.at.on.ready.checked t n is (sid_in b col) s k.kept v e in
-      accepted b.stated.now [] (facts_in b t col s) (value_in b t col s) x (read-constant b.world b.checked.now k.at.on.ready.checked t n is (sid_in b col) s v e) refl (same ∙ all.1) (subst IsCell (sym same) all.0)
+      accepted b.stated.now [] (facts_in b t col s) (value_in b t col s) x (read-kind b.world b.checked.now k.at.on.ready.checked t n is (sid_in b col) s (kinds.Constant v) e) refl (same ∙ all.1) (subst IsCell (sym same) all.0)
 
   pub label-stated : (l : ℕ) → kind_of n.kind ≡ kinds.Label l → (x : ℤ) → x ≡ label_code (world_of b.world).texts (label_at (world_of b.world) (name_at (pipeline_of b.checked.now).names l) (sid_in b col) (pos s)) → IsCell x → IsValue (Some x)
   label-stated l e x same cell =
-      accepted b.stated.now [] (facts_in b t col s) (value_in b t col s) x (read-label b.world b.checked.now k.at.on.ready.checked t n is (sid_in b col) s l e) refl
+      accepted b.stated.now [] (facts_in b t col s) (value_in b t col s) x (read-kind b.world b.checked.now k.at.on.ready.checked t n is (sid_in b col) s (kinds.Label l) e) refl
       (same ∙ label-given b.world b.checked.now k.at.on.ready.checked t n is (sid_in b col) s k.kept l e) cell
 
   pub number-stated : (l : ℕ) → kind_of n.kind ≡ kinds.Number l → (x : ℤ) → x ≡ known_number (world_of b.world) (name_at (pipeline_of b.checked.now).names l) (sid_in b col) (pos s) → IsCell x → IsValue (Some x)
   number-stated l e x same cell =
-      accepted b.stated.now [] (facts_in b t col s) (value_in b t col s) x (read-number b.world b.checked.now k.at.on.ready.checked t n is (sid_in b col) s l e) refl
+      accepted b.stated.now [] (facts_in b t col s) (value_in b t col s) x (read-kind b.world b.checked.now k.at.on.ready.checked t n is (sid_in b col) s (kinds.Number l) e) refl
       (same ∙ number-given b.world b.checked.now k.at.on.ready.checked t n is (sid_in b col) s k.kept l e) cell
 
   pub sids-stated : is_sids (kind_of n.kind) ≡ true → (x : ℤ) → x ≡ sid_flag (kind_of n.kind) (sid_in b col) → IsCell x → IsValue (Some x)

@@ -17,7 +17,7 @@ use Rattle.pl_spec.specs.Dates.{IsDay}
 use Rattle.pl_spec.specs.Order.{adjustments_of}
 use Rattle.pl_spec.specs.Parts.{ColumnAdjustment}
 use Rattle.pl_adjust.specs.declared.error.AdjustError.{AdjustError}
-use Rattle.pl_adjust.specs.declared.error.AdjustError.TheVariants.{BadEffective, BadRatio, TooMany, Memory}
+use Rattle.pl_adjust.specs.declared.error.AdjustError.TheVariants.{Memory}
 use Rattle.pl_adjust.specs.Columns.{by_column, in_column}
 use Rattle.pl_adjust.specs.Faults.{fault_of}
 use Rattle.pl_adjust.specs.Rules.{AreRight, IsEffective, HasRatio}
@@ -40,10 +40,8 @@ unfolding adjustments_in
 kept assets splits mergers dividends xs e = ok-is (first_fault 0 (walk splits mergers dividends)) _ xs e
 
 pub memory-alone : (e : AdjustError) (r : Result (List ColumnAdjustment) Fault) (xs : List ColumnAdjustment) → r ≡ Ok xs → IfSome (fault_of e) (λ f. r ≡ Err f) → e ≡ Memory
-memory-alone (BadEffective table id) r xs o f = absurd (cc)
-memory-alone (BadRatio table id) r xs o f = absurd (cc)
-memory-alone TooMany r xs o f = absurd (cc)
 memory-alone Memory r xs o f = refl
+memory-alone e r xs o f = absurd (cc)
 
 -- ---- the rows
 

@@ -43,25 +43,11 @@ use Rattle.pl_judge.specs.Cells.{cell_steps, lines_step}
 
 abbrev pub cap_of : InputFile → ℕ
 cap_of PipelineFile = most_pipeline_bytes
-cap_of Sessions = most_file_bytes
-cap_of Assets = most_file_bytes
-cap_of Labels = most_file_bytes
-cap_of Numbers = most_file_bytes
-cap_of Bars = most_file_bytes
-cap_of Revisions = most_file_bytes
-cap_of PayoutsFile = most_file_bytes
-cap_of Derivation = most_file_bytes
+cap_of file = most_file_bytes
 
 abbrev pub limit_of : InputFile → Limit
 limit_of PipelineFile = limits.Pipeline
-limit_of Sessions = limits.File
-limit_of Assets = limits.File
-limit_of Labels = limits.File
-limit_of Numbers = limits.File
-limit_of Bars = limits.File
-limit_of Revisions = limits.File
-limit_of PayoutsFile = limits.File
-limit_of Derivation = limits.File
+limit_of file = limits.File
 
 -- It is there, it has no more bytes than its cap, and then its rule decides.
 abbrev pub file_fault : InputFile → (List ℕ → Option Fault) → Option (List ℕ) → Option Fault
