@@ -101,11 +101,21 @@ module _ (f : ℕ → ℤ) where
 pub values_given : (q : Kind) (size : ℕ) (a b c : List ℤ) (n done : ℕ) (out : List ℤ) → n ≤ done → AreGiven (formula_at q size a b c) done out → AreValues q size a b c n out
 values_given q size a b c n done out few m = record { each = λ j h. m.each j (omega (arith, few, h)); cell = λ j h. m.cell j (omega (arith, few, h)) }
 
-abbrev pub mean_at : ℕ → List ℤ → ℕ → ℤ
+module _ (q : Kind) (size : ℕ) (a b c : List ℤ) where
+  pub none_valued : (out : List ℤ) → AreValues q size a b c 0 out
+  none_valued out = values_given q size a b c 0 0 out (omega arith) (none_given (formula_at q size a b c) out)
+
+  pub one_valued : (done : ℕ) (out : List ℤ) (x : ℤ) → AreValues q size a b c done out → done < length out → x ≡ formula_at q size a b c done → IsCell x
+      → AreValues q size a b c (done + 1) (set out done x)
+  one_valued done out x so_far room e is_cell =
+      values_given q size a b c (done + 1) (done + 1) (set out done x) (omega arith)
+      (one_given (formula_at q size a b c) done out x (record { each = so_far.each; cell = so_far.cell }) room e is_cell)
+
+unfoldable pub mean_at : ℕ → List ℤ → ℕ → ℤ
 mean_at size a j = mean (window_at size j a)
 
 pub means_are : (size : ℕ) (a b c : List ℤ) (n done : ℕ) (out : List ℤ) → n ≤ done → AreGiven (mean_at size a) done out → AreValues (Window SimpleMovingAverage) size a b c n out
-unfolding formula
+unfolding formula mean_at
 means_are size a b c n done out few m = values_given (Window SimpleMovingAverage) size a b c n done out few m
 
 -- ---- lists for lists

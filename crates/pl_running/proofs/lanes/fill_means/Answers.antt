@@ -14,6 +14,7 @@ mean-requires-in-loop-k-clause-cells c =
     subst (All IsCell) (sym (c.after.ensures ∙ span_after c.args.size c.loop-k.k c.loop-k.k here c.args.a.now _ (λ some. room) c.window_at-span.ensures)) (cells_at c.args.size c.loop-k.k c.args.a.now c.requires.cells)
 
 pub loop-k-init : goal.loop-k-init
+unfolding mean_at
 loop-k-init c =
     let r : FitsSigned w64 c.mean.result = search rules in
     rw (to_z-of_z w64 _ r) (record {
@@ -23,6 +24,7 @@ loop-k-init c =
     })
 
 pub loop-k-preserved : goal.loop-k-preserved
+unfolding mean_at
 loop-k-preserved c =
     let r : FitsSigned w64 c.mean-in-loop-k.result = search rules in
     let size = length-set c.args.out.now 0 (to_z w64 (of_z w64 c.mean.result)) in

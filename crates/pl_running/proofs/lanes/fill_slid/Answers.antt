@@ -3,9 +3,8 @@ use Rattle.std.proofs.lemmas.Int.{to_z-of_z}
 use Rattle.pl_terms.specs.Kinds.{kind_of}
 use Rattle.pl_factors.specs.Kinds.{formula_of}
 use Rattle.pl_running.specs.Kept.{kept_of}
-use Rattle.pl_running.specs.Lanes.{formula_at}
 use Rattle.pl_running.specs.Spans.{TakesSpans, TakesWindows}
-use Rattle.pl_running.proofs.Following.{holds_of, none_given, one_given, roomy_span, same_of, span_after, span_before, spans_at, values_given}
+use Rattle.pl_running.proofs.Following.{holds_of, none_valued, one_valued, roomy_span, same_of, span_after, span_before, spans_at}
 use Rattle.pl_running.proofs.lanes.fill_slid.Goals as goal
 
 pub value-requires-clause-windows : goal.value-requires-clause-windows
@@ -17,7 +16,7 @@ loop-k-init c =
     let r : FitsSigned w64 c.value.result = search rules in
     rw (to_z-of_z w64 _ r) (record {
       stands = c.start-running.ensures ∙ same_of (kept_of (kind_of c.args.kind.now)) _ _ _ _ _ _ c.window_at-first.ensures c.window_at-second.ensures c.window_at-third.ensures;
-      values = one_given (formula_at (kind_of c.args.kind.now) c.args.size c.args.a.now c.args.b.now c.args.c.now) 0 c.args.out.now c.value.result (none_given _ c.args.out.now) c.requires.windows
+      values = one_valued (kind_of c.args.kind.now) c.args.size c.args.a.now c.args.b.now c.args.c.now 0 c.args.out.now c.value.result (none_valued _ _ _ _ _ c.args.out.now) c.requires.windows
           (c.value.ensures.value ∙ same_of (formula_of (kind_of c.args.kind.now)) _ _ _ _ _ _ c.window_at-first.ensures c.window_at-second.ensures c.window_at-third.ensures) c.value.ensures.cell;
     })
 
@@ -68,14 +67,9 @@ loop-k-preserved c =
           (span_after c.args.size c.loop-k.k (c.loop-k.k + 1 - 1) later c.args.a.now _ (roomy c.args.a.now lanes.first_long (c.loop-k.k - 1) next) c.window_at-a_span.ensures)
           (span_after c.args.size c.loop-k.k (c.loop-k.k + 1 - 1) later c.args.b.now _ (roomy c.args.b.now lanes.second_long (c.loop-k.k - 1) next) c.window_at-b_span.ensures)
           (span_after c.args.size c.loop-k.k (c.loop-k.k + 1 - 1) later c.args.c.now _ (roomy c.args.c.now lanes.third_long (c.loop-k.k - 1) next) c.window_at-c_span.ensures);
-      values = one_given (formula_at (kind_of c.args.kind.now) c.args.size c.args.a.now c.args.b.now c.args.c.now) c.loop-k.k c.loop-k.out c.next_value.result c.loop-k.invariant.values (omega (arith, size, next, here, c.loop-k.auto.out))
+      values = one_valued (kind_of c.args.kind.now) c.args.size c.args.a.now c.args.b.now c.args.c.now c.loop-k.k c.loop-k.out c.next_value.result c.loop-k.invariant.values (omega (arith, size, next, here, c.loop-k.auto.out))
           (c.next_value.ensures.value ∙ same_of (formula_of (kind_of c.args.kind.now)) _ _ _ _ _ _
           (span_after c.args.size c.loop-k.k c.loop-k.k here c.args.a.now _ (roomy c.args.a.now lanes.first_long (c.loop-k.k - 1) next) c.window_at-a_span.ensures)
           (span_after c.args.size c.loop-k.k c.loop-k.k here c.args.b.now _ (roomy c.args.b.now lanes.second_long (c.loop-k.k - 1) next) c.window_at-b_span.ensures)
           (span_after c.args.size c.loop-k.k c.loop-k.k here c.args.c.now _ (roomy c.args.c.now lanes.third_long (c.loop-k.k - 1) next) c.window_at-c_span.ensures)) c.next_value.ensures.cell;
     })
-
-pub returns : goal.returns
-returns c =
-    let size = length-set c.args.out.now 0 (to_z w64 (of_z w64 c.value.result)) in
-    values_given (kind_of c.args.kind.now) c.args.size c.args.a.now c.args.b.now c.args.c.now (length c.args.out.now) c.loop-k.k c.loop-k.out (omega (arith, size, c.loop-k-test.false, c.loop-k.auto.out)) c.loop-k.invariant.values
