@@ -38,11 +38,6 @@ module _ (usage shelf keeper out kept : Type 0) where
   by-fault (faults.Rule place fault) h = judged 3 (omega arith) (omega arith) h
   by-fault (faults.Data file line fault) h = judged 4 (omega arith) (omega arith) h
   by-fault (faults.Row table id fault) h = judged 4 (omega arith) (omega arith) h
-  by-fault (faults.NotSession date) h = judged 5 (omega arith) (omega arith) h
-  by-fault (faults.UnknownSid sid) h = judged 5 (omega arith) (omega arith) h
-  by-fault faults.UnknownColumn h = judged 5 (omega arith) (omega arith) h
-  by-fault faults.Backwards h = judged 5 (omega arith) (omega arith) h
-  by-fault (faults.TooEarly reach) h = judged 5 (omega arith) (omega arith) h
   by-fault (faults.Passed limit) h = judged 6 (omega arith) (omega arith) h
   by-fault (Unread file) h = record {
     refused = λ e. absurd (omega arith);
@@ -72,6 +67,7 @@ module _ (usage shelf keeper out kept : Type 0) where
     unwritten = λ e. absurd (omega arith);
     same = λ z w. h;
   }
+  by-fault f h = judged 5 (omega arith) (omega arith) h
 
   pub by-answer : (r : Result (Option Stats) Fault) (status : ℕ) → status ≡ judged_status (fault_of r) → IfErr r (IsCaused usage shelf keeper out kept)
       → IsCausedBy usage shelf keeper out kept status
