@@ -9,7 +9,7 @@ use Rattle.std.proofs.lemmas.List.{length-map}
 use Rattle.pl_spec.specs.Rounding.{MISSING, MILLION, is_present}
 use Rattle.pl_spec.specs.World.{World, exists}
 use Rattle.pl_pipeline.specs.Kind.{CrossKind}
-use Rattle.pl_pipeline.specs.Kind.CrossKind.{Rank, Demean, ZScore, Quantiles, Top, Bottom, PercentileBetween, PeerCount}
+use Rattle.pl_pipeline.specs.Kind.CrossKind.{PeerCount}
 use Rattle.pl_pipeline.specs.Kind.Kind.{Cross}
 use Rattle.pl_pipeline.specs.Cross.{Entry, cross, cross_at, entries_for, counts_at, same_group, array_at}
 use Rattle.pl_pipeline.specs.Term.{Term, Node, Graph, IsGraph, input_tree, trees}
@@ -137,14 +137,8 @@ both-numbers v texts n = rw n.1 refl
 
 -- the input's numbers, where the kind looks at them
 told-numbers : (k : CrossKind) (x : Part) (d : ℤ) → HasNumbers k x d → (k ≡ PeerCount) ⊎ IsNumbered x d
-told-numbers (Rank m o) x d h = inr h
-told-numbers Demean x d h = inr h
-told-numbers ZScore x d h = inr h
-told-numbers (Quantiles b) x d h = inr h
-told-numbers (Top n) x d h = inr h
-told-numbers (Bottom n) x d h = inr h
-told-numbers (PercentileBetween a b) x d h = inr h
 told-numbers PeerCount x d h = inl refl
+told-numbers k x d h = inr h
 
 -- ---- the lists of a session
 

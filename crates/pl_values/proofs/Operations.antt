@@ -182,6 +182,9 @@ module _ (w : World) (p : Pipeline) (sids : List ℕ) (ok : IsChecked p) (k : �
         let b = row-is j x.0 row x.1 r in
         record { cells = fills-all IsCell (λ i. cell_of w p sids x.0 (place i) (on i)) size row b b.cell; many = b.long }
 
+    cells-both : (a b c : List ℤ) → AreEntries w p sids n place on size a b c → slice_get (point_places f) 0 ≡ Some Factor → slice_get (point_places f) 1 ≡ Some Factor → AreCells size a × AreCells size b
+    cells-both a b c r first second = (cells-at 0 a Factor r.first first, cells-at 1 b Factor r.second second)
+
     flags-at : (j : ℕ) (row : List ℤ) → IsEntryRow w p sids place on size (slice_get n.inputs j) row → slice_get (point_places f) j ≡ Some Filter → AreFlags size row
     flags-at j row r h =
         let x = term-at j Filter h in
@@ -194,36 +197,12 @@ module _ (w : World) (p : Pipeline) (sids : List ℕ) (ok : IsChecked p) (k : �
 
 operands-of : (w : World) (p : Pipeline) (sids : List ℕ) (ok : IsChecked p) (k : ℕ) (n : Node) → slice_get p.graph k ≡ Some n → (f : PointKind) → n.kind ≡ Point f
     → (place on : ℕ → ℕ) (size : ℕ) (a b c : List ℤ) → AreEntries w p sids n place on size a b c → AreOperandsOf f a b c size
-operands-of w p sids ok k n is Add e place on size a b c r = (
-  cells-at w p sids ok k n is Add e place on size 0 a Factor r.first refl,
-  cells-at w p sids ok k n is Add e place on size 1 b Factor
-      r.second refl,
-)
-operands-of w p sids ok k n is Sub e place on size a b c r = (
-  cells-at w p sids ok k n is Sub e place on size 0 a Factor r.first refl,
-  cells-at w p sids ok k n is Sub e place on size 1 b Factor
-      r.second refl,
-)
-operands-of w p sids ok k n is Mul e place on size a b c r = (
-  cells-at w p sids ok k n is Mul e place on size 0 a Factor r.first refl,
-  cells-at w p sids ok k n is Mul e place on size 1 b Factor
-      r.second refl,
-)
-operands-of w p sids ok k n is Div e place on size a b c r = (
-  cells-at w p sids ok k n is Div e place on size 0 a Factor r.first refl,
-  cells-at w p sids ok k n is Div e place on size 1 b Factor
-      r.second refl,
-)
-operands-of w p sids ok k n is (Comparison t) e place on size a b c r = (
-  cells-at w p sids ok k n is (Comparison t) e place on size 0 a Factor r.first refl,
-  cells-at w p sids ok k n is
-      (Comparison t) e place on size 1 b Factor r.second refl,
-)
-operands-of w p sids ok k n is FillNa e place on size a b c r = (
-  cells-at w p sids ok k n is FillNa e place on size 0 a Factor r.first refl,
-  cells-at w p sids ok k n is FillNa e place on size 1 b
-      Factor r.second refl,
-)
+operands-of w p sids ok k n is Add e place on size a b c r = cells-both w p sids ok k n is Add e place on size a b c r refl refl
+operands-of w p sids ok k n is Sub e place on size a b c r = cells-both w p sids ok k n is Sub e place on size a b c r refl refl
+operands-of w p sids ok k n is Mul e place on size a b c r = cells-both w p sids ok k n is Mul e place on size a b c r refl refl
+operands-of w p sids ok k n is Div e place on size a b c r = cells-both w p sids ok k n is Div e place on size a b c r refl refl
+operands-of w p sids ok k n is (Comparison t) e place on size a b c r = cells-both w p sids ok k n is (Comparison t) e place on size a b c r refl refl
+operands-of w p sids ok k n is FillNa e place on size a b c r = cells-both w p sids ok k n is FillNa e place on size a b c r refl refl
 operands-of w p sids ok k n is And e place on size a b c r = (flags-at w p sids ok k n is And e place on size 0 a r.first refl, flags-at w p sids ok k n is And e place on size 1 b r.second refl)
 operands-of w p sids ok k n is Or e place on size a b c r = (flags-at w p sids ok k n is Or e place on size 0 a r.first refl, flags-at w p sids ok k n is Or e place on size 1 b r.second refl)
 operands-of w p sids ok k n is IfElse e place on size a b c r = (
