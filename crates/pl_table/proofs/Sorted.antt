@@ -60,41 +60,22 @@ IsSorted filter numbered r = (filter ≡ is_filters r) × (numbered ≡ is_numbe
 
 window-sorted : (k : WindowKind) → IsSorted (is_window_filter k) false (window_sort k)
 window-sorted kind.All = (refl, refl)
-window-sorted kind.Any = (refl, refl)
-window-sorted (kind.AtLeastN n) = (refl, refl)
-window-sorted kind.AllPresent = (refl, refl)
 window-sorted k = (refl, refl)
 
 point-sorted : (k : PointKind) → IsSorted (is_point_filter k) false (point_sort k)
 point-sorted kind.Add = (refl, refl)
-point-sorted kind.Sub = (refl, refl)
-point-sorted kind.Mul = (refl, refl)
-point-sorted kind.Div = (refl, refl)
-point-sorted kind.Neg = (refl, refl)
-point-sorted kind.Abs = (refl, refl)
-point-sorted (kind.Clip low high) = (refl, refl)
-point-sorted kind.FillNa = (refl, refl)
-point-sorted kind.IfElse = (refl, refl)
 point-sorted k = (refl, refl)
 
 cross-sorted : (k : CrossKind) → IsSorted (is_cross_filter k) (is_numbered (kind.Cross k)) (cross_sort k)
-cross-sorted (kind.Quantiles bins) = (refl, refl)
 cross-sorted (kind.Top n) = (refl, refl)
-cross-sorted (kind.Bottom n) = (refl, refl)
-cross-sorted (kind.PercentileBetween low high) = (refl, refl)
 cross-sorted k = (refl, refl)
 
 sorted : (k : Kind) → IsSorted (is_filter k) (is_numbered k) (sort_of k)
 unfolding sort_of
-sorted (kind.Constant c) = (refl, refl)
-sorted (kind.Label n) = (refl, refl)
-sorted (kind.Number n) = (refl, refl)
-sorted (kind.StaticSids s) = (refl, refl)
 sorted (kind.Window k) = window-sorted k
 sorted (kind.Point k) = point-sorted k
-sorted (kind.LabelTest k) = (refl, refl)
 sorted (kind.Cross k) = cross-sorted k
-sorted (kind.Downsample f) = (refl, refl)
+sorted k = (refl, refl)
 
 -- ---- fields
 
