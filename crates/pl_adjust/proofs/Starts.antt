@@ -1,15 +1,8 @@
 -- Where the columns begin and end.
-use Rattle.std.proofs.Common.{◌≡◌, ℕ, ◌+◌, nat_lt, nat_le, true, false, List, [], ◌∷◌, ◌++◌, length, subst, sym, arith, inl, inr, length-append}
+use Rattle.std.proofs.Common.{◌≡◌, ℕ, ◌+◌, List, [], ◌∷◌, ◌++◌, length, subst, sym, arith, inl, inr, length-append}
 use Rattle.std.proofs.lemmas.Bool.{cases_lt}
-use Rattle.std.proofs.lemmas.Bool.Decides.{nat_tests}
 use Rattle.std.proofs.lemmas.List.{get_or_append_left, get_or_push}
 use Rattle.pl_adjust.specs.Columns.{AreStarts, IsStart}
-
-at_most : (x col : ℕ) → nat_lt x (col + 1) ≡ true → nat_le x col ≡ true
-at_most x col t = grind (arith, nat_tests)
-
-above : (x col : ℕ) → nat_lt x (col + 1) ≡ false → nat_le x col ≡ false
-above x col t = grind (arith, nat_tests)
 
 pub one_start_more : (cols starts : List ℕ) (n col : ℕ) → length starts ≡ col → AreStarts cols starts → IsStart cols col n → AreStarts cols (starts ++ n ∷ [])
 one_start_more cols starts n col long so_far start k h =

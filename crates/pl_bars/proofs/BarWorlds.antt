@@ -2,7 +2,7 @@
 use Rattle.std.proofs.Common.{◌≡◌, ℕ, suc, ◌<◌, ◌==◌, ◌&&◌, Bool, true, false, List, [], ◌∷◌, length, map, All, find, option_map, unwrap_or, refl, sym, ◌∙◌, ap, arith}
 use Rattle.std.specs.List.{AllPairs}
 use Rattle.pl_spec.specs.Rounding.{MISSING}
-use Rattle.pl_spec.specs.World.{Bar, cell_in}
+use Rattle.pl_spec.specs.World.{cell_in}
 use Rattle.pl_spec.specs.World as worlds
 use Rattle.pl_spec.specs.Parts.{sid_at, bar_of}
 use Rattle.pl_spec.specs.declared.AssetRow.{AssetRow}

@@ -24,7 +24,7 @@ use Rattle.pl_check.specs.Rules.{Written, parameter_of, has_all, form, broken}
 use Rattle.pl_check.specs.Typed.{Terms, Found, found, Definition, bar_column, defined, value_named, made, applied, called, object_of, prefixed, operands_of, combined, member_of, method_of, written, worth, args_worth}
 use Rattle.pl_check.specs.Typed as typed
 use Rattle.pl_check.specs.Trees as by_tree
-use Rattle.pl_check.specs.Trees.{Meaning, plain, Forest, After, after, Arguments, meaning_named, with_argument, meaning, arguments}
+use Rattle.pl_check.specs.Trees.{Meaning, Forest, After, after, Arguments, meaning_named, with_argument, meaning, arguments}
 use Rattle.pl_check.proofs.Unnumbered.{unnumbered, bare, bare_written, broken-bare, form-bare, object-bare, operands-bare, operator-bare}
 use Rattle.pl_check.proofs.Rooted.{tree_of, meaning_of, IsIn, AllIn, values, in-later, tree-later, all-later, trees-later}
 use Rattle.pl_check.proofs.Walk.{then-ok}

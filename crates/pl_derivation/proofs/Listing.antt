@@ -35,10 +35,6 @@ line_stated : (ls : List Line) (l : Line) (r : Result (List Line) Broken) → li
 line_stated ls l (Ok more) = ap Ok (sym (append_assoc ls (l ∷ []) more))
 line_stated ls l (Err e) = refl
 
-pub finished : (ls : List Line) (n : ℕ) (left : List ℕ) → length left ≡ 0 → lines_stated ls (lines_from n (pieces 10 left)) ≡ Ok (ls ++ [])
-finished ls n [] h = refl
-finished ls n (x ∷ xs) h = absurd (omega arith)
-
 pub writable_more : (ls : List Line) (l : Line) → AreWritable ls → IsWritable l → AreWritable (ls ++ l ∷ [])
 writable_more [] l h i = (i, tt)
 writable_more (m ∷ ls) l h i = (h.0, writable_more ls l h.1 i)

@@ -8,7 +8,7 @@ use Rattle.pl_grammar.specs.declared.PrefixSign.TheVariants.{Minus, Not}
 use Rattle.pl_grammar.specs.declared.BinarySign.TheVariants.{Sub}
 use Rattle.pl_grammar.specs.Tree.{Name, Number, Text, Operator, Tilde, Dot, Open, Close, Comma, Assign, Lexeme, mark, Tree, number, text, prefix, binary, method, sign_token, prefix_level, level, left_level, right_level}
 use Rattle.pl_grammar.specs.Grammar.{Derives, a_number, a_text, a_name, a_call, a_group, a_prefix, a_binary, a_member, a_method, ArgsDerive, none, some, OneArg, bare, named, MoreArgs, end, more}
-use Rattle.pl_grammar.specs.Machine.{Frame, Prefixed, Behind, Group, Call, Mode, Wanted, ArgWanted, Named, ArgNamed, Membered, Given, Dotted, State, Closed, Stop, Deep, Arg, Callee, function, method_of, operand, is_wanted, callee, args_of, applied, asked, depth, close, move, allowed, literal, named_move, sign_move, minus_move, operator_move, dot_move, open_move, close_move, comma_move, assign_move, shut, shut_empty, next_arg}
+use Rattle.pl_grammar.specs.Machine.{Frame, Prefixed, Behind, Group, Call, Mode, Wanted, ArgWanted, Named, ArgNamed, Membered, Given, Dotted, State, Closed, Stop, Arg, Callee, function, method_of, operand, is_wanted, callee, args_of, applied, asked, depth, close, move, literal, named_move, sign_move, minus_move, operator_move, dot_move, open_move, close_move, comma_move, assign_move, shut, shut_empty, next_arg}
 use Rattle.pl_grammar.proofs.Levels.{levels, prefix_most}
 
 pub weaken : {d k : ℕ} {ts : List Lexeme} {e : Tree} → Derives d k ts e → (l : ℕ) → l ≤ k → Derives d l ts e
@@ -326,11 +326,3 @@ move_keeps t h = tt
 abbrev pub IfRun : Result State Stop → (State → Type 0) → Type 0
 IfRun (Ok s) P = P s
 IfRun (Err e) P = Unit {0}
-
-allowed_keeps : (most : ℕ) (o : Option State) (us : List Lexeme) → Keeps most o us → IfRun (allowed most o) (λ s. Has most s.mode s.frames us)
-allowed_keeps most None us k = tt
-allowed_keeps most (Some s) us k = by_test (leb (depth s.frames) most) (λ t. k (leb-true (depth s.frames) most t))
-  where
-    by_test : (b : Bool) → (b ≡ true → Has most s.mode s.frames us) → IfRun (cond b (Ok s) (Err Deep)) (λ s. Has most s.mode s.frames us)
-    by_test true f = f refl
-    by_test false f = tt

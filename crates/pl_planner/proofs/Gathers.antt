@@ -14,7 +14,7 @@ use Rattle.pl_laws.proofs.Lows.{reads_at-rises, reads_at-within}
 use Rattle.pl_planner.proofs.Moved.{early-still, late-still}
 use Rattle.pl_planner.specs.declared.uses.Use.{Use}
 use Rattle.pl_planner.specs.Extra as extra
-use Rattle.pl_planner.specs.Extra.{Ask, back_from, input_ask, number_asks, asks, asks_of, asks_at, IsBack, IsExtra}
+use Rattle.pl_planner.specs.Extra.{Ask, back_from, input_ask, number_asks, asks, asks_at, IsBack}
 use Rattle.pl_planner.specs.Uses.{unused, use_at, all_asked, marked, all_marked, AreUses, HaveExtras}
 use Rattle.pl_spec.proofs.Each.{each_at}
 use Rattle.pl_planner.proofs.Counting.{all_same}

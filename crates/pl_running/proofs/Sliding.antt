@@ -32,9 +32,6 @@ places-slide f (suc n) =
 
 -- ---- the two windows of a span
 
-at : List ℤ → ℕ → ℤ
-at xs i = get_or xs i (pos 0)
-
 pub length-before : (xs : List ℤ) → length (before xs) ≡ length xs - 1
 length-before xs = omega (arith, length-take (length xs - 1) xs)
 

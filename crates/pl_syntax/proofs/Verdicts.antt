@@ -7,7 +7,7 @@ use Rattle.pl_grammar.specs.Tree.{Token, Lexeme, mark}
 use Rattle.pl_grammar.specs.Script as g
 use Rattle.pl_grammar.specs.Script.{script_step}
 use Rattle.pl_grammar.specs.Faults as f
-use Rattle.pl_grammar.specs.Faults.{Kind, Tail, AtEnd, AtBad, Verdict, Good, Fault, place_of, too_large, counted, most_tokens, most_depth, Spelled, IsFirst, step_verdict, finish_verdict, verdict}
+use Rattle.pl_grammar.specs.Faults.{Kind, Tail, AtEnd, AtBad, Verdict, Good, Fault, place_of, too_large, counted, most_tokens, most_depth, Spelled, step_verdict, finish_verdict, verdict}
 use Rattle.pl_grammar.proofs.ScriptRead.{one_script, script_known}
 use Rattle.pl_grammar.specs.Whole.{are_sound}
 use Rattle.pl_grammar.proofs.Scripts.{script_sound}

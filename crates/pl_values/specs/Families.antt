@@ -4,7 +4,7 @@ use Rattle.std.specs.List.{list_any}
 use Rattle.pl_spec.specs.Limits.{most_window}
 use Rattle.pl_spec.specs.Rounding.{MISSING, IsCell, is_missing}
 use Rattle.pl_pipeline.specs.Kind as spec
-use Rattle.pl_pipeline.specs.Kind.{Kind, WindowKind, PointKind, LabelKind, CrossKind}
+use Rattle.pl_pipeline.specs.Kind.{Kind}
 use Rattle.pl_spec.specs.Cells.{truth}
 use Rattle.pl_pipeline.specs.Formula.{formula}
 use Rattle.pl_pipeline.specs.Pointwise.{label_test}

@@ -3,14 +3,14 @@ use Rattle.std.proofs.Common.{◌≡◌, ◌∙◌, ℕ, Bool, true, false, cond
 use Rattle.std.specs.Prelude.{⊤, bytes_eq, is_some, fold, option_and_then}
 use Rattle.std.proofs.lemmas.Slice.Eq.{bytes_eq-Decides}
 use Rattle.clap.specs.Words.{Rule, Row, Shape, App, fault_of, matches_of}
-use Rattle.clap.specs.Faults.{default_fault, defaults_fault, check_fault, level_fault, built_fault}
+use Rattle.clap.specs.Faults.{defaults_fault, check_fault, level_fault, built_fault}
 use Rattle.clap.specs.Takes.{is_given}
-use Rattle.clap.specs.Walk.{finished, with_default, nothing_held, has_row, walk, walk_from, is_empty}
+use Rattle.clap.specs.Walk.{finished, with_default, nothing_held, has_row}
 use Rattle.clap.proofs.FaultLemmas.{leaf_fault}
 use Rattle.std.specs.List.{list_any}
 use Rattle.clap.specs.Kinds.{Kinds, or_else}
 use Rattle.clap.specs.Lexer.{strip_byte, long_of, long_of_rest, short_of}
-use Rattle.clap.specs.Walk.{subcommand_met, Held, Walk, Waiting, idle, option, positional, Step, value, next, trailing, walked, word_met, settled, reacted, pushed, used, takes_values, takes_several, is_pending, arg_by_id, arg_by_long, after_step, positional_held, option_met, flag_met}
+use Rattle.clap.specs.Walk.{subcommand_met, Held, Walk, Waiting, idle, option, positional, Step, value, walked, word_met, settled, reacted, pushed, takes_values, takes_several, is_pending, arg_by_id, arg_by_long, after_step}
 use Rattle.clap.specs.Faults.{walk_fault, turn_fault, settle_fault, use_fault, react_fault, word_fault, step_fault, long_fault}
 use Rattle.pl_words.specs.declared.commands.OptionName.{OptionName}
 use Rattle.pl_words.specs.Parts.{Word, Part, Name, Given, text_of, has_value, option_named, behind, begins_with_hyphen, behind_hyphens, option_name, value_behind, and_part, option_part, named_part, hyphens_part, parts, is_short, has_short}
