@@ -77,9 +77,8 @@ module _ (w : World) (c : Parts) (ok : IsChecked (pipeline_of c)) (t s : ℕ) (a
   -- an input on any session
   input-cost-at : (o : Option Input) (d : ℤ) → tree_cost (input_tree (trees (graph_of c.graph)) (option_map input_of o)) a d ≡ input_cost_at w c o a d
   unfolding cost
-  input-cost-at None d = refl
   input-cost-at (Some (input.Column k)) d = refl
-  input-cost-at (Some (input.Term u)) d = refl
+  input-cost-at o d = refl
 
   -- over a window
   window-cost : (size : ℕ) (o : Option Input) → ((u : TermId) → o ≡ Some (input.Term u) → u.0 < length (graph_of c.graph)) → IsAskedInput w c o size s
@@ -147,11 +146,8 @@ module _ (w : World) (c : Parts) (ok : IsChecked (pipeline_of c)) (t s : ℕ) (a
   kind-is (kinds.LabelTest f) = one-is 0
   kind-is (kinds.Cross f) =
       three _ _ _ _ _ _ (ap (λ o. session_cost (world_of w) (tree_cost (input_tree (trees (graph_of c.graph)) o)) (pos s)) (inputs-at n 0) ∙ row-cost (slice_get n.inputs 0)) (option-cost n.mask) (option-cost n.group)
-  kind-is (kinds.Constant f) = refl
-  kind-is (kinds.Label f) = refl
-  kind-is (kinds.Number f) = refl
-  kind-is (kinds.StaticSids f) = refl
   kind-is (kinds.Downsample f) = ap (λ o. tree_cost (input_tree (trees (graph_of c.graph)) o) a (period_start f w.sessions.now (pos s))) (inputs-at n 0) ∙ input-cost-at (slice_get n.inputs 0) (period_start f w.sessions.now (pos s))
+  kind-is k = refl
 
   abbrev given : ℕ
   given = given_cost_of w c (kind_of n.kind) n a s
