@@ -7,7 +7,7 @@ use Rattle.std.proofs.lemmas.Int.{ints}
 use Rattle.std.proofs.lemmas.List.Folds.{list_any-append}
 use Rattle.std.proofs.lemmas.Option.{slice_get_within}
 use Rattle.pl_pipeline.specs.Kind.{Kind}
-use Rattle.pl_pipeline.specs.Kind.Kind.{Constant, Label, Number, StaticSids, Window, Point, LabelTest, Cross, Downsample}
+use Rattle.pl_pipeline.specs.Kind.Kind.{Downsample}
 use Rattle.pl_spec.specs.declared.Frequency.{Frequency}
 use Rattle.pl_spec.specs.Periods.{period_start}
 use Rattle.pl_spec.specs.Window.{before, downward}
@@ -221,11 +221,4 @@ module _ (days : List ℤ) (rise : AllPairs (λ a b. a <ℤ b) days) where
 -- where a node of the kind reads its inputs
 pub reads-is : (days : List ℤ) (k : Kind) (start d : ℕ) → ((f : Frequency) → k ≡ Downsample f → pos start ≡ period_start f days (pos d)) → pos (read_up_to start d k) ≡ reads_at days k (pos d)
 reads-is days (Downsample f) start d h = h f refl
-reads-is days (Constant x) start d h = refl
-reads-is days (Label x) start d h = refl
-reads-is days (Number x) start d h = refl
-reads-is days (StaticSids x) start d h = refl
-reads-is days (Window x) start d h = refl
-reads-is days (Point x) start d h = refl
-reads-is days (LabelTest x) start d h = refl
-reads-is days (Cross x) start d h = refl
+reads-is days k start d h = refl

@@ -6,7 +6,7 @@ use Rattle.pl_pipeline.specs.Term.{Graph, IsGraph}
 use Rattle.pl_pipeline.specs.Graph.{contains, Used, used_terms, is_live, live_terms, columns_at, bound}
 use Rattle.pl_laws.proofs.Uses.{lower}
 use Rattle.pl_pipeline.proofs.Contained.{place-of}
-use Rattle.pl_planner.proofs.Live.{bound_held, contains-filter, filtered}
+use Rattle.pl_planner.proofs.Live.{turned, bound_held, contains-filter, filtered}
 use Rattle.pl_exec.proofs.Counts.{range_suc}
 
 module _ (g : Graph) (outputs : List ℕ) where
@@ -23,12 +23,6 @@ module _ (g : Graph) (outputs : List ℕ) (used : ℕ → Bool) (reads : ℕ →
     (live : (k t : ℕ) → k < length g → (used t && nat_le t k && reads k t) ≡ contains (live_terms g outputs k) t) where
   abbrev pub held : ℕ → ℕ
   held k = if used k then count_by (λ t. used t && reads k t) (range_with_len 0 (k + 1)) + columns_at g k else 0
-
-  turned : (a b c : Bool) → (a && b && c) ≡ (b && (a && c))
-  turned true true c = refl
-  turned true false c = refl
-  turned false true c = refl
-  turned false false c = refl
 
   same_at : (k t : ℕ) → k < length g → (used t && is_live g outputs k t) ≡ (nat_le t k && (used t && reads k t))
   same_at k t h = ap (λ b. b && is_live g outputs k t) (is t) ∙ sym (contains-filter (is_live g outputs k) (used_terms g outputs) t) ∙ sym (live k t h) ∙ turned (used t) (nat_le t k) (reads k t)

@@ -1,7 +1,7 @@
 -- One live term more, and one that is released.
 use Rattle.std.proofs.Common.{◌≡◌, ◌≢◌, ℕ, ◌+◌, ◌<◌, ◌≤◌, Bool, true, false, ◌&&◌, not, nat_le, nat_lt, ◌==◌, max, List, length, get_or, refl, sym, ◌∙◌, ap, arith, inl, inr, ℤ, Option, Some, None, lt-ltb}
 use Rattle.std.specs.List.{range_with_len, count_by}
-use Rattle.std.proofs.lemmas.Bool.{cases_eq, cases_lt, true≢false, eqb-true}
+use Rattle.std.proofs.lemmas.Bool.{and_parts, cases_eq, cases_lt, true≢false, eqb-true}
 use Rattle.std.proofs.lemmas.Bool.Decides.{nat_tests}
 use Rattle.pl_workspace.specs.Slots.{Slots, Slot, Free, Begun, Live, slot_at, with_slot, live_count, in_use}
 use Rattle.std.proofs.lemmas.List.{get_or_default}
@@ -145,11 +145,7 @@ module _ (used : ℕ → Bool) (last : ℕ → Option ℕ) (k : ℕ) where
   left_at_first j = rw (lt_zero j) (and-true (kept used last k j))
 
   pub left_kept : (t j : ℕ) → left used last k t j ≡ true → left used last k 0 j ≡ true
-  left_kept t j h = left_at_first j ∙ first (kept used last k j) (not (nat_lt j t && ends_at (last j) k)) h
-    where
-      first : (a b : Bool) → (a && b) ≡ true → a ≡ true
-      first true b h = refl
-      first false b h = absurd (true≢false (sym h))
+  left_kept t j h = left_at_first j ∙ (and_parts (kept used last k j) (not (nat_lt j t && ends_at (last j) k)) h).0
 
   pub left_else : (t j : ℕ) → j ≢ t → left used last k t j ≡ left used last k (t + 1) j
   left_else t j ne = ap (λ b. kept used last k j && not (b && ends_at (last j) k)) (lt_same j t ne)

@@ -11,7 +11,7 @@ use Rattle.std.proofs.lemmas.Simd.{map-map}
 use Rattle.pl_spec.specs.declared.AssetRow.{AssetRow}
 use Rattle.pl_spec.specs.declared.BarRow.{BarRow}
 use Rattle.pl_spec.specs.declared.Column.{Column}
-use Rattle.pl_spec.specs.declared.Column.TheVariants.{OpenPrice, High, Low, Close, Volume}
+use Rattle.pl_spec.specs.declared.Column.TheVariants.{OpenPrice}
 use Rattle.pl_spec.specs.Agree.{Agree, is_known}
 use Rattle.pl_spec.specs.Parts.{AreFor, ColumnAdjustment, adjustment_of, bar_of, sid_at}
 use Rattle.pl_spec.specs.Rounding.{MISSING}
@@ -69,10 +69,7 @@ no-bar assets (b ∷ bars) a c s all apart =
 -- the cell of a column in a bar
 own-cell : (rows : List BarRow) (s col : ℕ) (c : Column) → cell_of c (bar_row s (bar_at rows s col)) ≡ cell_at rows col c s
 own-cell rows s col OpenPrice = refl
-own-cell rows s col High = refl
-own-cell rows s col Low = refl
-own-cell rows s col Close = refl
-own-cell rows s col Volume = refl
+own-cell rows s col c = refl
 
 -- a bar that stands after others, or before them
 cell-front : (old new : List BarRow) (col : ℕ) (c : Column) (s : ℕ) → All (λ b. is_at col s b ≡ false) new → cell_at (old ++ new) col c s ≡ cell_at old col c s

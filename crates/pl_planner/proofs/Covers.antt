@@ -29,7 +29,7 @@ use Rattle.pl_planner.specs.Laws.{ReadsAreCovered}
 use Rattle.pl_planner.proofs.Pipelines.{IsPipeline, is-pipeline}
 use Rattle.pl_planner.proofs.Gathers.{mention_of_ask}
 use Rattle.pl_planner.proofs.Counting.{count_more, most_in, columns-few}
-use Rattle.pl_planner.proofs.Live.{contains-filter, some_holds, used_within, live_is, bound_is}
+use Rattle.pl_planner.proofs.Live.{turned, contains-filter, some_holds, used_within, live_is, bound_is}
 use Rattle.pl_planner.proofs.Lows.{Asked, asked-of, Back, needs-back, low-is, back-used, needs-rise}
 use Rattle.pl_planner.proofs.Tables.{ReachedAt, most-at, most-in, extra-used, extra-some}
 
@@ -269,12 +269,6 @@ module _ (days : List ℤ) (rise : AllPairs (λ a b. a <ℤ b) days) (p : Pipeli
         ap (λ b. is_used plan t && nat_le t k && b) (read-by k t h)
         ∙ ap (λ b. b && nat_le t k && nat_le k (last_of t)) (used-here t)
         ∙ turned (use_at uses t).used (nat_le t k) (nat_le k (last_of t)) ∙ sym (live-kept k t h)
-      where
-        turned : (a b c : Bool) → ((a && b) && c) ≡ (b && (a && c))
-        turned true true c = refl
-        turned true false c = refl
-        turned false true c = refl
-        turned false false c = refl
 
     -- ---- slots
 

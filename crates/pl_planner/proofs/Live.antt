@@ -2,7 +2,7 @@
 use Rattle.std.proofs.Common.{◌≡◌, ℕ, zero, suc, ◌+◌, ◌-◌, ◌<◌, ◌≤◌, Bool, true, false, cond, ◌&&◌, ◌||◌, max, nat_le, List, [], ◌∷◌, ◌++◌, length, map, fold, filter, refl, sym, ◌∙◌, ap, arith, inl, inr, ◌==◌, if◌then◌else◌, leb-true}
 use Rattle.std.specs.List.{range_with_len, count_by, list_any}
 use Rattle.std.proofs.lemmas.Bool.Decides.{nat_tests}
-use Rattle.std.proofs.lemmas.Bool.{cases_lt, true≢false, or_cases, or_left, or_right, eq-eqb, eqb-true, and_from, and_parts}
+use Rattle.std.proofs.lemmas.Bool.{and_right, cases_lt, true≢false, or_cases, or_left, or_right, eq-eqb, eqb-true, and_from, and_parts}
 use Rattle.std.proofs.lemmas.List.{get_or_past}
 use Rattle.std.proofs.lemmas.List.Elements.{filter-append}
 use Rattle.std.proofs.lemmas.List.Sums.{length-filter}
@@ -61,11 +61,7 @@ contains-filter p (x ∷ xs) t = here (p x) refl (x == t) refl (contains-filter 
     here : (b : Bool) → p x ≡ b → (c : Bool) → (x == t) ≡ c → contains (filter p xs) t ≡ (contains xs t && p t) → contains (filter p (x ∷ xs)) t ≡ (contains (x ∷ xs) t && p t)
     here true e true f ih = let s : p t ≡ true = ap p (sym (eqb-true x t f)) ∙ e in rw (e, f, s) refl
     here true e false f ih = rw (e, f) ih
-    here false e true f ih = let s : p t ≡ false = ap p (sym (eqb-true x t f)) ∙ e in rw (e, f) (ih ∙ rw s (and_false (contains xs t)))
-      where
-        and_false : (a : Bool) → (a && false) ≡ false
-        and_false true = refl
-        and_false false = refl
+    here false e true f ih = let s : p t ≡ false = ap p (sym (eqb-true x t f)) ∙ e in rw (e, f) (ih ∙ rw s (and_right (contains xs t) false refl))
     here false e false f ih = rw (e, f) ih
 
 -- ---- a test of some of a list
@@ -99,6 +95,12 @@ used_within g outputs ok {uses} are t u = elim (cases_lt t (length g)) [
 ]
 
 -- ---- what is held at once
+
+pub turned : (a b c : Bool) → (a && b && c) ≡ (b && (a && c))
+turned true true c = refl
+turned true false c = refl
+turned false true c = refl
+turned false false c = refl
 
 -- by which terms are used, and which are kept with a term
 module _ (g : Graph) (outputs : List ℕ) (used : ℕ → Bool) (kept : ℕ → ℕ → Bool) (listed : used_terms g outputs ≡ filter used (range_with_len 0 (length g)))

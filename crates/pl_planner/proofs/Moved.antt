@@ -4,7 +4,7 @@ use Rattle.std.proofs.lemmas.Int.{ints}
 use Rattle.pl_spec.specs.declared.Frequency.{Frequency}
 use Rattle.pl_spec.specs.Periods.{first_session, period_start}
 use Rattle.pl_pipeline.specs.Kind.{Kind}
-use Rattle.pl_pipeline.specs.Kind.Kind.{Constant, Label, Number, StaticSids, Window, Point, LabelTest, Cross, Downsample}
+use Rattle.pl_pipeline.specs.Kind.Kind.{Downsample}
 use Rattle.pl_pipeline.specs.Graph.{reads_at}
 
 start-in : (f : Frequency) (days : List ℤ) (d : ℤ) → pos 0 ≤ℤ d → pos 0 ≤ℤ period_start f days d
@@ -23,15 +23,8 @@ start-before f days (pos d) h = absurd (omega (arith, ints))
 
 -- what holds of a session, and of the first one of its period, holds of the one that is read
 still : (P : ℤ → Type 0) (days : List ℤ) (k : Kind) (d : ℤ) → P d → ((f : Frequency) → P (period_start f days d)) → P (reads_at days k d)
-still P days (Constant cell) d h s = h
-still P days (Label n) d h s = h
-still P days (Number n) d h s = h
-still P days (StaticSids sids) d h s = h
-still P days (Window k) d h s = h
-still P days (Point k) d h s = h
-still P days (LabelTest k) d h s = h
-still P days (Cross k) d h s = h
 still P days (Downsample f) d h s = s f
+still P days k d h s = h
 
 pub late-still : (days : List ℤ) (k : Kind) (d : ℤ) → pos 0 ≤ℤ d → pos 0 ≤ℤ reads_at days k d
 late-still days k d h = still (λ s. pos 0 ≤ℤ s) days k d h (λ f. start-in f days d h)
