@@ -17,3 +17,4 @@ pub mod Permuted
 pub mod AsOf
 pub mod Names
 pub mod Numbers
+pub mod Each
