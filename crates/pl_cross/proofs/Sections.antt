@@ -1,11 +1,14 @@
 -- A cross-section over the arrays of a session is the cross-section of the definitions.
-use Rattle.std.proofs.Common.{◌≡◌, ◌⊎◌, ℕ, zero, suc, ◌+◌, ◌-◌, ◌*◌, ◌<◌, ◌≤◌, Bool, true, false, ◌&&◌, if◌then◌else◌, ℤ, pos, List, [], ◌∷◌, length, map, filter, get_or, Option, Some, None, refl, sym, ◌∙◌, ap, arith, nat_lt, ◌==◌, slice_get, inl, inr, AllPairs, le-ltb, lt-ltb}
+use Rattle.std.proofs.Common.{◌≡◌, ◌⊎◌, ℕ, ◌*◌, ◌<◌, ◌≤◌, Bool, true, false, ◌&&◌, if◌then◌else◌, ℤ, pos, List, [], ◌∷◌, length, map, filter, get_or, Option, Some, None, refl, sym, ◌∙◌, ap, arith, nat_lt, ◌==◌, slice_get, inl, inr, AllPairs, le-ltb, lt-ltb}
 use Rattle.std.specs.List.{range_with_len, list_any}
 use Rattle.std.specs.Ordering.{int_eq}
 use Rattle.std.proofs.lemmas.Bool.{cases_lt, cases_eq}
 use Rattle.std.proofs.lemmas.Bool.Decides.{nat_tests}
+use Rattle.std.proofs.lemmas.Grind.{same_number_lists}
 use Rattle.std.proofs.lemmas.Simd.{map-map}
 use Rattle.std.proofs.lemmas.List.{length-map}
+use Rattle.std.proofs.lemmas.List.Elements.{Contains-get_or}
+use Rattle.std.proofs.lemmas.List.FromFn.{get_or-map-range_with_len, length-map-range_with_len}
 use Rattle.pl_spec.specs.Rounding.{MISSING, MILLION, is_present}
 use Rattle.pl_spec.specs.World.{World, exists}
 use Rattle.pl_pipeline.specs.Kind.{CrossKind}
@@ -21,90 +24,49 @@ use Rattle.pl_pipeline.specs.NodeValue.{meaning_of, number_part, node_operands}
 use Rattle.pl_pipeline.specs.Table.{in_array}
 use Rattle.pl_spec.specs.Cells.{is_true}
 use Rattle.pl_pipeline.proofs.Unfolds.{value_at-node}
-use Rattle.pl_spec.proofs.Lists.{filter-map, filter-twice}
+use Rattle.pl_spec.proofs.Counts.{map-agree}
+use Rattle.pl_spec.proofs.Lists.{filter-map, filter-same, filter-twice}
+use Rattle.pl_spec.proofs.Members.{In, contains-in}
 use Rattle.pl_cross.specs.Listing.{labels_for, group_at}
 use Rattle.pl_cross.specs.Arrays.{sid_in, IsArray, IsNumbered, IsLabelled, IsGroupArray, HasNumbers, Columns, AreArrays, AreNodeArrays, empty_number, section_at, section_in}
-use Rattle.pl_cross.proofs.Members.{not-own}
+use Rattle.pl_cross.proofs.Members.{in-filter, in-range, not-own}
 use Rattle.pl_cross.proofs.Renaming.{named, placed, cross-named}
 use Rattle.pl_cross.proofs.Codes.{present_code, same_numbers, same_labels}
 
 -- ---- lists by their places
 
 -- what two filtered lists of places give is one where each place gives one
-map-filter-range : {X : Type 0} (f g : ℕ → X) (p q : ℕ → Bool) (low n : ℕ) → ((j : ℕ) → low ≤ j → j < low + n → (p j ≡ q j) × (f j ≡ g j))
-    → map f (filter p (range_with_len low n)) ≡ map g (filter q (range_with_len low n))
-map-filter-range f g p q low zero h = refl
-map-filter-range f g p q low (suc n) h =
-    let own = h low (omega arith) (omega arith) in
-    here (q low) refl own.0 own.1 (map-filter-range f g p q (low + 1) n (λ j l m. h j (omega arith) (omega arith)))
+map-filter-range : {X : Type 0} (f g : ℕ → X) (p q : ℕ → Bool) (n : ℕ) → ((j : ℕ) → j < n → (p j ≡ q j) × (f j ≡ g j))
+    → map f (filter p (range_with_len 0 n)) ≡ map g (filter q (range_with_len 0 n))
+map-filter-range f g p q n h =
+    let js = range_with_len 0 n in
+    ap (map f) (filter-same p q js (λ k d l. (h (get_or js k d) (within (get_or js k d) (contains-in js (get_or js k d) (Contains-get_or js k d l)))).0))
+    ∙ map-agree f g (filter q js) (λ j i. (h j (within j (in-filter q js j i).0)).1)
   where
-    here : (b : Bool) → q low ≡ b → p low ≡ q low → f low ≡ g low → map f (filter p (range_with_len (low + 1) n)) ≡ map g (filter q (range_with_len (low + 1) n))
-        → map f (filter p (low ∷ range_with_len (low + 1) n)) ≡ map g (filter q (low ∷ range_with_len (low + 1) n))
-    here true e same_test same ih = rw (same_test ∙ e, e, same, ih) refl
-    here false e same_test same ih = rw (same_test ∙ e, e, ih) refl
-
-map-range : {X : Type 0} (f g : ℕ → X) (low n : ℕ) → ((j : ℕ) → low ≤ j → f j ≡ g j) → map f (range_with_len low n) ≡ map g (range_with_len low n)
-map-range f g low zero h = refl
-map-range f g low (suc n) h =
-    let own : f low ≡ g low = h low (omega arith) in
-    let rest : map f (range_with_len (low + 1) n) ≡ map g (range_with_len (low + 1) n) = map-range f g (low + 1) n (λ j l. h j (omega arith)) in
-    rw (own, rest) refl
+    within : (j : ℕ) → In j (range_with_len 0 n) → j < n
+    within j i = let r = in-range 0 n j i in omega (arith, r.1)
 
 -- a list by its places
-places : (xs : List ℕ) (low : ℕ) → xs ≡ map (λ j. get_or xs (j - low) 0) (range_with_len low (length xs))
-places [] low = refl
-places (x ∷ xs) low =
-    let zero_at : low - low ≡ 0 = omega arith in
-    let own : get_or (x ∷ xs) (low - low) 0 ≡ x = ap (λ j. get_or (x ∷ xs) j 0) zero_at in
-    let rest : map (λ j. get_or (x ∷ xs) (j - low) 0) (range_with_len (low + 1) (length xs)) ≡ xs
-    = map-range (λ j. get_or (x ∷ xs) (j - low) 0) (λ j. get_or xs (j - (low + 1)) 0) (low + 1) (length xs)
-    (λ j l. let e : j - low ≡ suc (j - (low + 1)) = omega arith in ap (λ m. get_or (x ∷ xs) m 0) e)
-    ∙ sym (places xs (low + 1)) in
-    rw (own, rest) refl
+places : (xs : List ℕ) → xs ≡ map (sid_in xs) (range_with_len 0 (length xs))
+places xs =
+    same_number_lists xs (map (sid_in xs) (range_with_len 0 (length xs))) (sym (length-map-range_with_len (sid_in xs) 0 (length xs)))
+    (λ k h. sym (get_or-map-range_with_len (sid_in xs) 0 (length xs) k k 0 h (omega arith)))
 
--- ---- the sids as one rising function of all places
-
-abbrev pub name_at : List ℕ → ℕ → ℕ
-name_at sids j = if nat_lt j (length sids) then get_or sids j 0 else get_or sids (length sids - 1) 0 + 1 + j
-
-name_low : (sids : List ℕ) (j : ℕ) → j < length sids → name_at sids j ≡ get_or sids j 0
-name_low sids j h = let t : nat_lt j (length sids) ≡ true = grind (arith, nat_tests) in rw t refl
-
-name_high : (sids : List ℕ) (j : ℕ) → length sids ≤ j → name_at sids j ≡ get_or sids (length sids - 1) 0 + 1 + j
-name_high sids j h = let t : nat_lt j (length sids) ≡ false = grind (arith, nat_tests) in rw t refl
-
-last_most : (sids : List ℕ) → AllPairs (λ a b. a < b) sids → (j : ℕ) → j < length sids → get_or sids j 0 ≤ get_or sids (length sids - 1) 0
-last_most sids up j h = elim (cases_eq j (length sids - 1)) [
-  | inl p ↦ (let e = ap (λ m. get_or sids m 0) p in omega arith)
-  | inr p ↦ (let l : get_or sids j 0 < get_or sids (length sids - 1) 0 = up j (length sids - 1) 0 (omega arith) (omega arith) in omega arith)
-]
-
-names_up : (sids : List ℕ) → AllPairs (λ a b. a < b) sids → (i j : ℕ) → i < j → name_at sids i < name_at sids j
-names_up sids up i j h = elim (cases_lt j (length sids)) [
-  | inl p ↦ (let l : get_or sids i 0 < get_or sids j 0 = up i j 0 h p in let a = name_low sids i (omega arith) in let b = name_low sids j p in omega arith)
-  | inr p ↦ elim (cases_lt i (length sids)) [
-    | inl q ↦ (let l = last_most sids up i q in let a = name_low sids i q in let b = name_high sids j p in omega arith)
-    | inr q ↦ (let a = name_high sids i q in let b = name_high sids j p in omega arith)
-  ]
-]
-
-names_rise : (sids : List ℕ) → AllPairs (λ a b. a < b) sids → (i j : ℕ) → nat_lt (name_at sids i) (name_at sids j) ≡ nat_lt i j
-names_rise sids up i j = elim (cases_lt i j) [
-  | inl p ↦ lt-ltb (name_at sids i) (name_at sids j) (names_up sids up i j p) ∙ sym (lt-ltb i j p)
-  | inr p ↦ le-ltb (name_at sids i) (name_at sids j) (no_more j i p) ∙ sym (le-ltb i j p)
+-- sids ascend as their places do
+sids_rise : (sids : List ℕ) → AllPairs (λ a b. a < b) sids → (i j : ℕ) → i < length sids → j < length sids → nat_lt (sid_in sids i) (sid_in sids j) ≡ nat_lt i j
+sids_rise sids up i j h l = elim (cases_lt i j) [
+  | inl p ↦ lt-ltb (sid_in sids i) (sid_in sids j) (up i j 0 p l) ∙ sym (lt-ltb i j p)
+  | inr p ↦ le-ltb (sid_in sids i) (sid_in sids j) (no_more p) ∙ sym (le-ltb i j p)
 ]
   where
-    no_more : (j i : ℕ) → j ≤ i → name_at sids j ≤ name_at sids i
-    no_more j i p = elim (cases_eq j i) [
-      | inl e ↦ (let s = ap (name_at sids) e in omega arith)
-      | inr ne ↦ (let l = names_up sids up j i (omega arith) in omega arith)
+    no_more : j ≤ i → sid_in sids j ≤ sid_in sids i
+    no_more p = elim (cases_eq j i) [
+      | inl e ↦ (let s = ap (sid_in sids) e in omega arith)
+      | inr ne ↦ (let r : sid_in sids j < sid_in sids i = up j i 0 (omega arith) h in omega arith)
     ]
 
 same_tests : (a b c d : ℕ) → nat_lt a b ≡ nat_lt c d → nat_lt b a ≡ nat_lt d c → (a == b) ≡ (c == d)
 same_tests a b c d h k = grind (arith, nat_tests)
-
-same_entry : {a b : ℕ} {x y : ℤ} → a ≡ b → x ≡ y → (let e : Entry = (a, x) in e) ≡ (b, y)
-same_entry e f = rw (e, f) refl
 
 -- ---- whether an asset counts
 
@@ -163,63 +125,61 @@ module _ (w : World) (k : CrossKind) (o : Operands) (d : ℤ) (sids : List ℕ) 
       ∙ ap (λ b. (is_true (array_at keep j) && b) && in_group (group_of k o.first o.group) (sid_in sids i) d (sid_in sids j)) (present_code w.texts (value_of_part o.first (sid_in sids j) d) ∙ ap is_present (sym (s.values.each j l)))
       ∙ ap (λ b. (is_true (array_at keep j) && is_present (array_at vs j)) && b) (groups_told w (group_of k o.first o.group) d sids (labels_for k vs labels) s.groups i j h l)
 
-  listed : (i : ℕ) → i < length sids → eligible w k o (sid_in sids i) d ≡ named (name_at sids) numbers (counting i)
+  listed : (i : ℕ) → i < length sids → eligible w k o (sid_in sids i) d ≡ named (sid_in sids) numbers (counting i)
   listed i h =
       let cf : ℕ → Bool = counts_for k o (sid_in sids i) d in
       let ex : ℕ → Bool = λ b. exists w b d in
-      let sid : ℕ → ℕ = λ j. get_or sids (j - 0) 0 in
       let en : ℕ → Entry = entry o.first d in
       ap (λ l. map en (filter cf l)) s.all
       ∙ ap (map en) (filter-twice cf ex sids)
-      ∙ ap (λ l. map en (filter (λ b. ex b && cf b) l)) (places sids 0)
-      ∙ ap (map en) (filter-map (λ b. ex b && cf b) sid (range_with_len 0 (length sids)))
-      ∙ map-map en sid (filter (λ j. ex (sid j) && cf (sid j)) (range_with_len 0 (length sids)))
-      ∙ map-filter-range (λ j. en (sid j)) (λ j. (let e : Entry = (name_at sids j, numbers j) in e)) (λ j. ex (sid j) && cf (sid j)) (counts_at vs keep (labels_for k vs labels) i) 0 (length sids)
-      (λ j l m.
-      let j_is : j - 0 ≡ j = omega arith in
-      let within : j < length sids = omega arith in (
-        ap (λ n. ex (get_or sids n 0) && cf (get_or sids n 0)) j_is ∙ counted i j h within,
-        ap (λ n. en (get_or sids n 0)) j_is ∙ same_entry (sym (name_low sids j within)) refl,
-      ))
-      ∙ ap (λ n. map (λ j. (let e : Entry = (name_at sids j, numbers j) in e)) (filter (counts_at vs keep (labels_for k vs labels) i) (range_with_len 0 n))) (sym s.values.long)
+      ∙ ap (λ l. map en (filter (λ b. ex b && cf b) l)) (places sids)
+      ∙ ap (map en) (filter-map (λ b. ex b && cf b) (sid_in sids) (range_with_len 0 (length sids)))
+      ∙ map-map en (sid_in sids) (filter (λ j. ex (sid_in sids j) && cf (sid_in sids j)) (range_with_len 0 (length sids)))
+      ∙ map-filter-range (λ j. en (sid_in sids j)) (λ j. (let e : Entry = (sid_in sids j, numbers j) in e)) (λ j. ex (sid_in sids j) && cf (sid_in sids j)) (counts_at vs keep (labels_for k vs labels) i) (length sids)
+      (λ j l. (counted i j h l, refl))
+      ∙ ap (λ n. map (λ j. (let e : Entry = (sid_in sids j, numbers j) in e)) (filter (counts_at vs keep (labels_for k vs labels) i) (range_with_len 0 n))) (sym s.values.long)
+
+  among : (i j : ℕ) → In j (counting i) → j < length sids
+  among i j h = let r = in-range 0 (length vs) j (in-filter (counts_at vs keep (labels_for k vs labels) i) (range_with_len 0 (length vs)) j h).0 in omega (arith, r.1, s.values.long)
 
   -- the asset is in its own list exactly where its place is among those that count
-  any_same : (i : ℕ) (js : List ℕ) → list_any (λ (e : Entry). e.0 == name_at sids i) (map (λ j. (let e : Entry = (name_at sids j, numbers j) in e)) js) ≡ list_any (λ (e : Entry). e.0 == i) (map (λ j. (let e : Entry = (j, array_at vs j) in e)) js)
-  any_same i [] = refl
-  any_same i (j ∷ js) =
-      let here : (name_at sids j == name_at sids i) ≡ (j == i) = same_tests (name_at sids j) (name_at sids i) j i (names_rise sids s.ascend j i) (names_rise sids s.ascend i j) in
-      let rest = any_same i js in
+  any_same : (i : ℕ) (js : List ℕ) → i < length sids → ((j : ℕ) → In j js → j < length sids)
+      → list_any (λ (e : Entry). e.0 == sid_in sids i) (map (λ j. (let e : Entry = (sid_in sids j, numbers j) in e)) js) ≡ list_any (λ (e : Entry). e.0 == i) (map (λ j. (let e : Entry = (j, array_at vs j) in e)) js)
+  any_same i [] h all = refl
+  any_same i (j ∷ js) h all =
+      let l = all j (inl refl) in
+      let here : (sid_in sids j == sid_in sids i) ≡ (j == i) = same_tests (sid_in sids j) (sid_in sids i) j i (sids_rise sids s.ascend j i l h) (sids_rise sids s.ascend i j h l) in
+      let rest = any_same i js h (λ m n. all m (inr n)) in
       rw (here, rest) refl
 
   crossed : (i : ℕ) → i < length sids → (k ≡ PeerCount) ⊎ IsNumbered o.first d
-      → cross k (named (name_at sids) numbers (counting i)) (name_at sids i) (numbers i)
+      → cross k (named (sid_in sids) numbers (counting i)) (sid_in sids i) (numbers i)
       ≡ cross k (placed (array_at vs) (counting i)) i (array_at vs i)
   unfolding cross
   crossed i h (inl peers) =
-      ap (λ q. cross q (named (name_at sids) numbers (counting i)) (name_at sids i) (numbers i)) peers
-      ∙ ap (λ n. pos (n * MILLION)) (length-map (counting i) (λ j. (let e : Entry = (name_at sids j, numbers j) in e)) ∙ sym (length-map (counting i) (λ j. (let e : Entry = (j, array_at vs j) in e))))
+      ap (λ q. cross q (named (sid_in sids) numbers (counting i)) (sid_in sids i) (numbers i)) peers
+      ∙ ap (λ n. pos (n * MILLION)) (length-map (counting i) (λ j. (let e : Entry = (sid_in sids j, numbers j) in e)) ∙ sym (length-map (counting i) (λ j. (let e : Entry = (j, array_at vs j) in e))))
       ∙ ap (λ q. cross q (placed (array_at vs) (counting i)) i (array_at vs i)) (sym peers)
   crossed i h (inr numbered) =
-      ap (λ l. cross k l (name_at sids i) (numbers i)) same_values
-      ∙ ap (λ v. cross k (named (name_at sids) (array_at vs) (counting i)) (name_at sids i) v) (value_is i h)
-      ∙ cross-named (name_at sids) (names_rise sids s.ascend) (array_at vs) (counting i) k i (array_at vs i)
+      ap (λ l. cross k l (sid_in sids i) (numbers i)) same_values
+      ∙ ap (λ v. cross k (named (sid_in sids) (array_at vs) (counting i)) (sid_in sids i) v) (value_is i h)
+      ∙ cross-named (sid_in sids) (array_at vs) (counting i) i (λ j m. sids_rise sids s.ascend j i (among i j m) h) k (array_at vs i)
     where
       value_is : (j : ℕ) → j < length sids → numbers j ≡ array_at vs j
       value_is j l = both-numbers (value_of_part o.first (sid_in sids j) d) w.texts (numbered (sid_in sids j)) ∙ sym (s.values.each j l)
 
-      same_values : named (name_at sids) numbers (counting i) ≡ named (name_at sids) (array_at vs) (counting i)
+      same_values : named (sid_in sids) numbers (counting i) ≡ named (sid_in sids) (array_at vs) (counting i)
       same_values =
-          map-filter-range (λ j. (let e : Entry = (name_at sids j, numbers j) in e)) (λ j. (let e : Entry = (name_at sids j, array_at vs j) in e)) (counts_at vs keep (labels_for k vs labels) i) (counts_at vs keep (labels_for k vs labels) i) 0 (length vs)
-          (λ j l m. (refl, same_entry refl (value_is j (omega (arith, s.values.long)))))
+          map-agree (λ j. (let e : Entry = (sid_in sids j, numbers j) in e)) (λ j. (let e : Entry = (sid_in sids j, array_at vs j) in e)) (counting i)
+          (λ j m. ap (λ x. (let e : Entry = (sid_in sids j, x) in e)) (value_is j (among i j m)))
 
   -- what the definitions give for the assets that exist and pass the mask
   section_is : (i : ℕ) (none : ℤ) → i < length sids
       → (if list_any (λ (e : Entry). e.0 == sid_in sids i) (own i) then cross k (own i) (sid_in sids i) (numbers i) else none) ≡ cross_at k none vs keep (labels_for k vs labels) i
   section_is i none h =
-      let list : List Entry = named (name_at sids) numbers (counting i) in
+      let list : List Entry = named (sid_in sids) numbers (counting i) in
       ap (λ l. if list_any (λ (e : Entry). e.0 == sid_in sids i) l then cross k l (sid_in sids i) (numbers i) else none) (listed i h)
-      ∙ ap (λ a. if list_any (λ (e : Entry). e.0 == a) list then cross k list a (numbers i) else none) (sym (name_low sids i h))
-      ∙ ap (λ b. if b then cross k list (name_at sids i) (numbers i) else none) (any_same i (counting i))
+      ∙ ap (λ b. if b then cross k list (sid_in sids i) (numbers i) else none) (any_same i (counting i) h (among i))
       ∙ ap (λ v. if list_any (λ (e : Entry). e.0 == i) (entries_for vs keep (labels_for k vs labels) i) then v else none) (crossed i h (told-numbers k o.first d s.numbers))
 
 -- ---- values of terms

@@ -58,6 +58,10 @@ abbrev pub HasNumber : LabelValue → Type 0
 HasNumber (Number n) = ⊤
 HasNumber (Text t) = ⊥
 
+abbrev pub is_comparison : Kind → Bool
+is_comparison (Point (Comparison t)) = true
+is_comparison k = false
+
 -- it is a factor of two factors
 abbrev pub is_pair : Kind → Bool
 is_pair (Point Add) = true

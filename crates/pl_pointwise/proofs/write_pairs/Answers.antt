@@ -1,7 +1,6 @@
 use Rattle.std.proofs.Common.{rules}
 use Rattle.pl_terms.specs.Kinds.{kind_of}
 use Rattle.pl_pipeline.specs.Pointwise.{pointwise}
-use Rattle.pl_pointwise.proofs.FlagLemmas.{pair-left}
 use Rattle.pl_pointwise.proofs.write_pairs.Goals as goal
 
 pub returns-in-Add-clause-values : goal.returns-in-Add-clause-values
@@ -33,8 +32,3 @@ unfolding kind_of pointwise
 returns-in-FillNa-clause-values c = λ k z h.
     let v = c.at_each_pair-in-FillNa.ensures.values k h in
     rw c.in-FillNa.is (search rules)
-
-pub unreachable-requires : goal.unreachable-requires
-unreachable-requires c =
-    let left = c.in_default in
-    pair-left c.args.kind.now c.requires.pair left.not-Add left.not-Sub left.not-Mul left.not-Div left.not-FillNa
