@@ -6,8 +6,9 @@ use Rattle.pl_grammar.specs.declared.BinarySign.{BinarySign}
 use Rattle.pl_grammar.specs.declared.PrefixSign.TheVariants.{Minus, Not}
 use Rattle.pl_grammar.specs.Tree.{Name, Number, Text, Operator, Dot, Open, Close, Comma, Assign, Lexeme, mark, Tree, number, text, name, call, member, method, Args, no_args, arg, sign_token, prefix_level, level, left_level}
 use Rattle.pl_grammar.specs.Grammar.{Derives, a_number, a_text, a_name, a_call, a_group, a_prefix, a_binary, a_member, a_method, ArgsDerive, none, some, OneArg, bare, named, MoreArgs, end, more}
-use Rattle.pl_grammar.specs.Machine.{Frame, Prefixed, Behind, Group, Call, Mode, Wanted, ArgWanted, Named, ArgNamed, Membered, Given, Dotted, State, Closed, Stop, Arg, Callee, function, method_of, operand, is_wanted, args_of, applied, asked, depth, close, closed, at, move, run, behind, operator_move, dot_move, close_move, comma_move, shut, next_arg}
-use Rattle.pl_grammar.proofs.Levels.{levels, prefix_most, stays, stays_at_dot, run_on, run_step, allowed_some}
+use Rattle.pl_grammar.specs.Machine.{Frame, Prefixed, Behind, Group, Call, Mode, Wanted, ArgWanted, Named, ArgNamed, Membered, Given, Dotted, State, Closed, Stop, Arg, Callee, function, method_of, operand, is_wanted, args_of, applied, asked, depth, close, closed, at, move, state_depth, step, run_by, run, behind, operator_move, dot_move, close_move, comma_move, shut, next_arg}
+use Rattle.pl_grammar.proofs.Levels.{levels, prefix_most, stays, stays_at_dot}
+use Rattle.pl_grammar.proofs.Runs.{run_on, run_step, run_nil, allowed_some}
 
 -- an operand may begin here: anywhere, or at the beginning of an argument
 abbrev pub start : Bool → Mode
@@ -84,12 +85,8 @@ comma_operand q mode frames tree c given same = ap (λ x. comma_move x frames) g
 
 -- single steps are runs
 run_one : (most : ℕ) (t : Lexeme) (m : Mode) (fs : List Frame) (s : State) → move t m fs ≡ Some s → depth s.frames ≤ most → run most (t ∷ []) (at m fs) ≡ Ok s
-unfolding run
-run_one most t m fs s h k = run_step most t [] (at m fs) s (Ok s) (allowed_some most (move t m fs) s h k) refl
-
-run_nil : (most : ℕ) (s : State) → run most [] s ≡ Ok s
-unfolding run
-run_nil most s = refl
+unfolding run_by
+run_one most t m fs s h k = run_step (step most) t [] (at m fs) s (Ok s) (allowed_some state_depth most (move t m fs) s h k) refl
 
 -- an operand of one token or one that ended by a parenthesis
 whole : (most l : ℕ) (s : State) (ts : List Lexeme) (m : Mode) (e : Tree) (fs : List Frame) → l ≤ 8 → run most ts s ≡ Ok (at m fs) → operand m ≡ Some e → Reads most s ts l e fs
@@ -112,8 +109,8 @@ object_of most s ts e fs r =
 
 dot_operand : (most : ℕ) (q p : Place) (m : Mode) (e : Tree) (n : List ℕ) (ys : List Lexeme) (fs : List Frame) (r : Result State Stop) → operand m ≡ Some e → depth fs ≤ most → run most ys (at (Membered p e n) fs) ≡ r → run most (mark q Dot ∷ (mark p (Name n) ∷ ys)) (at m fs) ≡ r
 dot_operand most q p m e n ys fs r given room k =
-    run_step most (mark q Dot) (mark p (Name n) ∷ ys) (at m fs) (at (Dotted e) fs) r (allowed_some most (move (mark q Dot) m fs) _ (ap (λ x. dot_move x fs) given) room)
-    (run_step most (mark p (Name n)) ys (at (Dotted e) fs) (at (Membered p e n) fs) r (allowed_some most (move (mark p (Name n)) (Dotted e) fs) _ refl room) k)
+    run_step (step most) (mark q Dot) (mark p (Name n) ∷ ys) (at m fs) (at (Dotted e) fs) r (allowed_some state_depth most (move (mark q Dot) m fs) _ (ap (λ x. dot_move x fs) given) room)
+    (run_step (step most) (mark p (Name n)) ys (at (Dotted e) fs) (at (Membered p e n) fs) r (allowed_some state_depth most (move (mark p (Name n)) (Dotted e) fs) _ refl room) k)
 
 member_open : (p r : Place) (e : Tree) (n : List ℕ) (fs : List Frame) → move (mark r Open) (Membered p e n) fs ≡ Some (at ArgWanted (Call (method_of p e n) [] None ∷ fs))
 member_open p r e n fs = refl
@@ -134,15 +131,15 @@ mutual
       whole most l _ _ (name_mode w p n) (name p n) fs low (run_one most (mark p (Name n)) (start w) fs _ (wanted_name w p n fs) (omega arith)) (name_given w p n)
   reads {l = l} (a_call {d = d} {p = p} {q = q} r {n = n} {ts = ts} {ps = ps} _ inside) most w fs fits low room =
       whole most l _ _ (Given (call p n ps)) (call p n ps) fs low
-      (run_step most (mark p (Name n)) (mark q Open ∷ (ts ++ (mark r Close ∷ []))) _ (at (name_mode w p n) fs) _ (allowed_some most _ _ (wanted_name w p n fs) (omega arith))
-      (run_step most (mark q Open) (ts ++ (mark r Close ∷ [])) _ (at ArgWanted (Call (function p n) [] None ∷ fs)) _ (allowed_some most _ _ (name_open w p q n fs) (omega arith))
+      (run_step (step most) (mark p (Name n)) (mark q Open ∷ (ts ++ (mark r Close ∷ []))) _ (at (name_mode w p n) fs) _ (allowed_some state_depth most _ _ (wanted_name w p n fs) (omega arith))
+      (run_step (step most) (mark q Open) (ts ++ (mark r Close ∷ [])) _ (at ArgWanted (Call (function p n) [] None ∷ fs)) _ (allowed_some state_depth most _ _ (name_open w p q n fs) (omega arith))
       (reads_args inside most r (function p n) fs (omega arith) ∙ ap (λ x. Ok (at (Given (call p n x)) fs)) (args_of-list_of ps))))
       refl
   reads {l = l} (a_group {d = d} {q = q} c {ts = ts} {e = e} _ inside) most w fs fits low room =
       let r = reads inside most true (Group ∷ fs) (omega arith) (omega arith) (omega arith) in
       whole most l _ _ (Given e) e fs low
-      (run_step most (mark q Open) (ts ++ (mark c Close ∷ [])) _ (at Wanted (Group ∷ fs)) _ (allowed_some most _ _ (wanted_open w q fs) (omega arith))
-      (run_on most ts (mark c Close ∷ []) _ _ _ r.goes
+      (run_step (step most) (mark q Open) (ts ++ (mark c Close ∷ [])) _ (at Wanted (Group ∷ fs)) _ (allowed_some state_depth most _ _ (wanted_open w q fs) (omega arith))
+      (run_on (step most) ts (mark c Close ∷ []) _ _ _ r.goes
       (run_one most (mark c Close) r.mode r.frames _ (shut_operand c r.mode r.frames r.tree _ r.given (r.same 0 (omega arith))) (omega arith))))
       refl
   reads {l = l} (a_prefix {d = d} {p = q} {ts = ts} {e = e} s p inside) most w fs fits low room =
@@ -152,7 +149,7 @@ mutual
         frames = r.frames;
         tree = r.tree;
         height = prefix_level s;
-        goes = run_step most (mark q (sign_token s)) ts _ (at Wanted (Prefixed q s ∷ fs)) _ (allowed_some most _ _ (wanted_sign w q s fs (omega arith)) (omega arith)) r.goes;
+        goes = run_step (step most) (mark q (sign_token s)) ts _ (at Wanted (Prefixed q s ∷ fs)) _ (allowed_some state_depth most _ _ (wanted_sign w q s fs (omega arith)) (omega arith)) r.goes;
         given = r.given;
         high = p;
         same = λ m h. r.same m (omega arith) ∙ cond-true (leb m (prefix_level s)) _ _ (le-leb m (prefix_level s) (omega arith));
@@ -170,9 +167,9 @@ mutual
         frames = rb.frames;
         tree = rb.tree;
         height = level o;
-        goes = run_on most xs (mark q (Operator o) ∷ ys) _ _ _ ra.goes
-            (run_step most (mark q (Operator o)) ys _ (at Wanted (Behind q o a ∷ fs)) _
-            (allowed_some most _ _ (behind_operand q o ra.mode ra.frames ra.tree ra.height a fs ra.given (ra.same (level o) lo) (omega arith) ra.high) (omega arith))
+        goes = run_on (step most) xs (mark q (Operator o) ∷ ys) _ _ _ ra.goes
+            (run_step (step most) (mark q (Operator o)) ys _ (at Wanted (Behind q o a ∷ fs)) _
+            (allowed_some state_depth most _ _ (behind_operand q o ra.mode ra.frames ra.tree ra.height a fs ra.given (ra.same (level o) lo) (omega arith) ra.high) (omega arith))
             rb.goes);
         given = rb.given;
         high = p;
@@ -181,13 +178,13 @@ mutual
   reads {l = l} (a_member {p = p} q {n = n} {ts = ts} {e = e} h object) most w fs fits low room =
       let r = object_of most _ ts e fs (reads object most w fs (omega arith) (omega arith) room) in
       whole most l _ _ (Membered p e n) (member p e n) fs low
-      (run_on most ts (mark q Dot ∷ (mark p (Name n) ∷ [])) _ _ _ r.goes (dot_operand most q p r.mode e n [] fs _ r.given (omega arith) (run_nil most _)))
+      (run_on (step most) ts (mark q Dot ∷ (mark p (Name n) ∷ [])) _ _ _ r.goes (dot_operand most q p r.mode e n [] fs _ r.given (omega arith) (run_nil (step most) _)))
       refl
   reads {l = l} (a_method {d = d} {p = p} q o c {n = n} {ts = ts} {us = us} {e = e} {ps = ps} h object inside) most w fs fits low room =
       let r = object_of most _ ts e fs (reads object most w fs (omega arith) (omega arith) room) in
       whole most l _ _ (Given (method p e n ps)) (method p e n ps) fs low
-      (run_on most ts _ _ _ _ r.goes (dot_operand most q p r.mode e n (mark o Open ∷ (us ++ (mark c Close ∷ []))) fs _ r.given (omega arith)
-      (run_step most (mark o Open) (us ++ (mark c Close ∷ [])) _ (at ArgWanted (Call (method_of p e n) [] None ∷ fs)) _ (allowed_some most _ _ (member_open p o e n fs) (omega arith))
+      (run_on (step most) ts _ _ _ _ r.goes (dot_operand most q p r.mode e n (mark o Open ∷ (us ++ (mark c Close ∷ []))) fs _ r.given (omega arith)
+      (run_step (step most) (mark o Open) (us ++ (mark c Close ∷ [])) _ (at ArgWanted (Call (method_of p e n) [] None ∷ fs)) _ (allowed_some state_depth most _ _ (member_open p o e n fs) (omega arith))
       (reads_args inside most c (method_of p e n) fs (omega arith) ∙ ap (λ x. Ok (at (Given (method p e n x)) fs)) (args_of-list_of ps)))))
       refl
 
@@ -196,7 +193,7 @@ mutual
   reads_args (some {ts = ts} {us = us} {n = n} {e = e} one rest) most z c fs room =
       let r = reads_arg one most c [] fs room in
       ap (λ x. run most x (at ArgWanted (Call c [] None ∷ fs))) (append_assoc ts us (mark z Close ∷ []))
-      ∙ run_on most ts (us ++ (mark z Close ∷ [])) _ _ _ r.goes (reads_more rest most z c [] n e fs r.mode r.frames r.tree r.height r.given (r.same 0 (omega arith)) room)
+      ∙ run_on (step most) ts (us ++ (mark z Close ∷ [])) _ _ _ r.goes (reads_more rest most z c [] n e fs r.mode r.frames r.tree r.height r.given (r.same 0 (omega arith)) room)
 
   pub reads_arg : {d : ℕ} {ts : List Lexeme} {n : Option (List ℕ)} {e : Tree} → OneArg d ts n e → (most : ℕ) (c : Callee) (acc : List Arg) (fs : List Frame) → suc (depth fs) + d ≤ most → Reads most (at ArgWanted (Call c acc None ∷ fs)) ts 1 e (Call c acc n ∷ fs)
   reads_arg (bare inside) most c acc fs room = reads inside most false (Call c acc None ∷ fs) (omega arith) (omega arith) room
@@ -210,8 +207,8 @@ mutual
         given = r.given;
         high = r.high;
         same = r.same;
-        goes = run_step most (mark p (Name n)) (mark q Assign ∷ ts) _ (at (ArgNamed p n) (Call c acc None ∷ fs)) _ (allowed_some most _ _ (wanted_name false p n (Call c acc None ∷ fs)) (omega arith))
-            (run_step most (mark q Assign) ts _ (at Wanted (Call c acc (Some n) ∷ fs)) _ (allowed_some most _ _ (assign_name p q c acc n fs) (omega arith)) r.goes);
+        goes = run_step (step most) (mark p (Name n)) (mark q Assign ∷ ts) _ (at (ArgNamed p n) (Call c acc None ∷ fs)) _ (allowed_some state_depth most _ _ (wanted_name false p n (Call c acc None ∷ fs)) (omega arith))
+            (run_step (step most) (mark q Assign) ts _ (at Wanted (Call c acc (Some n) ∷ fs)) _ (allowed_some state_depth most _ _ (assign_name p q c acc n fs) (omega arith)) r.goes);
       }
 
   pub reads_more : {d : ℕ} {us : List Lexeme} {ps : Args} → MoreArgs d us ps → (most : ℕ) (z : Place) (c : Callee) (acc : List Arg) (n : Option (List ℕ)) (e : Tree) (fs : List Frame) (m : Mode) (frames : List Frame) (tree : Tree) (h : ℕ) → operand m ≡ Some tree → closed 0 tree frames ≡ record { height = h; tree = e; frames = Call c acc n ∷ fs } → suc (depth fs) + d ≤ most → run most (us ++ (mark z Close ∷ [])) (at m frames) ≡ Ok (at (Given (applied c (acc ++ (record { name = n; tree = e } ∷ list_of ps)))) fs)
@@ -221,8 +218,8 @@ mutual
       let here : Arg = record { name = n; tree = e } in
       let next : Arg = record { name = k; tree = x } in
       let r = reads_arg one most c (acc ++ (here ∷ [])) fs room in
-      run_step most (mark p Comma) ((ts ++ us) ++ (mark z Close ∷ [])) _ (at ArgWanted (Call c (acc ++ (here ∷ [])) None ∷ fs)) _
-      (allowed_some most _ _ (comma_operand p m frames tree _ given same) (omega arith))
+      run_step (step most) (mark p Comma) ((ts ++ us) ++ (mark z Close ∷ [])) _ (at ArgWanted (Call c (acc ++ (here ∷ [])) None ∷ fs)) _
+      (allowed_some state_depth most _ _ (comma_operand p m frames tree _ given same) (omega arith))
       (ap (λ y. run most y (at ArgWanted (Call c (acc ++ (here ∷ [])) None ∷ fs))) (append_assoc ts us (mark z Close ∷ []))
-      ∙ (run_on most ts (us ++ (mark z Close ∷ [])) _ _ _ r.goes (reads_more rest most z c (acc ++ (here ∷ [])) k x fs r.mode r.frames r.tree r.height r.given (r.same 0 (omega arith)) room)
+      ∙ (run_on (step most) ts (us ++ (mark z Close ∷ [])) _ _ _ r.goes (reads_more rest most z c (acc ++ (here ∷ [])) k x fs r.mode r.frames r.tree r.height r.given (r.same 0 (omega arith)) room)
       ∙ ap (λ y. Ok (at (Given (applied c y)) fs)) (append_assoc acc (here ∷ []) (next ∷ list_of ps))))

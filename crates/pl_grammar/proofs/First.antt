@@ -3,13 +3,14 @@ use Rattle.std.proofs.Common.{◌≡◌, ℕ, ◌≤◌, ◌<◌, Bool, true, fa
 use Rattle.std.proofs.lemmas.Bool.{le-leb, leb-true, cond-false, cond-true, lt-leb}
 use Rattle.pl_grammar.specs.declared.Place.{Place}
 use Rattle.pl_grammar.specs.Tree.{Lexeme, mark, Semicolon}
-use Rattle.pl_grammar.specs.Machine.{Stop, Stuck, Deep}
-use Rattle.pl_grammar.specs.Script.{Statement, Script, Viable, Stage, Opening, Between, script_move, stage_depth, stage_allowed, script_step, script_then, script_run, script_finish}
+use Rattle.pl_grammar.specs.Machine.{Stop, Stuck, Deep, allowed, then_run, run_by}
+use Rattle.pl_grammar.specs.Script.{Statement, Script, Viable, Stage, Opening, Between, script_move, stage_depth, script_step, script_run, script_finish}
 use Rattle.pl_grammar.specs.Faults.{Tail, AtEnd, AtBad, Kind, NumberTooLarge, LongStatement, place_of, most_depth, most_tokens, too_large, counted, since, IsShort, IsFine, Never, IsFault, is_long, is_large, is_unexpected, is_deep, IsFirst, at_bad, at_end, at_token, Spelled, Verdict, Good, Fault, finish_verdict, end_verdict, step_verdict, verdict}
-use Rattle.pl_grammar.proofs.ScriptRead.{script_on, script_viable, viable_script, bound_stage, same_stage, no_stage, script_reads, script_derives, unstaged}
+use Rattle.pl_grammar.proofs.Runs.{stopping, same_ok, no_ok, run_on, bound_ok}
+use Rattle.pl_grammar.proofs.ScriptRead.{script_viable, viable_script, script_reads, script_derives}
 use Rattle.pl_grammar.proofs.Judged.{stuck_never, deep_viable, unfinished}
 
-same_stop : {a b : Stop} → unstaged a ≡ unstaged b → a ≡ b
+same_stop : {a b : Stop} → stopping {S = Stage} a ≡ stopping b → a ≡ b
 same_stop h = cc
 
 -- the counts never pass the limit
@@ -39,8 +40,8 @@ short-append n [] t h lt l = (lt, l, tt)
 short-append n (x ∷ xs) t h lt l = (h.0, h.1, short-append (counted n x) xs t h.2 lt l)
 
 run_more : (ts : List Lexeme) (t : Lexeme) (s x : Stage) → script_run most_depth ts Opening ≡ Ok s → script_step most_depth t s ≡ Ok x → script_run most_depth (ts ++ (t ∷ [])) Opening ≡ Ok x
-unfolding script_run
-run_more ts t s x h k = script_on most_depth ts (t ∷ []) Opening s (Ok x) h (ap (script_then (script_run most_depth [])) k)
+unfolding run_by
+run_more ts t s x h k = run_on (script_step most_depth) ts (t ∷ []) Opening s (Ok x) h (ap (then_run (script_run most_depth [])) k)
 
 -- what a step's refusal says
 
@@ -52,10 +53,10 @@ refused : (front : List Lexeme) (t : Lexeme) (s : Stage) (e : Stop) → script_r
 refused front t s e h k = of_move (script_move t s) refl k
   where
     by_test : (x : Stage) → script_move t s ≡ Some x → (b : Bool) → leb (stage_depth x) most_depth ≡ b → cond b (Ok x) (Err Deep) ≡ Err e → Refused front t e
-    by_test x m true q k = absurd (no_stage (sym k))
+    by_test x m true q k = absurd (no_ok (sym k))
     by_test x m false q k = subst (λ z. Refused front t z) (same_stop k) (deep_viable most_depth front t s x h m (leb-false (stage_depth x) most_depth q))
 
-    of_move : (o : Option Stage) → script_move t s ≡ o → stage_allowed most_depth o ≡ Err e → Refused front t e
+    of_move : (o : Option Stage) → script_move t s ≡ o → allowed stage_depth most_depth o ≡ Err e → Refused front t e
     of_move (Some x) m k = by_test x m (leb (stage_depth x) most_depth) refl k
     of_move None m k = subst (λ z. Refused front t z) (same_stop k) (stuck_never most_depth front t s h m)
 
@@ -102,10 +103,10 @@ right (t ∷ ts) tail front s h k =
 
 -- over fine tokens the verdict goes on
 goes_over : (front rest : List Lexeme) (tail : Tail) (n : ℕ) (a s : Stage) → script_run most_depth front a ≡ Ok s → IsShort n front → verdict n a (front ++ rest) tail ≡ verdict (since n front) s rest tail
-unfolding script_run IsShort since verdict
-goes_over [] rest tail n a s h k = ap (λ z. verdict n z rest tail) (same_stage h)
+unfolding run_by IsShort since verdict
+goes_over [] rest tail n a s h k = ap (λ z. verdict n z rest tail) (same_ok h)
 goes_over (t ∷ front) rest tail n a s h k =
-    let b = bound_stage (script_run most_depth front) (script_step most_depth t a) s h in
+    let b = bound_ok (script_run most_depth front) (script_step most_depth t a) s h in
     cond-false (leb most_tokens n) _ _ (lt-leb most_tokens n k.0)
     ∙ (cond-false (too_large t) _ _ k.1
     ∙ (ap (λ r. step_verdict (place_of t) r (λ s. verdict (counted n t) s (front ++ rest) tail)) b.1
@@ -166,5 +167,5 @@ first_only (at_token front t rest {tail = tail} {k = k} good fault) =
     goes_over front (t ∷ rest) tail 0 Opening r.0 r.1 good.short ∙ at_fault front t rest tail k r.0 r.1 fault
 
 pub right_of : (ts : List Lexeme) (tail : Tail) → Right (verdict 0 Opening ts tail) ts tail
-unfolding since script_run IsShort
+unfolding since run_by IsShort
 right_of ts tail = right ts tail [] Opening refl tt

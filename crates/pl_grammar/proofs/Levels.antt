@@ -1,12 +1,12 @@
--- What holds of the levels, by cases on the signs; runs of the machine, joined.
-use Rattle.std.proofs.Common.{◌≡◌, ℕ, suc, ◌≤◌, ◌<◌, leb, List, [], ◌∷◌, ◌++◌, Option, Some, Result, Ok, Err, refl, ap, ◌∙◌, arith}
-use Rattle.std.proofs.lemmas.Bool.{le-leb, cond-false, cond-true, lt-leb}
+-- What holds of the levels, by cases on the signs.
+use Rattle.std.proofs.Common.{◌≡◌, ℕ, suc, ◌≤◌, ◌<◌, leb, List, [], ◌∷◌, refl, arith}
+use Rattle.std.proofs.lemmas.Bool.{cond-false, lt-leb}
 use Rattle.pl_grammar.specs.declared.PrefixSign.{PrefixSign}
 use Rattle.pl_grammar.specs.declared.BinarySign.{BinarySign}
 use Rattle.pl_grammar.specs.declared.PrefixSign.TheVariants.{Minus, Not}
 use Rattle.pl_grammar.specs.declared.BinarySign.TheVariants.{Or, And}
-use Rattle.pl_grammar.specs.Tree.{Lexeme, Tree, prefix_level, level, left_level, right_level}
-use Rattle.pl_grammar.specs.Machine.{Frame, Prefixed, Behind, Group, Call, State, Stop, asked, depth, close, step, then_run, run, allowed}
+use Rattle.pl_grammar.specs.Tree.{Tree, prefix_level, level, left_level, right_level}
+use Rattle.pl_grammar.specs.Machine.{Frame, Prefixed, Behind, Group, Call, asked, close}
 
 pub record Levels (o : BinarySign) : Type 0 where
   pub low : 1 ≤ level o
@@ -49,24 +49,3 @@ stays_at_dot h e (Prefixed p s ∷ fs) = cond-false (leb 8 (prefix_level s)) _ _
 stays_at_dot h e (Behind p q a ∷ fs) = cond-false (leb 8 (level q)) _ _ (lt-leb 8 (level q) (omega (arith, (levels q).right, (levels q).most)))
 stays_at_dot h e (Group ∷ fs) = refl
 stays_at_dot h e (Call c ps n ∷ fs) = refl
-
--- runs, joined
-
-pub run-append : (most : ℕ) (xs ys : List Lexeme) (s : State) → run most (xs ++ ys) s ≡ then_run (run most ys) (run most xs s)
-unfolding run
-run-append most [] ys s = refl
-run-append most (x ∷ xs) ys s = by_step most xs ys (step most x s) (run-append most xs ys)
-  where
-    by_step : (most : ℕ) (xs ys : List Lexeme) (r : Result State Stop) → ((s : State) → run most (xs ++ ys) s ≡ then_run (run most ys) (run most xs s)) → then_run (run most (xs ++ ys)) r ≡ then_run (run most ys) (then_run (run most xs) r)
-    by_step most xs ys (Ok s) h = h s
-    by_step most xs ys (Err e) h = refl
-
-pub run_on : (most : ℕ) (xs ys : List Lexeme) (s t : State) (r : Result State Stop) → run most xs s ≡ Ok t → run most ys t ≡ r → run most (xs ++ ys) s ≡ r
-run_on most xs ys s t r h k = run-append most xs ys s ∙ (ap (then_run (run most ys)) h ∙ k)
-
-pub run_step : (most : ℕ) (x : Lexeme) (ys : List Lexeme) (s t : State) (r : Result State Stop) → step most x s ≡ Ok t → run most ys t ≡ r → run most (x ∷ ys) s ≡ r
-unfolding run
-run_step most x ys s t r h k = ap (then_run (run most ys)) h ∙ k
-
-pub allowed_some : (most : ℕ) (o : Option State) (t : State) → o ≡ Some t → depth t.frames ≤ most → allowed most o ≡ Ok t
-allowed_some most o t h k = ap (allowed most) h ∙ cond-true (leb (depth t.frames) most) _ _ (le-leb (depth t.frames) most k)

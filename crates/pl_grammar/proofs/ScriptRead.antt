@@ -1,65 +1,31 @@
 -- Scripts: what the grammar derives the machine reads, what it reads the grammar derives, and it goes on
 -- exactly while some continuation is a script.
 use Rattle.std.proofs.Common.{◌≡◌, ℕ, zero, suc, ℤ, pos, ◌≤◌, ◌==◌, Bool, true, false, cond, leb, List, [], ◌∷◌, ◌++◌, Option, Some, None, Result, Ok, Err, refl, sym, ap, subst, ◌∙◌, arith, append_assoc, append-nil}
-use Rattle.std.proofs.lemmas.Bool.{le-leb, leb-true, cond-true}
+use Rattle.std.specs.Option.{IfSome}
+use Rattle.std.specs.Result.{IfOk}
+use Rattle.std.proofs.lemmas.Bool.{leb-true}
+use Rattle.std.proofs.lemmas.Option.{same_Some, none-some}
 use Rattle.std.proofs.lemmas.Bool.Decides.{nat_tests}
 use Rattle.pl_grammar.specs.declared.Place.{Place}
 use Rattle.pl_grammar.specs.Tree.{Token, Name, Number, Assign, Semicolon, PipelineWord, LetWord, ColumnWord, ScreenWord, Lexeme, mark, Tree}
 use Rattle.pl_grammar.specs.Grammar.{Derives}
-use Rattle.pl_grammar.specs.Machine.{State, Stop, Deep, first, move, depth, step, run, allowed, finish}
-use Rattle.pl_grammar.specs.Script.{Head, LetHead, ColumnHead, ScreenHead, Statement, HeadRead, let_read, column_read, screen_read, Statements, no_statement, statement, version_of, is_known, is_version, version_or, version_told, Script, script, Viable, Stage, Opening, VersionWanted, VersionGiven, Between, LetWanted, ColumnWanted, AssignWanted, Within, if_version, opening_move, version_move, given_move, between_move, name_move, assign_head, ended, within_move, script_move, stage_depth, stage_allowed, script_step, script_then, script_run, script_finish}
+use Rattle.pl_grammar.specs.Machine.{State, Stop, Deep, first, move, depth, state_depth, step, allowed, then_run, run_by, run, finish}
+use Rattle.pl_grammar.specs.Script.{Head, LetHead, ColumnHead, ScreenHead, Statement, HeadRead, let_read, column_read, screen_read, Statements, no_statement, statement, version_of, is_known, is_version, version_or, version_told, Script, script, Viable, Stage, Opening, VersionWanted, VersionGiven, Between, LetWanted, ColumnWanted, AssignWanted, Within, if_version, opening_move, version_move, given_move, between_move, name_move, assign_head, ended, within_move, script_move, stage_depth, script_step, script_run, script_finish}
 use Rattle.pl_grammar.proofs.Sound.{Has, move_keeps, Keeps}
-use Rattle.pl_grammar.proofs.Viable.{some_name, derives_finish, CanEnd, can_end, has_finish, nothing_read, same_state, bound_ok, no_ok}
+use Rattle.pl_grammar.proofs.Runs.{same_ok, no_ok, run-append, run_on, run_step, run_nil, allowed_some, bound_ok}
+use Rattle.pl_grammar.proofs.Viable.{some_name, derives_finish, CanEnd, can_end, has_finish, nothing_read}
 use Rattle.pl_grammar.specs.Printed.{nowhere}
 
-abbrev pub staged : Stage → Result Stage Stop
-staged s = Ok s
-
-pub same_stage : {s t : Stage} → staged s ≡ staged t → s ≡ t
-same_stage h = cc
-
-abbrev pub unstaged : Stop → Result Stage Stop
-unstaged e = Err e
-
-pub no_stage : {e : Stop} {s : Stage} → unstaged e ≡ Ok s → ⊥
-no_stage h = cc
-
-abbrev pub unscripted : Option (List Statement)
-unscripted = None
-
-pub no_script : {ss : List Statement} → unscripted ≡ Some ss → ⊥
-no_script h = cc
-
-pub same_script : {a b : List Statement} → Some a ≡ Some b → a ≡ b
-same_script h = cc
-
--- runs
-
-pub script_run-append : (most : ℕ) (xs ys : List Lexeme) (s : Stage) → script_run most (xs ++ ys) s ≡ script_then (script_run most ys) (script_run most xs s)
-unfolding script_run
-script_run-append most [] ys s = refl
-script_run-append most (x ∷ xs) ys s = by_step (script_step most x s) (λ s. script_run-append most xs ys s)
-  where
-    by_step : (r : Result Stage Stop) → ((s : Stage) → script_run most (xs ++ ys) s ≡ script_then (script_run most ys) (script_run most xs s)) → script_then (script_run most (xs ++ ys)) r ≡ script_then (script_run most ys) (script_then (script_run most xs) r)
-    by_step (Ok s) h = h s
-    by_step (Err e) h = refl
-
-pub script_on : (most : ℕ) (xs ys : List Lexeme) (s t : Stage) (r : Result Stage Stop) → script_run most xs s ≡ Ok t → script_run most ys t ≡ r → script_run most (xs ++ ys) s ≡ r
-script_on most xs ys s t r h k = script_run-append most xs ys s ∙ (ap (script_then (script_run most ys)) h ∙ k)
-
 pub script_next : (most : ℕ) (x : Lexeme) (ys : List Lexeme) (s t : Stage) (r : Result Stage Stop) → script_move x s ≡ Some t → stage_depth t ≤ most → script_run most ys t ≡ r → script_run most (x ∷ ys) s ≡ r
-unfolding script_run
-script_next most x ys s t r h room k =
-    ap (λ o. script_then (script_run most ys) (stage_allowed most o)) h
-    ∙ (ap (script_then (script_run most ys)) (cond-true (leb (stage_depth t) most) _ _ (le-leb (stage_depth t) most room)) ∙ k)
+script_next most x ys s t r h room k = run_step (script_step most) x ys s t r (allowed_some stage_depth most (script_move x s) t h room) k
 
 -- a run of the expression's machine is a run within the statement
 
-stage_ok : (ss : List Statement) (h : Head) (most : ℕ) (e : Option Tree) (t : Token) (o : Option State) (r : State) → allowed most o ≡ Ok r → stage_allowed most (within_move ss h e t o) ≡ Ok (Within ss h r)
+stage_ok : (ss : List Statement) (h : Head) (most : ℕ) (e : Option Tree) (t : Token) (o : Option State) (r : State) → allowed state_depth most o ≡ Ok r → allowed stage_depth most (within_move ss h e t o) ≡ Ok (Within ss h r)
 stage_ok ss h most e t (Some x) r k = by_test (leb (depth x.frames) most) k
   where
     by_test : (b : Bool) → cond b (Ok x) (Err Deep) ≡ Ok r → cond b (Ok (Within ss h x)) (Err Deep) ≡ Ok (Within ss h r)
-    by_test true k = ap (λ y. Ok (Within ss h y)) (same_state k)
+    by_test true k = ap (λ y. Ok (Within ss h y)) (same_ok k)
     by_test false k = absurd (no_ok k)
 stage_ok ss h most e t None r k = absurd (no_ok k)
 
@@ -68,15 +34,11 @@ unfolding script_move
 within_step ss h most (mark p t) s r k = stage_ok ss h most (finish s) t (move (mark p t) s.mode s.frames) r k
 
 within_run : (ss : List Statement) (h : Head) (most : ℕ) (ts : List Lexeme) (s r : State) → run most ts s ≡ Ok r → script_run most ts (Within ss h s) ≡ Ok (Within ss h r)
-unfolding run script_run
-within_run ss h most [] s r k = ap (λ y. Ok (Within ss h y)) (same_state k)
+unfolding run_by
+within_run ss h most [] s r k = ap (λ y. Ok (Within ss h y)) (same_ok k)
 within_run ss h most (t ∷ ts) s r k =
     let b = bound_ok (run most ts) (step most t s) r k in
-    ap (script_then (script_run most ts)) (within_step ss h most t s b.0 b.1) ∙ within_run ss h most ts b.0 r b.2
-
-pub script_nil : (most : ℕ) (s : Stage) → script_run most [] s ≡ Ok s
-unfolding script_run
-script_nil most s = refl
+    ap (then_run (script_run most ts)) (within_step ss h most t s b.0 b.1) ∙ within_run ss h most ts b.0 r b.2
 
 -- what ends a statement
 ends_statement : (ss : List Statement) (h : Head) (p : Place) (s : State) (e : Tree) → finish s ≡ Some e → script_move (mark p Semicolon) (Within ss h s) ≡ Some (Between (ss ++ (record { head = h; tree = e } ∷ [])))
@@ -97,12 +59,12 @@ head_reads (screen_read {p = p}) most ss ys r k =
     script_next most (mark p ScreenWord) ys (Between ss) (Within ss (ScreenHead p) first) r refl (omega arith) k
 
 statements_read : {d : ℕ} {ts : List Lexeme} {ss : List Statement} → Statements d ts ss → (ps : List Statement) → script_run d ts (Between ps) ≡ Ok (Between (ps ++ ss))
-statements_read {d = d} no_statement ps = script_nil d (Between ps) ∙ ap (λ y. Ok (Between y)) (sym (append-nil ps))
+statements_read {d = d} no_statement ps = run_nil (script_step d) (Between ps) ∙ ap (λ y. Ok (Between y)) (sym (append-nil ps))
 statements_read {d = d} (statement p {hs = hs} {ts = ts} {us = us} {h = h} {e = e} {ss = ss} head tree rest) ps =
     let f = derives_finish d ts e tree in
     let one : Statement = record { head = h; tree = e } in
     head_reads head d ps (ts ++ (mark p Semicolon ∷ us)) _
-    (script_on d ts (mark p Semicolon ∷ us) (Within ps h first) (Within ps h f.0) _ (within_run ps h d ts first f.0 f.1)
+    (run_on (script_step d) ts (mark p Semicolon ∷ us) (Within ps h first) (Within ps h f.0) _ (within_run ps h d ts first f.0 f.1)
     (script_next d (mark p Semicolon) us (Within ps h f.0) (Between (ps ++ (one ∷ []))) _ (ends_statement ps h p f.0 e f.2) (omega arith)
     (statements_read rest (ps ++ (one ∷ [])) ∙ ap (λ y. Ok (Between y)) (append_assoc ps (one ∷ []) ss))))
 
@@ -118,14 +80,15 @@ script_reads {d = d} (script {a = a} {b = b} {c = c} {v = v} {ts = ts} {ss = ss}
     (script_next d (mark b (Number v)) _ VersionWanted VersionGiven _ (version_goes b v h) (omega arith)
     (script_next d (mark c Semicolon) ts VersionGiven (Between []) _ refl (omega arith) (statements_read rest [])))
 
+-- a version of the language is told before what comes after it
+pub known_first : (n m : ℕ) → is_known n ≡ true → version_or n m ≡ n
+known_first zero m h = absurd (let bad : false ≡ true = h in cc)
+known_first (suc n) m h = let some : (suc n == 0) ≡ false = grind (arith, nat_tests) in rw some refl
+
 -- the version that a script tells is one of the language
 pub script_known : {d : ℕ} {ts : List Lexeme} {ss : List Statement} → Script d ts ss → is_known (version_told ts) ≡ true
 unfolding version_told
-script_known (script {v = v} h rest) = kept (version_of v) _ h
-  where
-    kept : (n m : ℕ) → is_known n ≡ true → is_known (version_or n m) ≡ true
-    kept zero m h = absurd (let bad : false ≡ true = h in cc)
-    kept (suc n) m h = let some : (suc n == 0) ≡ false = grind (arith, nat_tests) in rw some h
+script_known (script {v = v} h rest) = ap is_known (known_first (version_of v) _ h) ∙ h
 
 -- the tokens that the machine has read
 
@@ -152,12 +115,8 @@ then_statement {d = d} (statement q {hs = hs} {ts = ts} {us = us} {h = h} {e = e
 
 -- each move keeps the tokens
 
-abbrev StageThen : Option Stage → (Stage → Type 0) → Type 0
-StageThen (Some s) P = P s
-StageThen None P = Unit {0}
-
 abbrev StageKeeps : ℕ → Option Stage → List Lexeme → Type 0
-StageKeeps most o us = StageThen o (λ s. stage_depth s ≤ most → HasStage most s us)
+StageKeeps most o us = IfSome o (λ s. stage_depth s ≤ most → HasStage most s us)
 
 opening_keeps : (most : ℕ) (us : List Lexeme) (p : Place) (t : Token) → us ≡ [] → StageKeeps most (opening_move t) (us ++ (mark p t ∷ []))
 opening_keeps most us p PipelineWord q = λ room. has_pipeline (ap (λ z. z ++ (mark p PipelineWord ∷ [])) q)
@@ -221,36 +180,32 @@ script_keeps {most = most} (mark p t) (has_within {xs = xs} {s = s} st k head ha
 
 -- a run keeps the tokens
 
-abbrev IfStage : Result Stage Stop → (Stage → Type 0) → Type 0
-IfStage (Ok s) P = P s
-IfStage (Err e) P = Unit {0}
-
-stage_keeps : (most : ℕ) (o : Option Stage) (us : List Lexeme) → StageKeeps most o us → IfStage (stage_allowed most o) (λ s. HasStage most s us)
+stage_keeps : (most : ℕ) (o : Option Stage) (us : List Lexeme) → StageKeeps most o us → IfOk (allowed stage_depth most o) (λ s. HasStage most s us)
 stage_keeps most None us k = tt
 stage_keeps most (Some s) us k = by_test (leb (stage_depth s) most) (λ t. k (leb-true (stage_depth s) most t))
   where
-    by_test : (b : Bool) → (b ≡ true → HasStage most s us) → IfStage (cond b (Ok s) (Err Deep)) (λ s. HasStage most s us)
+    by_test : (b : Bool) → (b ≡ true → HasStage most s us) → IfOk (cond b (Ok s) (Err Deep)) (λ s. HasStage most s us)
     by_test true f = f refl
     by_test false f = tt
 
-script_run_has : (most : ℕ) (ts : List Lexeme) (s : Stage) (us : List Lexeme) → HasStage most s us → IfStage (script_run most ts s) (λ s. HasStage most s (us ++ ts))
-unfolding script_run
+script_run_has : (most : ℕ) (ts : List Lexeme) (s : Stage) (us : List Lexeme) → HasStage most s us → IfOk (script_run most ts s) (λ s. HasStage most s (us ++ ts))
+unfolding run_by
 script_run_has most [] s us h = subst (λ z. HasStage most s z) (sym (append-nil us)) h
 script_run_has most (t ∷ ts) s us h = on_step (script_step most t s) (stage_keeps most (script_move t s) (us ++ (t ∷ [])) (script_keeps t h)) (λ x k. script_run_has most ts x (us ++ (t ∷ [])) k)
   where
-    on_step : (r : Result Stage Stop) → IfStage r (λ s. HasStage most s (us ++ (t ∷ []))) → ((x : Stage) → HasStage most x (us ++ (t ∷ [])) → IfStage (script_run most ts x) (λ s. HasStage most s ((us ++ (t ∷ [])) ++ ts))) → IfStage (script_then (script_run most ts) r) (λ s. HasStage most s (us ++ (t ∷ ts)))
-    on_step (Ok x) k f = subst (λ z. IfStage (script_run most ts x) (λ s. HasStage most s z)) (append_assoc us (t ∷ []) ts) (f x k)
+    on_step : (r : Result Stage Stop) → IfOk r (λ s. HasStage most s (us ++ (t ∷ []))) → ((x : Stage) → HasStage most x (us ++ (t ∷ [])) → IfOk (script_run most ts x) (λ s. HasStage most s ((us ++ (t ∷ [])) ++ ts))) → IfOk (then_run (script_run most ts) r) (λ s. HasStage most s (us ++ (t ∷ ts)))
+    on_step (Ok x) k f = subst (λ z. IfOk (script_run most ts x) (λ s. HasStage most s z)) (append_assoc us (t ∷ []) ts) (f x k)
     on_step (Err e) k f = tt
 
 script_has : (most : ℕ) (ts : List Lexeme) (s : Stage) → script_run most ts Opening ≡ Ok s → HasStage most s ts
-script_has most ts s h = subst (λ z. IfStage z (λ s. HasStage most s ts)) h (script_run_has most ts Opening [] (has_nothing refl))
+script_has most ts s h = subst (λ z. IfOk z (λ s. HasStage most s ts)) h (script_run_has most ts Opening [] (has_nothing refl))
 
 started_script : {d : ℕ} {bs ts us : List Lexeme} {ss : List Statement} → Started bs → Statements d ts ss → us ≡ bs ++ ts → Script d us ss
 started_script {d = d} {ss = ss} (started h) k q = subst (λ z. Script d z ss) (sym q) (script h k)
 
 has_script : {most : ℕ} {us : List Lexeme} {s : Stage} (ss : List Statement) → HasStage most s us → script_finish s ≡ Some ss → Script most us ss
-has_script {most = most} {us = us} ss (has_statements st k q) e = subst (λ z. Script most us z) (same_script e) (started_script st k q)
-has_script ss h e = absurd (no_script e)
+has_script {most = most} {us = us} ss (has_statements st k q) e = subst (λ z. Script most us z) (same_Some _ _ e) (started_script st k q)
+has_script ss h e = absurd (none-some _ e)
 
 -- what the machine reads, the grammar derives
 pub script_derives : (most : ℕ) (ts : List Lexeme) (s : Stage) (ss : List Statement) → script_run most ts Opening ≡ Ok s → script_finish s ≡ Some ss → Script most ts ss
@@ -273,8 +228,8 @@ within_ends most ss h s c =
     record {
       rest = c.rest ++ (mark nowhere Semicolon ∷ []);
       scripts = done;
-      goes = script_on most c.rest (mark nowhere Semicolon ∷ []) (Within ss h s) (Within ss h n.last) (Ok (Between done)) (within_run ss h most c.rest s n.last n.goes)
-          (script_next most (mark nowhere Semicolon) [] (Within ss h n.last) (Between done) _ (ends_statement ss h nowhere n.last n.tree n.done) (omega arith) (script_nil most (Between done)));
+      goes = run_on (script_step most) c.rest (mark nowhere Semicolon ∷ []) (Within ss h s) (Within ss h n.last) (Ok (Between done)) (within_run ss h most c.rest s n.last n.goes)
+          (script_next most (mark nowhere Semicolon) [] (Within ss h n.last) (Between done) _ (ends_statement ss h nowhere n.last n.tree n.done) (omega arith) (run_nil (script_step most) (Between done)));
     }
 
 assign_ends : (most : ℕ) (ss : List Statement) (h : Head) → StageEnds most (AssignWanted ss h)
@@ -282,7 +237,7 @@ unfolding script_move
 assign_ends most ss h = stage_joined most (mark nowhere Assign) (AssignWanted ss h) (Within ss h first) refl (omega arith) (within_ends most ss h first (can_end (nothing_read most)))
 
 between_ends : (most : ℕ) (ss : List Statement) → StageEnds most (Between ss)
-between_ends most ss = record { rest = []; scripts = ss; goes = script_nil most (Between ss) }
+between_ends most ss = record { rest = []; scripts = ss; goes = run_nil (script_step most) (Between ss) }
 
 given_ends : (most : ℕ) → StageEnds most VersionGiven
 unfolding script_move
@@ -308,16 +263,12 @@ stage_ends {most = most} (has_within {ss = ss} {h = h} {s = s} st k head has q) 
 pub script_viable : (most : ℕ) (ts : List Lexeme) (s : Stage) → script_run most ts Opening ≡ Ok s → Viable most ts
 script_viable most ts s h =
     let e = stage_ends (script_has most ts s h) in
-    (e.rest, e.scripts, script_derives most (ts ++ e.rest) (Between e.scripts) e.scripts (script_on most ts e.rest Opening s (Ok (Between e.scripts)) h e.goes) refl)
-
-pub bound_stage : (f : Stage → Result Stage Stop) (r : Result Stage Stop) (s : Stage) → script_then f r ≡ Ok s → (x : Stage) × (r ≡ Ok x) × (f x ≡ Ok s)
-bound_stage f (Ok x) s h = (x, refl, h)
-bound_stage f (Err e) s h = absurd (no_stage h)
+    (e.rest, e.scripts, script_derives most (ts ++ e.rest) (Between e.scripts) e.scripts (run_on (script_step most) ts e.rest Opening s (Ok (Between e.scripts)) h e.goes) refl)
 
 pub viable_script : (most : ℕ) (ts : List Lexeme) → Viable most ts → (s : Stage) × (script_run most ts Opening ≡ Ok s)
 viable_script most ts v =
-    let b = bound_stage (script_run most v.0) (script_run most ts Opening) (Between v.1) (sym (script_run-append most ts v.0 Opening) ∙ script_reads v.2) in
+    let b = bound_ok (script_run most v.0) (script_run most ts Opening) (Between v.1) (sym (run-append (script_step most) ts v.0 Opening) ∙ script_reads v.2) in
     (b.0, b.1)
 
 pub one_script : (d : ℕ) (ts : List Lexeme) (a b : List Statement) → Script d ts a → Script d ts b → a ≡ b
-one_script d ts a b x y = same_script (ap script_finish (same_stage (sym (script_reads x) ∙ script_reads y)))
+one_script d ts a b x y = same_Some _ _ (ap script_finish (same_ok (sym (script_reads x) ∙ script_reads y)))

@@ -1,7 +1,6 @@
 -- Whole scripts: what is read has a canonical text within the limits, and that text derives it.
-use Rattle.std.proofs.Common.{◌≡◌, ℕ, zero, suc, ◌+◌, ◌≤◌, ◌==◌, Bool, true, false, ◌&&◌, leb, List, [], ◌∷◌, ◌++◌, length, refl, sym, ap, ap₂, subst, ◌∙◌, arith, length-append}
-use Rattle.std.proofs.lemmas.Bool.{le-leb, leb-true, and_from, and_parts}
-use Rattle.std.proofs.lemmas.Bool.Decides.{nat_tests}
+use Rattle.std.proofs.Common.{◌≡◌, ℕ, suc, ◌+◌, ◌≤◌, ◌==◌, Bool, true, false, ◌&&◌, ◌||◌, ◌⊎◌, inl, inr, leb, List, [], ◌∷◌, ◌++◌, length, refl, sym, ap, ap₂, subst, ◌∙◌, arith, length-append}
+use Rattle.std.proofs.lemmas.Bool.{le-leb, leb-true, and_from, and_parts, or_cases, eqb-true}
 use Rattle.pl_grammar.specs.Tree.{Token, Name, Number, LargeNumber, Assign, Semicolon, PipelineWord, LetWord, ColumnWord, Lexeme, mark, Tree}
 use Rattle.pl_grammar.specs.Script.{Head, LetHead, ColumnHead, ScreenHead, Statement, HeadRead, let_read, column_read, screen_read, Statements, no_statement, statement, version_of, is_known, token_version, version_or, version_told, Script, script}
 use Rattle.pl_grammar.specs.Faults.{most_depth, most_tokens, token_counted, token_too_large, IsShort}
@@ -9,6 +8,7 @@ use Rattle.pl_grammar.specs.Printed.{nowhere, here, tree_level, tokens, tree_dep
 use Rattle.pl_grammar.specs.Places.{SameTokens, same_none, same_next}
 use Rattle.pl_grammar.specs.Whole.{head_tokens, statements_tokens, version_number, script_tokens, bare_head, bare_script, tokens_pass, tree_passes, head_passes, is_sound, are_sound}
 use Rattle.pl_grammar.proofs.Sound.{weaken}
+use Rattle.pl_grammar.proofs.ScriptRead.{known_first}
 use Rattle.pl_grammar.proofs.Reprint.{level_least}
 use Rattle.pl_grammar.proofs.Canonical.{canonical, shallow, least_place}
 use Rattle.pl_grammar.proofs.Replace.{cut, next_of, replaced}
@@ -109,17 +109,18 @@ statements_derive p (s ∷ ss) h =
     let x = parts p s a.0 in
     statement nowhere (head_is_read s.head) (weaken (canonical s.tree most_depth x.depth) 1 (level_least s.tree)) (statements_derive p ss a.1)
 
--- a version's number tells it
+-- the versions, and that a version's number tells it
+pub version_cases : (n : ℕ) → is_known n ≡ true → (n ≡ 1) ⊎ ((n ≡ 2) ⊎ (n ≡ 3))
+version_cases n h = elim (or_cases (n == 1) ((n == 2) || (n == 3)) h) [
+  | inl e ↦ inl (eqb-true n 1 e)
+  | inr f ↦ elim (or_cases (n == 2) (n == 3) f) [ inl e ↦ inr (inl (eqb-true n 2 e)) | inr e ↦ inr (inr (eqb-true n 3 e)) ]
+]
+
 pub number_told : (n : ℕ) → is_known n ≡ true → version_of (version_number n) ≡ n
-number_told zero h = absurd (let bad : false ≡ true = h in cc)
-number_told (suc zero) h = refl
-number_told (suc (suc zero)) h = refl
-number_told (suc (suc (suc zero))) h = refl
-number_told (suc (suc (suc (suc n)))) h =
-    let one : (suc (suc (suc (suc n))) == 1) ≡ false = grind (arith, nat_tests) in
-    let two : (suc (suc (suc (suc n))) == 2) ≡ false = grind (arith, nat_tests) in
-    let three : (suc (suc (suc (suc n))) == 3) ≡ false = grind (arith, nat_tests) in
-    absurd (let bad : false ≡ true = rw (one, two, three) at h in cc)
+number_told n h = elim (version_cases n h) [
+  | inl e ↦ rw e refl
+  | inr f ↦ elim f [ inl e ↦ rw e refl | inr e ↦ rw e refl ]
+]
 
 pub script_derives : (p : Token → Bool) (n : ℕ) (ss : List Statement) → is_known n ≡ true → are_sound p ss ≡ true → Script most_depth (script_tokens n ss) ss
 unfolding script_tokens
@@ -127,11 +128,7 @@ script_derives p n ss k h = script (ap is_known (number_told n k) ∙ k) (statem
 
 pub script_told : (n : ℕ) (ss : List Statement) → is_known n ≡ true → version_told (script_tokens n ss) ≡ n
 unfolding script_tokens version_told
-script_told n ss k = ap (λ m. version_or m (version_told (here Semicolon ∷ statements_tokens ss))) (number_told n k) ∙ kept n k _
-  where
-    kept : (n : ℕ) → is_known n ≡ true → (m : ℕ) → version_or n m ≡ n
-    kept zero k m = absurd (let bad : false ≡ true = k in cc)
-    kept (suc n) k m = let some : (suc n == 0) ≡ false = grind (arith, nat_tests) in rw some refl
+script_told n ss k = ap (λ m. version_or m (version_told (here Semicolon ∷ statements_tokens ss))) (number_told n k) ∙ known_first n _ k
 
 statements_short : (p : Token → Bool) (ss : List Statement) → are_sound p ss ≡ true → IsShort 0 (statements_tokens ss)
 unfolding statements_tokens are_sound IsShort

@@ -1,5 +1,6 @@
 -- What the machine reads, the grammar derives.
-use Rattle.std.proofs.Common.{◌≡◌, ℕ, zero, suc, ◌+◌, ◌≤◌, ◌<◌, Bool, true, false, cond, leb, List, [], ◌∷◌, ◌++◌, Option, Some, None, Result, Ok, Err, refl, sym, ap, subst, ◌∙◌, arith, append_assoc, append-nil, leb-false}
+use Rattle.std.proofs.Common.{◌≡◌, ℕ, zero, suc, ◌+◌, ◌≤◌, ◌<◌, Bool, true, false, cond, leb, List, [], ◌∷◌, ◌++◌, Option, Some, None, refl, sym, ap, subst, ◌∙◌, arith, append_assoc, append-nil, leb-false}
+use Rattle.std.specs.Option.{IfSome}
 use Rattle.std.proofs.lemmas.Bool.{leb-true}
 use Rattle.pl_grammar.specs.declared.Place.{Place}
 use Rattle.pl_grammar.specs.declared.PrefixSign.{PrefixSign}
@@ -8,7 +9,7 @@ use Rattle.pl_grammar.specs.declared.PrefixSign.TheVariants.{Minus, Not}
 use Rattle.pl_grammar.specs.declared.BinarySign.TheVariants.{Sub}
 use Rattle.pl_grammar.specs.Tree.{Name, Number, Text, Operator, Tilde, Dot, Open, Close, Comma, Assign, Lexeme, mark, Tree, number, text, prefix, binary, method, sign_token, prefix_level, level, left_level, right_level}
 use Rattle.pl_grammar.specs.Grammar.{Derives, a_number, a_text, a_name, a_call, a_group, a_prefix, a_binary, a_member, a_method, ArgsDerive, none, some, OneArg, bare, named, MoreArgs, end, more}
-use Rattle.pl_grammar.specs.Machine.{Frame, Prefixed, Behind, Group, Call, Mode, Wanted, ArgWanted, Named, ArgNamed, Membered, Given, Dotted, State, Closed, Stop, Arg, Callee, function, method_of, operand, is_wanted, callee, args_of, applied, asked, depth, close, move, literal, named_move, sign_move, minus_move, operator_move, dot_move, open_move, close_move, comma_move, assign_move, shut, shut_empty, next_arg}
+use Rattle.pl_grammar.specs.Machine.{Frame, Prefixed, Behind, Group, Call, Mode, Wanted, ArgWanted, Named, ArgNamed, Membered, Given, Dotted, State, Closed, Arg, Callee, function, method_of, operand, is_wanted, callee, args_of, applied, asked, depth, close, move, literal, named_move, sign_move, minus_move, operator_move, dot_move, open_move, close_move, comma_move, assign_move, shut, shut_empty, next_arg}
 use Rattle.pl_grammar.proofs.Levels.{levels, prefix_most}
 
 pub weaken : {d k : ℕ} {ts : List Lexeme} {e : Tree} → Derives d k ts e → (l : ℕ) → l ≤ k → Derives d l ts e
@@ -124,13 +125,8 @@ pub record HasOperand (most : ℕ) (e : Tree) (fs : List Frame) (us : List Lexem
   pub derives : Derives spare 8 own e
   pub whole : us ≡ before ++ own
 
-abbrev pub Then : Option State → (State → Type 0) → Type 0
-Then (Some s) P = P s
-Then None P = Unit {0}
-
 abbrev pub IfOperand : ℕ → Option Tree → List Frame → List Lexeme → Type 0
-IfOperand most (Some e) fs us = HasOperand most e fs us
-IfOperand most None fs us = Unit {0}
+IfOperand most o fs us = IfSome o (λ e. HasOperand most e fs us)
 
 pub has_operand : {most : ℕ} {m : Mode} {fs : List Frame} {us : List Lexeme} → Has most m fs us → IfOperand most (operand m) fs us
 has_operand (has_wanted o) = tt
@@ -163,8 +159,7 @@ record HasCallee (most : ℕ) (c : Callee) (fs : List Frame) (us : List Lexeme) 
   whole : us ≡ before ++ own
 
 abbrev IfCallee : ℕ → Option Callee → List Frame → List Lexeme → Type 0
-IfCallee most (Some c) fs us = HasCallee most c fs us
-IfCallee most None fs us = Unit {0}
+IfCallee most o fs us = IfSome o (λ c. HasCallee most c fs us)
 
 has_callee : {most : ℕ} {m : Mode} {fs : List Frame} {us : List Lexeme} → Has most m fs us → IfCallee most (callee m) fs us
 has_callee (has_named {p = p} {n = n} {ts = ts} o q) = record { spare = _; before = ts; own = mark p (Name n) ∷ []; opens = o; read = function_read; whole = q }
@@ -175,9 +170,9 @@ has_callee h = tt
 -- each token's move keeps the tokens
 
 abbrev pub Keeps : ℕ → Option State → List Lexeme → Type 0
-Keeps most o us = Then o (λ s. depth s.frames ≤ most → Has most s.mode s.frames us)
+Keeps most o us = IfSome o (λ s. depth s.frames ≤ most → Has most s.mode s.frames us)
 
-cond_then : (b : Bool) (s : State) (P : State → Type 0) → (b ≡ true → P s) → Then (cond b (Some s) None) P
+cond_then : (b : Bool) (s : State) (P : State → Type 0) → (b ≡ true → P s) → IfSome (cond b (Some s) None) P
 cond_then true s P h = h refl
 cond_then false s P h = tt
 
@@ -320,9 +315,3 @@ move_keeps {most = most} {m = m} {fs = fs} {us = us} (mark p Close) h = close_ke
 move_keeps {most = most} {m = m} {fs = fs} {us = us} (mark p Comma) h = comma_keeps most fs us p (operand m) (has_operand h)
 move_keeps (mark p Assign) h = assign_keeps p h
 move_keeps t h = tt
-
--- a run keeps the tokens
-
-abbrev pub IfRun : Result State Stop → (State → Type 0) → Type 0
-IfRun (Ok s) P = P s
-IfRun (Err e) P = Unit {0}

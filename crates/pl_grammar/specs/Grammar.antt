@@ -45,7 +45,3 @@ mutual
     end : {d : ℕ} → MoreArgs d [] no_args
     more : {d : ℕ} {p : Place} {ts us : List Lexeme} {n : Option (List ℕ)} {e : Tree} {ps : Args}
         → OneArg d ts n e → MoreArgs d us ps → MoreArgs d (mark p Comma ∷ (ts ++ us)) (arg n e ps)
-
--- some continuation of the tokens is an expression that opens at most d constructs inside one another
-abbrev pub Viable : ℕ → List Lexeme → Type 0
-Viable d ts = (rest : List Lexeme) × (e : Tree) × Derives d 1 (ts ++ rest) e

@@ -206,25 +206,37 @@ move (mark p Comma) m fs = comma_move (operand m) fs
 move (mark p Assign) m fs = assign_move m fs
 move t m fs = None
 
--- why the machine stops
+-- ---- runs of a machine
+
+-- why it stops
 pub data Stop : Type 0 where
   Stuck : Stop
   Deep : Stop
 
-abbrev pub allowed : ℕ → Option State → Result State Stop
-allowed most (Some s) = if nat_le (depth s.frames) most then Ok s else Err Deep
-allowed most None = Err Stuck
+-- where its move leads, unless more is open there than it may
+abbrev pub allowed : {S : Type 0} → (S → ℕ) → ℕ → Option S → Result S Stop
+allowed count most (Some s) = if nat_le (count s) most then Ok s else Err Deep
+allowed count most None = Err Stuck
 
-abbrev pub step : ℕ → Lexeme → State → Result State Stop
-step most t s = allowed most (move t s.mode s.frames)
-
-abbrev pub then_run : (State → Result State Stop) → Result State Stop → Result State Stop
+abbrev pub then_run : {S : Type 0} → (S → Result S Stop) → Result S Stop → Result S Stop
 then_run f (Ok s) = f s
 then_run f (Err e) = Err e
 
-unfoldable pub run : ℕ → List Lexeme → State → Result State Stop
-run most [] s = Ok s
-run most (t ∷ ts) s = then_run (run most ts) (step most t s)
+-- one step for each token
+unfoldable pub run_by : {S : Type 0} → (Lexeme → S → Result S Stop) → List Lexeme → S → Result S Stop
+run_by step [] s = Ok s
+run_by step (t ∷ ts) s = then_run (run_by step ts) (step t s)
+
+-- ---- the run of an expression
+
+abbrev pub state_depth : State → ℕ
+state_depth s = depth s.frames
+
+abbrev pub step : ℕ → Lexeme → State → Result State Stop
+step most t s = allowed state_depth most (move t s.mode s.frames)
+
+abbrev pub run : ℕ → List Lexeme → State → Result State Stop
+run most ts s = run_by (step most) ts s
 
 abbrev pub first : State
 first = at Wanted []

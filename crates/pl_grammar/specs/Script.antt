@@ -1,10 +1,10 @@
 -- A script: its grammar, and the machine that reads it token by token.
-use Rattle.std.specs.Prelude.{ℕ, ℤ, pos, ◌≡◌, Bool, true, false, ◌||◌, ◌==◌, if◌then◌else◌, nat_le, List, [], ◌∷◌, ◌++◌, Option, Some, None, Result, Ok, Err}
+use Rattle.std.specs.Prelude.{ℕ, ℤ, pos, ◌≡◌, Bool, true, false, ◌||◌, ◌==◌, if◌then◌else◌, List, [], ◌∷◌, ◌++◌, Option, Some, None, Result}
 use Rattle.std.specs.Ordering.{int_eq}
 use Rattle.pl_grammar.specs.declared.Place.{Place}
 use Rattle.pl_grammar.specs.Tree.{Token, Name, Number, Assign, Semicolon, PipelineWord, LetWord, ColumnWord, ScreenWord, Lexeme, mark, Tree}
 use Rattle.pl_grammar.specs.Grammar.{Derives}
-use Rattle.pl_grammar.specs.Machine.{State, Stop, Stuck, Deep, first, move, depth, finish}
+use Rattle.pl_grammar.specs.Machine.{State, Stop, allowed, run_by, first, move, depth, finish}
 
 -- how a statement begins: its place is its NAME, or `screen`
 pub data Head : Type 0 where
@@ -130,20 +130,11 @@ abbrev pub stage_depth : Stage → ℕ
 stage_depth (Within ss h s) = depth s.frames
 stage_depth s = 0
 
-abbrev pub stage_allowed : ℕ → Option Stage → Result Stage Stop
-stage_allowed most (Some s) = if nat_le (stage_depth s) most then Ok s else Err Deep
-stage_allowed most None = Err Stuck
-
 abbrev pub script_step : ℕ → Lexeme → Stage → Result Stage Stop
-script_step most t s = stage_allowed most (script_move t s)
+script_step most t s = allowed stage_depth most (script_move t s)
 
-abbrev pub script_then : (Stage → Result Stage Stop) → Result Stage Stop → Result Stage Stop
-script_then f (Ok s) = f s
-script_then f (Err e) = Err e
-
-unfoldable pub script_run : ℕ → List Lexeme → Stage → Result Stage Stop
-script_run most [] s = Ok s
-script_run most (t ∷ ts) s = script_then (script_run most ts) (script_step most t s)
+abbrev pub script_run : ℕ → List Lexeme → Stage → Result Stage Stop
+script_run most ts s = run_by (script_step most) ts s
 
 -- the script that was read, where it may end
 abbrev pub script_finish : Stage → Option (List Statement)

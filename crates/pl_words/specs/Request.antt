@@ -269,115 +269,71 @@ HasChunk request = ⊤
 
 -- ---- what words name
 
--- the names of files, of adjustments and of a column, and the dates as they are written; each where the words
--- have it
-pub record Names : Type 0 where
-  pub pipeline : Option (List ℕ)
-  pub sessions : Option (List ℕ)
-  pub assets : Option (List ℕ)
-  pub labels : Option (List ℕ)
-  pub numbers : Option (List ℕ)
-  pub bars : Option (List ℕ)
-  pub adjustments : Option (List ℕ)
-  pub revisions : Option (List ℕ)
-  pub payouts : Option (List ℕ)
-  pub derivation : Option (List ℕ)
-  pub column : Option (List ℕ)
-  pub from : Option (List ℕ)
-  pub to : Option (List ℕ)
-  pub as_of : Option (List ℕ)
-  pub at : Option (List ℕ)
+-- the pipeline, and the world over which it is
+abbrev pub pipeline_of : Request → Option (List ℕ)
+pipeline_of (Run q) = Some q.pipeline
+pipeline_of (Fmt name) = Some name
+pipeline_of (Check name) = Some name
+pipeline_of (Plan q) = Some q.pipeline
+pipeline_of (Explain q) = Some q.pipeline
+pipeline_of (Verify q) = Some q.pipeline
+pipeline_of (Daily q) = Some q.pipeline
+pipeline_of q = None
 
-abbrev pub no_names : Names
-no_names =
-    record {
-      pipeline = None;
-      sessions = None;
-      assets = None;
-      labels = None;
-      numbers = None;
-      bars = None;
-      adjustments = None;
-      revisions = None;
-      payouts = None;
-      derivation = None;
-      column = None;
-      from = None;
-      to = None;
-      as_of = None;
-      at = None;
-    }
+abbrev pub world_of : Request → Option WorldNames
+world_of (Run q) = Some q.world
+world_of (Explain q) = Some q.world
+world_of (Verify q) = Some q.world
+world_of (Daily q) = Some q.world
+world_of q = None
 
--- of a pipeline and a world
-abbrev pub names_over : List ℕ → WorldNames → Names
-names_over pipeline w = record no_names {
-  pipeline = Some pipeline;
-  sessions = Some w.sessions;
-  assets = Some w.assets;
-  labels = w.labels;
-  numbers = w.numbers;
-  bars = Some w.bars;
-  adjustments = w.adjustments;
-  revisions = w.revisions;
-}
+abbrev pub world_file : WorldNames → InputFile → Option (List ℕ)
+world_file w file.Sessions = Some w.sessions
+world_file w file.Assets = Some w.assets
+world_file w file.Labels = w.labels
+world_file w file.Numbers = w.numbers
+world_file w file.Bars = Some w.bars
+world_file w file.Revisions = w.revisions
+world_file w file = None
 
-abbrev pub table_names : RunRequest → Names
-table_names q = record (names_over q.pipeline q.world) {
-  from = Some q.from.text;
-  to = Some q.to.text;
-  as_of = option_map (λ d. d.text) q.options.as_of;
-}
+-- the name of a file, where the request has it
+abbrev pub file_named : Request → InputFile → Option (List ℕ)
+file_named (Plan q) file.Sessions = Some q.sessions
+file_named (Payouts q) file.Sessions = Some q.sessions
+file_named (Payouts q) file.Assets = Some q.assets
+file_named (Payouts q) file.Bars = Some q.bars
+file_named (Payouts q) file.Payouts = Some q.payouts
+file_named (Verify q) file.Derivation = Some q.derivation
+file_named q file.Pipeline = pipeline_of q
+file_named q file = option_and_then (λ w. world_file w file) (world_of q)
 
-abbrev pub named_by : Request → Names
-named_by (Run q) = table_names q
-named_by (Fmt name) = record no_names { pipeline = Some name }
-named_by (Check name) = record no_names { pipeline = Some name }
-named_by (Plan q) = record no_names {
-  pipeline = Some q.pipeline;
-  sessions = Some q.sessions;
-  from = Some q.from.text;
-  to = Some q.to.text;
-}
-named_by (Bench q) = no_names
-named_by (Payouts q) = record no_names {
-  sessions = Some q.sessions;
-  assets = Some q.assets;
-  bars = Some q.bars;
-  payouts = Some q.payouts;
-}
-named_by (Explain q) = record (names_over q.pipeline q.world) { at = Some q.date.text; column = Some q.column }
-named_by (Verify q) = record (names_over q.pipeline q.world) { derivation = Some q.derivation }
-named_by (Daily q) = table_names q
+abbrev pub table_date : RunRequest → RangeDate → Option (List ℕ)
+table_date q From = Some q.from.text
+table_date q To = Some q.to.text
+table_date q AsOf = option_map (λ d. d.text) q.options.as_of
+table_date q At = None
 
-abbrev pub names_asked : Option Request → Names
-names_asked None = no_names
-names_asked (Some q) = named_by q
+-- a date as it is written, where the request has it
+abbrev pub date_named : Request → RangeDate → Option (List ℕ)
+date_named (Run q) date = table_date q date
+date_named (Daily q) date = table_date q date
+date_named (Plan q) From = Some q.from.text
+date_named (Plan q) To = Some q.to.text
+date_named (Explain q) At = Some q.date.text
+date_named q date = None
 
-abbrev pub file_named : Names → InputFile → Option (List ℕ)
-file_named names file.Pipeline = names.pipeline
-file_named names file.Sessions = names.sessions
-file_named names file.Assets = names.assets
-file_named names file.Labels = names.labels
-file_named names file.Numbers = names.numbers
-file_named names file.Bars = names.bars
-file_named names file.Revisions = names.revisions
-file_named names file.Payouts = names.payouts
-file_named names file.Derivation = names.derivation
-
-abbrev pub date_named : Names → RangeDate → Option (List ℕ)
-date_named names From = names.from
-date_named names To = names.to
-date_named names AsOf = names.as_of
-date_named names At = names.at
+abbrev pub column_named : Request → Option (List ℕ)
+column_named (Explain q) = Some q.column
+column_named q = None
 
 abbrev pub name_asked : Option Request → InputFile → Option (List ℕ)
-name_asked asked file = file_named (names_asked asked) file
+name_asked asked file = option_and_then (λ q. file_named q file) asked
 
 abbrev pub date_asked : Option Request → RangeDate → Option (List ℕ)
-date_asked asked date = date_named (names_asked asked) date
+date_asked asked date = option_and_then (λ q. date_named q date) asked
 
 abbrev pub adjustments_of : Option Request → Option (List ℕ)
-adjustments_of asked = (names_asked asked).adjustments
+adjustments_of asked = option_and_then (λ w. w.adjustments) (option_and_then world_of asked)
 
 abbrev pub column_asked : Option Request → Option (List ℕ)
-column_asked asked = (names_asked asked).column
+column_asked asked = option_and_then column_named asked

@@ -13,7 +13,6 @@ use Rattle.pl_words.specs.declared.request.ExplainRequest.{ExplainRequest}
 use Rattle.pl_words.specs.declared.request.VerifyRequest.{VerifyRequest}
 use Rattle.pl_words.specs.declared.request.DateWord.{DateWord}
 use Rattle.pl_words.specs.declared.request.Options.{Options}
-use Rattle.pl_words.specs.declared.names.Names.{Names}
 
 abbrev pub dated_of : DateWord → spec.Dated
 dated_of d = record { text = d.text.now; day = d.day }
@@ -82,23 +81,3 @@ Says answer asked = MatchOption answer (asked ≡ None) (λ r. asked ≡ Some (r
 
 abbrev pub text_of : Option (Bor (List ℕ)) → Option (List ℕ)
 text_of name = option_map (λ n. n.now) name
-
-abbrev pub names_view : Names → spec.Names
-names_view n =
-    record {
-      pipeline = text_of n.pipeline;
-      sessions = text_of n.sessions;
-      assets = text_of n.assets;
-      labels = text_of n.labels;
-      numbers = text_of n.numbers;
-      bars = text_of n.bars;
-      adjustments = text_of n.adjustments;
-      revisions = text_of n.revisions;
-      payouts = text_of n.payouts;
-      derivation = text_of n.derivation;
-      column = text_of n.column;
-      from = text_of n.from;
-      to = text_of n.to;
-      as_of = text_of n.as_of;
-      at = text_of n.at;
-    }

@@ -1,190 +1,137 @@
 //! What words name.
 
 ghost use Rattle.std.specs.Prelude.{◌≡◌, [], option_map, unwrap_or};
-ghost use Rattle.pl_words.specs.Request.{adjustments_of, column_asked, date_asked, date_named, file_named, name_asked, named_by, names_asked, names_over, no_names, table_names};
-ghost use Rattle.pl_words.specs.Request.Request.{Plan, Payouts, Explain, Verify};
-ghost use Rattle.pl_words.specs.Views.{dated_of, explain_of, names_view, payouts_of, plan_of, request_of, run_of, text_of, verify_of, world_names_of};
+ghost use Rattle.pl_words.specs.Request.{adjustments_of, column_asked, column_named, date_asked, date_named, file_named, name_asked, pipeline_of, table_date, world_file, world_of};
+ghost use Rattle.pl_words.specs.Views.{dated_of, request_of, run_of, text_of, world_names_of};
 
-use crate::request::{
-    DateWord, ExplainRequest, InputFile, PayoutsRequest, PlanRequest, RangeDate, Request,
-    RunRequest, VerifyRequest, WorldNames,
-};
-
-/// The names of files, of adjustments and of a column, and the dates as they are written; each where the
-/// words have it.
-#[derive(Clone, Copy)]
-pub(crate) struct Names<'a> {
-    pipeline: Option<&'a str>,
-    sessions: Option<&'a str>,
-    assets: Option<&'a str>,
-    labels: Option<&'a str>,
-    numbers: Option<&'a str>,
-    bars: Option<&'a str>,
-    adjustments: Option<&'a str>,
-    revisions: Option<&'a str>,
-    payouts: Option<&'a str>,
-    derivation: Option<&'a str>,
-    column: Option<&'a str>,
-    from: Option<&'a str>,
-    to: Option<&'a str>,
-    as_of: Option<&'a str>,
-    at: Option<&'a str>,
-}
+use crate::request::{DateWord, InputFile, RangeDate, Request, RunRequest, WorldNames};
 
 /// The name of a file that words ask for; nothing where they ask for none.
 pub fn name_asked<'a>(asked: Option<&Request<'a>>, file: InputFile) -> &'a str
     ensures { result.now ≡ unwrap_or (name_asked (option_map (λ q. request_of q.now) asked.entry) file) [] }
 {
-    names_asked(asked).file(file).unwrap_or("")
+    match asked {
+        Some(request) => request.file(file).unwrap_or(""),
+        None => "",
+    }
 }
 
 /// The text of a date that words ask for; nothing where they ask for none.
 pub fn date_asked<'a>(asked: Option<&Request<'a>>, date: RangeDate) -> &'a str
     ensures { result.now ≡ unwrap_or (date_asked (option_map (λ q. request_of q.now) asked.entry) date) [] }
 {
-    names_asked(asked).date(date).unwrap_or("")
+    match asked {
+        Some(request) => request.date(date).unwrap_or(""),
+        None => "",
+    }
 }
 
 /// The name of the adjustments that words ask for; nothing where they ask for none.
 pub fn adjustments_asked<'a>(asked: Option<&Request<'a>>) -> &'a str
     ensures { result.now ≡ unwrap_or (adjustments_of (option_map (λ q. request_of q.now) asked.entry)) [] }
 {
-    names_asked(asked).adjustments.unwrap_or("")
+    match asked {
+        Some(request) => match request.world() {
+            Some(world) => world.adjustments.unwrap_or(""),
+            None => "",
+        },
+        None => "",
+    }
 }
 
 /// The name of the column whose cell words ask for; nothing where they ask for none.
 pub fn column_asked<'a>(asked: Option<&Request<'a>>) -> &'a str
     ensures { result.now ≡ unwrap_or (column_asked (option_map (λ q. request_of q.now) asked.entry)) [] }
 {
-    names_asked(asked).column.unwrap_or("")
-}
-
-fn names_asked<'a>(asked: Option<&Request<'a>>) -> Names<'a>
-    ensures { names_view result ≡ names_asked (option_map (λ q. request_of q.now) asked.entry) }
-{
     match asked {
-        Some(request) => request.names(),
-        None => no_names(),
-    }
-}
-
-fn no_names<'a>() -> Names<'a>
-    ensures { names_view result ≡ no_names }
-{
-    Names {
-        pipeline: None,
-        sessions: None,
-        assets: None,
-        labels: None,
-        numbers: None,
-        bars: None,
-        adjustments: None,
-        revisions: None,
-        payouts: None,
-        derivation: None,
-        column: None,
-        from: None,
-        to: None,
-        as_of: None,
-        at: None,
-    }
-}
-
-fn names_over<'a>(pipeline: &'a str, world: &WorldNames<'a>) -> Names<'a>
-    ensures { names_view result ≡ names_over pipeline.now (world_names_of world.now) }
-{
-    Names {
-        pipeline: Some(pipeline),
-        sessions: Some(world.sessions),
-        assets: Some(world.assets),
-        labels: world.labels,
-        numbers: world.numbers,
-        bars: Some(world.bars),
-        adjustments: world.adjustments,
-        revisions: world.revisions,
-        ..no_names()
+        Some(Request::Explain(cell)) => cell.column,
+        _ => "",
     }
 }
 
 impl<'a> Request<'a> {
-    fn names(&self) -> Names<'a>
-        ensures { names_view result ≡ named_by (request_of self.now) }
+    fn pipeline(&self) -> Option<&'a str>
+        ensures { text_of result ≡ pipeline_of (request_of self.now) }
     {
         match self {
-            Request::Run(table) | Request::Daily(table) => table.names(),
-            Request::Fmt(name) | Request::Check(name) => Names {
-                pipeline: Some(name),
-                ..no_names()
+            Request::Run(table) | Request::Daily(table) => Some(table.pipeline),
+            Request::Fmt(name) | Request::Check(name) => Some(name),
+            Request::Plan(plan) => Some(plan.pipeline),
+            Request::Explain(cell) => Some(cell.pipeline),
+            Request::Verify(verify) => Some(verify.pipeline),
+            Request::Bench(_) | Request::Payouts(_) => None,
+        }
+    }
+
+    fn world(&self) -> Option<&WorldNames<'a>>
+        ensures { option_map (λ w. world_names_of w.now) result ≡ world_of (request_of self.now) }
+    {
+        match self {
+            Request::Run(table) | Request::Daily(table) => Some(&table.world),
+            Request::Explain(cell) => Some(&cell.world),
+            Request::Verify(verify) => Some(&verify.world),
+            _ => None,
+        }
+    }
+
+    // The name of a file, where the request has it.
+    fn file(&self, file: InputFile) -> Option<&'a str>
+        ensures { text_of result ≡ file_named (request_of self.now) file }
+    {
+        match (self, file) {
+            (Request::Plan(plan), InputFile::Sessions) => Some(plan.sessions),
+            (Request::Payouts(payouts), InputFile::Sessions) => Some(payouts.sessions),
+            (Request::Payouts(payouts), InputFile::Assets) => Some(payouts.assets),
+            (Request::Payouts(payouts), InputFile::Bars) => Some(payouts.bars),
+            (Request::Payouts(payouts), InputFile::Payouts) => Some(payouts.payouts),
+            (Request::Verify(verify), InputFile::Derivation) => Some(verify.derivation),
+            (_, InputFile::Pipeline) => self.pipeline(),
+            _ => match self.world() {
+                Some(world) => world.file(file),
+                None => None,
             },
-            Request::Plan(plan) => plan.names(),
-            Request::Bench(_) => no_names(),
-            Request::Payouts(payouts) => payouts.names(),
-            Request::Explain(cell) => cell.names(),
-            Request::Verify(verify) => verify.names(),
+        }
+    }
+
+    // A date as it is written, where the request has it.
+    fn date(&self, date: RangeDate) -> Option<&'a str>
+        ensures { text_of result ≡ date_named (request_of self.now) date }
+    {
+        match (self, date) {
+            (Request::Run(table) | Request::Daily(table), _) => table.date(date),
+            (Request::Plan(plan), RangeDate::From) => Some(plan.from.text),
+            (Request::Plan(plan), RangeDate::To) => Some(plan.to.text),
+            (Request::Explain(cell), RangeDate::At) => Some(cell.date.text),
+            _ => None,
+        }
+    }
+}
+
+impl<'a> WorldNames<'a> {
+    fn file(&self, file: InputFile) -> Option<&'a str>
+        ensures { text_of result ≡ world_file (world_names_of self.now) file }
+    {
+        match file {
+            InputFile::Sessions => Some(self.sessions),
+            InputFile::Assets => Some(self.assets),
+            InputFile::Labels => self.labels,
+            InputFile::Numbers => self.numbers,
+            InputFile::Bars => Some(self.bars),
+            InputFile::Revisions => self.revisions,
+            InputFile::Pipeline | InputFile::Payouts | InputFile::Derivation => None,
         }
     }
 }
 
 impl<'a> RunRequest<'a> {
-    fn names(&self) -> Names<'a>
-        ensures { names_view result ≡ table_names (run_of self.now) }
+    fn date(&self, date: RangeDate) -> Option<&'a str>
+        ensures { text_of result ≡ table_date (run_of self.now) date }
     {
-        Names {
-            from: Some(self.from.text),
-            to: Some(self.to.text),
-            as_of: text_of(self.options.as_of),
-            ..names_over(self.pipeline, &self.world)
-        }
-    }
-}
-
-impl<'a> PlanRequest<'a> {
-    fn names(&self) -> Names<'a>
-        ensures { names_view result ≡ named_by (Plan (plan_of self.now)) }
-    {
-        Names {
-            pipeline: Some(self.pipeline),
-            sessions: Some(self.sessions),
-            from: Some(self.from.text),
-            to: Some(self.to.text),
-            ..no_names()
-        }
-    }
-}
-
-impl<'a> PayoutsRequest<'a> {
-    fn names(&self) -> Names<'a>
-        ensures { names_view result ≡ named_by (Payouts (payouts_of self.now)) }
-    {
-        Names {
-            sessions: Some(self.sessions),
-            assets: Some(self.assets),
-            bars: Some(self.bars),
-            payouts: Some(self.payouts),
-            ..no_names()
-        }
-    }
-}
-
-impl<'a> ExplainRequest<'a> {
-    fn names(&self) -> Names<'a>
-        ensures { names_view result ≡ named_by (Explain (explain_of self.now)) }
-    {
-        Names {
-            at: Some(self.date.text),
-            column: Some(self.column),
-            ..names_over(self.pipeline, &self.world)
-        }
-    }
-}
-
-impl<'a> VerifyRequest<'a> {
-    fn names(&self) -> Names<'a>
-        ensures { names_view result ≡ named_by (Verify (verify_of self.now)) }
-    {
-        Names {
-            derivation: Some(self.derivation),
-            ..names_over(self.pipeline, &self.world)
+        match date {
+            RangeDate::From => Some(self.from.text),
+            RangeDate::To => Some(self.to.text),
+            RangeDate::AsOf => text_of(self.options.as_of),
+            RangeDate::At => None,
         }
     }
 }
@@ -195,34 +142,5 @@ fn text_of<'a>(date: Option<DateWord<'a>>) -> Option<&'a str>
     match date {
         Some(date) => Some(date.text),
         None => None,
-    }
-}
-
-impl<'a> Names<'a> {
-    fn file(&self, file: InputFile) -> Option<&'a str>
-        ensures { text_of result ≡ file_named (names_view self.now) file }
-    {
-        match file {
-            InputFile::Pipeline => self.pipeline,
-            InputFile::Sessions => self.sessions,
-            InputFile::Assets => self.assets,
-            InputFile::Labels => self.labels,
-            InputFile::Numbers => self.numbers,
-            InputFile::Bars => self.bars,
-            InputFile::Revisions => self.revisions,
-            InputFile::Payouts => self.payouts,
-            InputFile::Derivation => self.derivation,
-        }
-    }
-
-    fn date(&self, date: RangeDate) -> Option<&'a str>
-        ensures { text_of result ≡ date_named (names_view self.now) date }
-    {
-        match date {
-            RangeDate::From => self.from,
-            RangeDate::To => self.to,
-            RangeDate::AsOf => self.as_of,
-            RangeDate::At => self.at,
-        }
     }
 }
