@@ -77,7 +77,7 @@ contains-at (x ∷ xs) zero t e = let same : x ≡ t = cc in or_left (x == t) (c
 contains-at (x ∷ xs) (suc i) t e = or_right (x == t) (contains xs t) (contains-at xs i t e)
 
 pub output-used : (p : Pipeline) → IsChecked p → (i t : ℕ) → slice_get (outputs p) i ≡ Some t → is_used p t ≡ true
-output-used p ok i t e = used_terms-complete p.graph (outputs p) ok.graph t ((is-pipeline p ok).outputs_in i t e) (output (contains-at (outputs p) i t e))
+output-used p ok i t e = let there = contains-at (outputs p) i t e in used_terms-complete p.graph (outputs p) ok.graph t ((is-pipeline p ok).outputs_in t there) (output there)
 
 -- ---- one term more
 

@@ -281,15 +281,15 @@ module _ (days : List ℤ) (rise : AllPairs (λ a b. a <ℤ b) days) (s : ℕ) (
 
 -- ---- the outputs are marked first
 
-marked_at : (count : ℕ) (outs : List ℕ) (us : List Use) (t : ℕ) → ((i o : ℕ) → slice_get outs i ≡ Some o → o < length us)
+marked_at : (count : ℕ) (outs : List ℕ) (us : List Use) (t : ℕ) → ((o : ℕ) → contains outs o ≡ true → o < length us)
     → (contains outs t ≡ true → use_at (all_marked us count outs) t ≡ record { used = true; extra = 0; last = count })
     × (contains outs t ≡ false → use_at (all_marked us count outs) t ≡ use_at us t)
     × (length (all_marked us count outs) ≡ length us)
 marked_at count [] us t within = (λ h. absurd (true≢false (sym h)), λ h. refl, refl)
 marked_at count (o ∷ outs) us t within =
     let long : length (marked count us o) ≡ length us = length-set us o (record { used = true; extra = 0; last = count }) in
-    let rest = marked_at count outs (marked count us o) t (λ i p e. let l = within (suc i) p e in omega arith) in
-    let in_us : o < length us = within 0 o refl in (
+    let rest = marked_at count outs (marked count us o) t (λ p e. let l = within p (or_right (o == p) (contains outs p) e) in omega arith) in
+    let in_us : o < length us = within o (or_left (o == o) (contains outs o) (eq-eqb o o refl)) in (
       λ h. here (contains outs t) refl rest.0 rest.1 h in_us,
       λ h. rest.1 (other h).1 ∙ get_or-set_other us o t (record { used = true; extra = 0; last = count }) unused (other h).0,
       rest.2 ∙ long,
@@ -313,11 +313,11 @@ marked_at count (o ∷ outs) us t within =
 after_all_terms : (g : Graph) (u t : ℕ) → length g ≤ u → contains (mentions_at g u) t ≡ true → ⊥
 after_all_terms g u t h c = let e : slice_get g u ≡ None = slice_get_past g u h in let none = rw e at c in true≢false (sym none)
 
-pub begun : (days : List ℤ) (s : ℕ) (g : Graph) (outputs : List ℕ) → ((i o : ℕ) → slice_get outputs i ≡ Some o → o < length g)
+pub begun : (days : List ℤ) (s : ℕ) (g : Graph) (outputs : List ℕ) → ((o : ℕ) → contains outputs o ≡ true → o < length g)
     → AreGathered days s g outputs (length g) (all_marked (replicate (length g) unused) (length g) outputs)
 begun days s g outputs within =
     let long : length (replicate (length g) unused) ≡ length g = length-replicate (length g) unused in
-    let low : (i o : ℕ) → slice_get outputs i ≡ Some o → o < length (replicate (length g) unused) = λ i o e. let l = within i o e in omega arith in
+    let low : (o : ℕ) → contains outputs o ≡ true → o < length (replicate (length g) unused) = λ o e. let l = within o e in omega arith in
     let us : List Use = replicate (length g) unused in
     record {
       size = (marked_at (length g) outputs us 0 low).2 ∙ long;
@@ -326,7 +326,7 @@ begun days s g outputs within =
       given = λ u i t back l h e. absurd (after_all_terms g u t l (mention_of_ask days s g u _ i (t, back) e));
     }
   where
-    here : (t : ℕ) (b : Bool) → contains outputs t ≡ b → ((i o : ℕ) → slice_get outputs i ≡ Some o → o < length (replicate (length g) unused))
+    here : (t : ℕ) (b : Bool) → contains outputs t ≡ b → ((o : ℕ) → contains outputs o ≡ true → o < length (replicate (length g) unused))
         → (use_at (all_marked (replicate (length g) unused) (length g) outputs) t).used ≡ true
         → IsBack days s g outputs t (use_at (all_marked (replicate (length g) unused) (length g) outputs) t).extra
         × (((contains outputs t ≡ true) × ((use_at (all_marked (replicate (length g) unused) (length g) outputs) t).last ≡ length g)) ⊎ (Used g outputs (use_at (all_marked (replicate (length g) unused) (length g) outputs) t).last × (contains (mentions_at g (use_at (all_marked (replicate (length g) unused) (length g) outputs) t).last) t ≡ true)))

@@ -1,7 +1,6 @@
 pub mod Asking
 pub mod Counting
 pub mod Covers
-mod Depths
 pub mod Gathers
 pub mod Live
 pub mod Lows

@@ -1,8 +1,9 @@
 -- Lows by the definitions, from the numbers of sessions that terms are read back; and the least reach.
 use Rattle.std.proofs.Common.{◌≡◌, ℕ, zero, suc, ◌+◌, ◌-◌, ◌<◌, ◌≤◌, Bool, true, false, max, ℤ, pos, ◌-ℤ◌, ◌≤ℤ◌, ◌<ℤ◌, List, [], ◌∷◌, length, map, filter_map, AllPairs, Option, Some, None, refl, sym, ◌∙◌, ap, subst, arith, inl, inr, slice_get, ◌==◌}
 use Rattle.std.specs.List.{list_any}
-use Rattle.std.proofs.lemmas.Bool.{cases_lt, eq-eqb, or_left, or_right}
-use Rattle.std.proofs.lemmas.Int.{ints}
+use Rattle.std.proofs.lemmas.Bool.{cases_lt, eq-eqb, or_left, or_right, true≢false}
+use Rattle.std.proofs.lemmas.Int.{ints, int_min_is}
+use Rattle.pl_spec.specs.declared.Column.{Column}
 use Rattle.pl_spec.specs.Window.{before}
 use Rattle.pl_pipeline.specs.Term.{Input, Node, Graph, term_at}
 use Rattle.pl_pipeline.specs.Term.Input.{BarColumn, TermInput}
@@ -10,18 +11,17 @@ use Rattle.pl_pipeline.specs.Graph.{contains, reads_at, reach, Used}
 use Rattle.pl_pipeline.specs.Lows.{Reads, Needs, IsLow, least_reach}
 use Rattle.pl_laws.specs.LowLaws.{ReachCovers, bar_from, own_from}
 use Rattle.pl_laws.proofs.Reaches.{AllFrom, below_least}
-use Rattle.pl_laws.proofs.Lows.{reach-covers, reaches-meet, reads-rise, least_above}
+use Rattle.pl_laws.proofs.Lows.{reach-covers, reaches-meet, reaches-rise, reads-rise, least_above}
 use Rattle.pl_planner.specs.declared.uses.Use.{Use}
 use Rattle.pl_planner.specs.Extra.{Ask, back_from, asks, asks_of, asks_at, IsBack, IsExtra}
 use Rattle.pl_planner.specs.Uses.{use_at, AreUses, HaveExtras}
 use Rattle.pl_planner.specs.Columns.{is_bar, bars_back, node_back, reads_back, most_back}
 use Rattle.pl_spec.proofs.Each.{each_at}
 use Rattle.pl_planner.proofs.Asking.{Found, each-asks, found-group, found-input, found-mask}
-use Rattle.pl_planner.proofs.Pipelines.{IsPipeline, output-below}
+use Rattle.pl_planner.proofs.Pipelines.{IsPipeline}
 use Rattle.pl_planner.proofs.Gathers.{mention_of_ask, back-of, back-rises}
 use Rattle.pl_planner.proofs.Counting.{most_in, most_more}
 use Rattle.pl_planner.proofs.Live.{used_within}
-use Rattle.pl_planner.proofs.Depths.{has-bar}
 
 -- ---- what a node asks for is what it reads
 
@@ -100,6 +100,11 @@ needs-rise days rise g outs d e h t r (Needs.read u n s needs at reads) =
 
 -- ---- how far back bars are read
 
+has-bar : (is : List Input) → list_any is_bar is ≡ true → (i : ℕ) × (c : Column) × (slice_get is i ≡ Some (BarColumn c))
+has-bar [] e = absurd (true≢false (sym e))
+has-bar (BarColumn c ∷ is) e = (0, c, refl)
+has-bar (TermInput u ∷ is) e = let r = has-bar is e in (suc r.0, r.1, r.2)
+
 bars-above : (low s : ℤ) (w : ℕ) (is : List Input) → (list_any is_bar is ≡ true → low ≤ℤ before s w) → AllFrom low (filter_map (bar_from w s) is)
 bars-above low s w [] h = tt
 bars-above low s w (BarColumn c ∷ is) h = (h refl, bars-above low s w is (λ e. h refl))
@@ -154,7 +159,7 @@ module _ (days : List ℤ) (rise : AllPairs (λ a b. a <ℤ b) days) (g : Graph)
   -- what an output reaches lies no farther back
   reach-above : (t : ℕ) → contains outs t ≡ true → (pos s -ℤ pos most) ≤ℤ reach days (term_at g t) (pos s)
   reach-above t h =
-      let met = reaches-meet days rise g ok.graph wide outs (pos s) t (pos s) (output-below g outs ok t h) (Needs.output h) in
+      let met = reaches-meet days rise g ok.graph wide outs (pos s) t (pos s) (ok.outputs_in t h) (Needs.output h) in
       above met.0 met.1 met.2 met.3 met.4 met.5
     where
       above : (u : ℕ) (n : Node) (r : ℤ) → Needs days g outs (pos s) u r → slice_get g u ≡ Some n → own_from days n r ≡ reach days (term_at g t) (pos s) → (pos s -ℤ pos most) ≤ℤ reach days (term_at g t) (pos s)
@@ -232,3 +237,7 @@ module _ (days : List ℤ) (rise : AllPairs (λ a b. a <ℤ b) days) (g : Graph)
 
   pub least-is : least_reach days g outs (pos s) ≡ pos s -ℤ pos most
   least-is = let a = least-low in let b = least-high in omega (arith, ints)
+
+-- of one output alone it is the reach
+pub reach-alone : (days : List ℤ) (g : Graph) (t : ℕ) (d : ℤ) → least_reach days g (t ∷ []) d ≡ reach days (term_at g t) d
+reach-alone days g t d = omega (arith, ints, int_min_is d (reach days (term_at g t) d), reaches-rise.within days (term_at g t) d)

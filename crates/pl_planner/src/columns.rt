@@ -9,7 +9,7 @@ ghost use Rattle.pl_terms.specs.Checked.{pipeline_of};
 ghost use Rattle.pl_terms.specs.Nodes.{input_of, node_of};
 ghost use Rattle.pl_terms.specs.Uses.{outputs};
 ghost use Rattle.pl_planner.specs.Asked.{AreAsked};
-ghost use Rattle.pl_planner.specs.Uses.{AreUses, HaveExtras, is_kept, use_at};
+ghost use Rattle.pl_planner.specs.Uses.{AreForOutputs, AreUses, is_kept, use_at};
 ghost use Rattle.pl_planner.specs.Columns.{bars_back, is_bar, columns_in, held_at, most_back, reads_back};
 
 use crate::pipeline::{count, node_at};
@@ -140,9 +140,7 @@ fn reads_back(
     t: usize,
 ) -> usize
     requires asked { AreAsked sessions.now (pipeline_of checked.now) }
-    requires uses { AreUses (pipeline_of checked.now).graph (outputs (pipeline_of checked.now)) uses.now }
-    requires extras { HaveExtras sessions.now session (pipeline_of checked.now).graph
-        (outputs (pipeline_of checked.now)) uses.now }
+    requires uses { AreForOutputs sessions.now session (pipeline_of checked.now).graph uses.now }
     requires session { session < length sessions.now }
     requires within { t < length uses.now }
     ensures value { result ≡ reads_back sessions.now session (pipeline_of checked.now).graph uses.now t }
@@ -164,9 +162,7 @@ pub(crate) fn most_back(
     session: usize,
 ) -> usize
     requires asked { AreAsked sessions.now (pipeline_of checked.now) }
-    requires uses { AreUses (pipeline_of checked.now).graph (outputs (pipeline_of checked.now)) uses.now }
-    requires extras { HaveExtras sessions.now session (pipeline_of checked.now).graph
-        (outputs (pipeline_of checked.now)) uses.now }
+    requires uses { AreForOutputs sessions.now session (pipeline_of checked.now).graph uses.now }
     requires within { session < length sessions.now }
     ensures value { result ≡ most_back sessions.now session (pipeline_of checked.now).graph uses.now
         (length (pipeline_of checked.now).graph) }
