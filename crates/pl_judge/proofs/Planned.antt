@@ -3,7 +3,7 @@ use Rattle.std.proofs.Common.{◌≡◌, inl, inr, ℕ, zero, suc, ◌+◌, ◌<
 use Rattle.std.specs.List.{list_any, range_with_len}
 use Rattle.std.specs.Int.{int_min, int_gap}
 use Rattle.std.specs.Int.RustNames.{int_lt}
-use Rattle.std.proofs.lemmas.Bool.{or_cases, eqb-true, true≢false}
+use Rattle.std.proofs.lemmas.Bool.{true≢false}
 use Rattle.std.proofs.lemmas.Bool.Decides.{nat_tests}
 use Rattle.std.proofs.lemmas.Int.{ints}
 use Rattle.std.proofs.lemmas.List.Folds.{list_any_at}
@@ -15,11 +15,11 @@ use Rattle.pl_pipeline.specs.Lows.{Needs, IsLow}
 use Rattle.pl_pipeline.specs.Table.{Pipeline}
 use Rattle.pl_spec.proofs.Signed.{le-both}
 use Rattle.pl_laws.proofs.Reaches.{AllFrom, below_least}
-use Rattle.pl_laws.proofs.Uses.{lower, used_terms-complete}
+use Rattle.pl_laws.proofs.Uses.{used_terms-complete}
 use Rattle.pl_terms.specs.Checked.{IsChecked}
 use Rattle.pl_terms.specs.Uses.{outputs, is_used}
 use Rattle.pl_planner.proofs.Pipelines.{IsPipeline, is-pipeline, used-inside}
-use Rattle.pl_planner.proofs.Covers.{needs-used}
+use Rattle.pl_planner.proofs.Mentions.{needs-used}
 use Rattle.pl_planner.specs.Plans.{Planned, IsPlanOf, IsDeepest, IsAsked, low_at}
 use Rattle.pl_judge.specs.Planning.{Need, sessions_of, needs, first_of, first_of_all, extra_of, HasRows, is_too_deep}
 use Rattle.pl_judge.proofs.Needed.{IsIn, IsSession, of-term, term-of, in-of-all, all-of-in, all-listed, listed-are}

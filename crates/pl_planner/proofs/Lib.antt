@@ -5,6 +5,7 @@ pub mod Gathers
 pub mod Live
 pub mod Lows
 pub mod Marks
+pub mod Mentions
 pub mod Moved
 pub mod Passes
 pub mod Pipelines

@@ -1,16 +1,18 @@
 -- The pass from the last term to the first over the pipelines of the language.
-use Rattle.std.proofs.Common.{◌≡◌, ℕ, zero, suc, ◌+◌, ◌*◌, ◌-◌, ◌<◌, ◌≤◌, Bool, true, false, ℤ, ◌<ℤ◌, AllPairs, List, length, Some, refl, ap, subst, arith, slice_get, replicate}
+use Rattle.std.proofs.Common.{◌≡◌, ℕ, zero, suc, ◌+◌, ◌*◌, ◌-◌, ◌<◌, ◌≤◌, Bool, true, false, ℤ, pos, ◌-ℤ◌, ◌<ℤ◌, AllPairs, List, length, Some, refl, arith, slice_get, replicate}
 use Rattle.std.specs.List.{list_any}
+use Rattle.std.proofs.lemmas.Int.{ints}
 use Rattle.std.proofs.lemmas.Option.{slice_get_within}
 use Rattle.pl_pipeline.specs.Term.{Node, Graph, MentionsBelow}
 use Rattle.pl_pipeline.specs.Kind.{Kind}
 use Rattle.pl_planner.specs.declared.uses.Use.{Use}
-use Rattle.pl_planner.specs.Extra.{asks, asks_of, asks_at, back_from, IsBack}
+use Rattle.pl_pipeline.specs.Lows.{Needs}
+use Rattle.pl_planner.specs.Extra.{asks, back_from}
 use Rattle.pl_planner.specs.Columns.{is_bar, bars_back}
 use Rattle.pl_planner.specs.Uses.{unused, use_at, all_asked, all_marked, AreUses, HaveExtras}
 use Rattle.pl_planner.proofs.Pipelines.{IsPipeline}
 use Rattle.pl_planner.proofs.Asking.{lower-more}
-use Rattle.pl_planner.proofs.Gathers.{AreGathered, begun, step, gathered, extras, needed_few, back-few}
+use Rattle.pl_planner.proofs.Gathers.{AreGathered, begun, step, gathered, extras, needs-near, back-few}
 
 back-short : (days : List ℤ) (s : ℕ) (k : Kind) (n : ℕ) → n ≤ s + 1260 * 256 → back_from days s k n ≤ s + 1260 * 256
 back-short days s k n h = omega (arith, back-few days s k n)
@@ -27,8 +29,8 @@ module _ {days : List ℤ} (rise : AllPairs (λ a b. a <ℤ b) days) (s : ℕ) {
   pass_begun us n e f = rw (f, e) (begun days s g outs ok.outputs_in)
 
   -- no term is computed so many sessions early
-  few-back : length g ≤ 256 → (t n : ℕ) → IsBack days s g outs t n → n ≤ s + 1260 * 256
-  few-back few t n b = let l = (needed_few days rise s g outs ok.graph ok.outputs_in (λ j n e. (ok.windows j n e).1) t n b).0 in omega arith
+  few-back : length g ≤ 256 → (t n : ℕ) → Needs days g outs (pos s) t (pos s -ℤ pos n) → n ≤ s + 1260 * 256
+  few-back few t n needs = omega (arith, ints, few, (needs-near days s g outs ok.graph ok.outputs_in (λ j n e. (ok.windows j n e).1) t (pos s -ℤ pos n) needs).0)
 
   pub pass_room : length g ≤ 256 → (us : List Use) (j k : ℕ) (kind : Kind) → AreGathered days s g outs j us → (use_at us k).used ≡ true → back_from days s kind (use_at us k).extra ≤ s + 1260 * 256
   pass_room few us j k kind h u = back-short days s kind (use_at us k).extra (few-back few k (use_at us k).extra (h.sound k u).0)
@@ -41,8 +43,7 @@ module _ {days : List ℤ} (rise : AllPairs (λ a b. a <ℤ b) days) (s : ℕ) {
       let at = rw less at e in
       let used = rw less at u in
       let is = rw less at f in
-      let list : asks_at days s g k (use_at us k).extra ≡ asks days s n (use_at us k).extra = ap (λ o. asks_of days s o (use_at us k).extra) at in
-      rw (less, is) (subst (λ l. AreGathered days s g outs k (all_asked us k l)) list (step days rise s g outs ok.graph us k h used (slice_get_within g k n at)))
+      rw (less, is) (step days rise s g outs ok.graph us k n h at used)
 
   pub pass_ended : (us : List Use) → AreGathered days s g outs 0 us → AreUses g outs us × HaveExtras days s g outs us
   pass_ended us h = (gathered days rise s g outs ok.graph us h, extras days rise s g outs ok.graph us h)
@@ -52,4 +53,4 @@ module _ {days : List ℤ} (rise : AllPairs (λ a b. a <ℤ b) days) (s : ℕ) {
 
   pub extra-few : length g ≤ 256 → (us : List Use) → AreUses g outs us → HaveExtras days s g outs us → (t : ℕ) (kind : Kind) → (use_at us t).used ≡ true
       → back_from days s kind (use_at us t).extra ≤ s + 1260 * 256
-  extra-few few us are have t kind u = back-short days s kind (use_at us t).extra (few-back few t (use_at us t).extra (have t ((are.used t).0 u)).back)
+  extra-few few us are have t kind u = back-short days s kind (use_at us t).extra (few-back few t (use_at us t).extra (have t ((are.used t).0 u)).needed)

@@ -69,7 +69,7 @@ reads-now (kind.Downsample f) e days s = absurd (true≢false e)
 reads-now (kind.Constant c) e days s = refl
 reads-now k e days s = refl
 
-downsampled-input : (g : Graph) (is : List Input) → all_fit g (AnyTerm ∷ []) is ≡ true → (t : ℕ) × (slice_get is 0 ≡ Some (TermInput t))
+pub downsampled-input : (g : Graph) (is : List Input) → all_fit g (AnyTerm ∷ []) is ≡ true → (t : ℕ) × (slice_get is 0 ≡ Some (TermInput t))
 downsampled-input g [] h = absurd (let no : false ≡ true = h in cc)
 downsampled-input g (BarColumn c ∷ is) h = absurd (let no : false ≡ true = h in cc)
 downsampled-input g (TermInput t ∷ is) h = (t, refl)

@@ -1,6 +1,6 @@
 //! How many arrays are held at once, and how far back bars are read.
 
-ghost use Rattle.std.specs.Prelude.{◌≡◌, ◌||◌, if◌then◌else◌, ◌+◌, ◌*◌, ◌<◌, ◌≤◌, count_by, filter_map, fold, length, map, max, option_to_list};
+ghost use Rattle.std.specs.Prelude.{◌≡◌, ◌||◌, if◌then◌else◌, ◌+◌, ◌*◌, ◌<◌, ◌≤◌, count_by, filter_map, fold, length, map, max};
 ghost use Rattle.std.specs.List.{list_any, range_with_len};
 ghost use Rattle.pl_spec.specs.Limits.{most_terms, most_window};
 ghost use Rattle.pl_spec.specs.World.{column_number};
@@ -50,12 +50,14 @@ fn live_at(uses: &[Use], k: usize) -> usize
     live
 }
 
-fn is_column(input: Input, column: Column) -> bool
-    ensures { result ≡ contains (option_to_list (input_column (input_of input))) (column_number column) }
+/// Is one of the inputs the bar column?
+pub fn has_column(inputs: &[Input], column: Column) -> bool
+    ensures { result ≡ contains (filter_map input_column (map input_of inputs.now)) (column_number column) }
 {
-    match input {
-        Input::Column(own) => own == column,
-        Input::Term(_) => false,
+    match inputs {
+        [] => false,
+        [Input::Column(own), rest @ ..] => *own == column || has_column(rest, column),
+        [Input::Term(_), rest @ ..] => has_column(rest, column),
     }
 }
 
@@ -63,11 +65,7 @@ fn is_column(input: Input, column: Column) -> bool
 fn reads(node: &Node, column: Column) -> bool
     ensures { result ≡ contains (filter_map input_column (node_of node.now).inputs) (column_number column) }
 {
-    let mut found = false;
-    for input in node.inputs.as_slice() {
-        found = either(found, is_column(*input, column));
-    }
-    found
+    has_column(node.inputs.as_slice(), column)
 }
 
 fn columns_of(node: &Node) -> usize
