@@ -2,16 +2,17 @@
 use Rattle.std.proofs.Common.{◌≡◌, ℕ, zero, suc, ◌+◌, ◌<◌, ◌≤◌, Bool, true, false, ◌&&◌, ℤ, pos, ◌<ℤ◌, ◌≤ℤ◌, List, [], ◌∷◌, ◌++◌, length, map, get_or, set, AllPairs, Option, Some, None, option_map, inl, inr, refl, sym, ◌∙◌, ap, subst, arith, slice_get, ◌==◌, length-append, length-set, get_or-set_same, get_or-set_other}
 use Rattle.std.specs.List.{list_all}
 use Rattle.std.specs.Int.RustNames.{int_le}
-use Rattle.std.proofs.lemmas.Bool.{cases_lt, cases_eq, true≢false, or_left, or_right, eq-eqb}
+use Rattle.std.proofs.lemmas.Bool.{cases_lt, cases_eq, true≢false, eq-eqb}
 use Rattle.std.proofs.lemmas.Int.{ints, by_lt_z}
-use Rattle.std.proofs.lemmas.Option.{slice_get_within}
+use Rattle.std.proofs.lemmas.Option.{get_or_from_slice_get, slice_get_within}
 use Rattle.std.specs.Cmp.{both_ways}
-use Rattle.std.proofs.lemmas.List.Folds.{list_all-append}
+use Rattle.std.proofs.lemmas.List.Folds.{list_all-append, list_any_at}
 use Rattle.circular_buffer.proofs.Places.{slice_get-append_left}
-use Rattle.pl_pipeline.specs.Term.{Term, Node, term_at, IsGraph}
-use Rattle.pl_pipeline.specs.Graph.{contains, mentions, reach, reads_at, Used}
+use Rattle.pl_pipeline.specs.Term.{Term, Node, term_at}
+use Rattle.pl_pipeline.specs.Graph.{contains, mentions_at, reach, reads_at}
 use Rattle.pl_pipeline.specs.Graph.Used.{output, mentioned}
-use Rattle.pl_pipeline.specs.Lows.{least_reach}
+use Rattle.pl_planner.proofs.Mentions.{read-lower, reads-mention}
+use Rattle.pl_pipeline.specs.Lows.{Reads, least_reach}
 use Rattle.pl_pipeline.specs.Table.{Pipeline}
 use Rattle.pl_pipeline.proofs.Unfolds.{past}
 use Rattle.pl_spec.proofs.Signed.{le-int_le, int_le-true}
@@ -65,19 +66,20 @@ module _ (days : List ℤ) (day : ℤ) where
 
 -- ---- the used terms
 
-mentioned-used : (p : Pipeline) → IsGraph p.graph → (k u : ℕ) (n : Node) → slice_get p.graph k ≡ Some n → is_used p k ≡ true → u < k → contains (mentions n) u ≡ true → is_used p u ≡ true
-mentioned-used p ok k u n at used lower h =
-    let within : k < length p.graph = slice_get_within p.graph k n at in
-    let own : Used p.graph (outputs p) k = used_terms-sound p.graph (outputs p) ok k used in
-    used_terms-complete p.graph (outputs p) ok u (omega arith) (mentioned k own (rw at h))
+-- what a used term reads is used, and lower
+pub read_used : (days : List ℤ) (s : ℤ) (p : Pipeline) → IsChecked p → (k : ℕ) (n : Node) → is_used p k ≡ true → slice_get p.graph k ≡ Some n
+    → (u : ℕ) (r : ℤ) → Reads days n s u r → (u < k) × (u < length p.graph) × (is_used p u ≡ true)
+read_used days s p ok k n used at u r reads =
+    let mention : contains (mentions_at p.graph k) u ≡ true = rw at (reads-mention days n s u r reads) in
+    let below : u < k = read-lower days n s k u r (ok.graph.lower k n at) reads in
+    let known : u < length p.graph = omega (arith, below, slice_get_within p.graph k n at) in
+    (below, known, used_terms-complete p.graph (outputs p) ok.graph u known (mentioned k (used_terms-sound p.graph (outputs p) ok.graph k used) mention))
 
 contains-at : (xs : List ℕ) (i t : ℕ) → slice_get xs i ≡ Some t → contains xs t ≡ true
-contains-at [] i t e = cc
-contains-at (x ∷ xs) zero t e = let same : x ≡ t = cc in or_left (x == t) (contains xs t) (eq-eqb x t same)
-contains-at (x ∷ xs) (suc i) t e = or_right (x == t) (contains xs t) (contains-at xs i t e)
+contains-at xs i t e = list_any_at (λ x. x == t) xs i 0 (slice_get_within xs i t e) (eq-eqb (get_or xs i 0) t (get_or_from_slice_get xs i t 0 e))
 
 pub output-used : (p : Pipeline) → IsChecked p → (i t : ℕ) → slice_get (outputs p) i ≡ Some t → is_used p t ≡ true
-output-used p ok i t e = used_terms-complete p.graph (outputs p) ok.graph t ((is-pipeline p ok).outputs_in i t e) (output (contains-at (outputs p) i t e))
+output-used p ok i t e = let there = contains-at (outputs p) i t e in used_terms-complete p.graph (outputs p) ok.graph t ((is-pipeline p ok).outputs_in t there) (output there)
 
 -- ---- one term more
 
@@ -121,11 +123,11 @@ module _ (p : Pipeline) (ok : IsChecked p) (starts : List ℕ) (s : ℕ) (old si
         tests : is_used_ready p since k start s ≡ is_node_ready since start s n
         tests = and-used (is_found_ready since start s (slice_get p.graph k)) (is_used p k) used ∙ ap (is_found_ready since start s) at
 
-        wide : 1 ≤ n.window
-        wide = ((is-pipeline p ok).windows k n at).0
+        wide : (k : ℕ) (n : Node) → slice_get p.graph k ≡ Some n → 1 ≤ n.window
+        wide k n at = ((is-pipeline p ok).windows k n at).0
 
-        lower : (u : ℕ) → u < k → contains (mentions n) u ≡ true → IsFirst (days ++ day ∷ []) (term_at p.graph u) (get_or since u None)
-        lower u l h = so_far.first days day rise count begins firsts u l (mentioned-used p ok.graph k u n at used l h)
+        lower : (u : ℕ) (r : ℤ) → Reads (days ++ day ∷ []) n (pos s) u r → IsFirst (days ++ day ∷ []) (term_at p.graph u) (get_or since u None)
+        lower u r read = let x = read_used (days ++ day ∷ []) (pos s) p ok k n used at u r read in so_far.first days day rise count begins firsts u x.0 x.2
 
         in_days : s < length (days ++ day ∷ [])
         in_days = let long = long-more days day in omega arith
@@ -134,11 +136,11 @@ module _ (p : Pipeline) (ok : IsChecked p) (starts : List ℕ) (s : ℕ) (old si
         reads = reads-is (days ++ day ∷ []) n.kind start s (λ f e. begins k n f used at e)
 
         on : is_used_ready p since k start s ≡ true → pos 0 ≤ℤ reach (days ++ day ∷ []) own (pos s)
-        on e = on-node (days ++ day ∷ []) rise p.graph ok.graph since k n at wide lower start s in_days reads (sym tests ∙ e)
+        on e = on-node (days ++ day ∷ []) rise p.graph ok.graph wide since k n at s lower start in_days reads (sym tests ∙ e)
 
         off : is_used_ready p since k start s ≡ false → reach (days ++ day ∷ []) own (pos s) <ℤ pos 0
         off e = by_lt_z (reach (days ++ day ∷ []) own (pos s)) (pos 0) (λ l. l)
-            (λ h. absurd (true≢false (sym (tests ∙ node-on (days ++ day ∷ []) rise p.graph ok.graph since k n at wide lower start s in_days reads h) ∙ e)))
+            (λ h. absurd (true≢false (sym (tests ∙ node-on (days ++ day ∷ []) rise p.graph ok.graph wide since k n at s lower start in_days reads h) ∙ e)))
 
     own-first : IsFirst (days ++ day ∷ []) own told
     own-first = found (slice_get p.graph k) refl

@@ -12,7 +12,7 @@ use Rattle.pl_pipeline.specs.Table.{Pipeline, value_of, is_kept, kept_sids}
 use Rattle.pl_pipeline.specs.Value.{holds}
 use Rattle.pl_spec.specs.Window.{before}
 use Rattle.pl_spec.specs.World.{World, day_of, living_sids, lives_on}
-use Rattle.pl_spec.proofs.Lists.{filter-map}
+use Rattle.pl_spec.proofs.Lists.{filter-map, filter-same, filter-twice}
 use Rattle.std.proofs.lemmas.Option.{slice_get-get_or}
 use Rattle.pl_cross.specs.Arrays.{sid_in}
 use Rattle.pl_cross.specs.Listing.{labels_in}
@@ -50,17 +50,6 @@ listed day all (r ∷ rs) k h =
 filter-all : {X : Type 0} (xs : List X) → filter (λ x. true) xs ≡ xs
 filter-all [] = refl
 filter-all (x ∷ xs) = ap (λ l. x ∷ l) (filter-all xs)
-
-filter-both : {X : Type 0} (p q r : X → Bool) (xs : List X) → All (λ x. r x ≡ (p x && q x)) xs → filter q (filter p xs) ≡ filter r xs
-filter-both p q r [] h = refl
-filter-both p q r (x ∷ xs) h =
-    let first : r x ≡ (p x && q x) = h 0 x (omega arith) in
-    rw first (here (p x) (q x) refl (filter-both p q r xs (λ k d l. h (suc k) d (omega arith))))
-  where
-    here : (b c : Bool) → q x ≡ c → filter q (filter p xs) ≡ filter r xs → filter q (cond b (x ∷ filter p xs) (filter p xs)) ≡ cond (b && c) (x ∷ filter r xs) (filter r xs)
-    here true true e rest = rw e (ap (λ l. x ∷ l) rest)
-    here true false e rest = rw e rest
-    here false c e rest = rest
 
 pub places_within : (n : ℕ) → All (λ i. i < n) (range_with_len 0 n)
 places_within n k d h =
@@ -108,8 +97,8 @@ module _ (g : Start) (next : FedDay) (days : List FedDay) (p : Pipeline) (ok : I
       = λ i l. ap is_true (h i l ∙ sym (number_is w p ok t numbered (sid_in (sids_of g.assets) i) d)) ∙ ap (λ a. holds (value_of w p t a d)) (sid_is g.assets i l) in
       sym (ap (filter (λ a. holds (value_of w p t a d))) living
       ∙ filter-map (λ a. holds (value_of w p t a d)) (sid_at g.assets) (filter (lives_at g.assets next.day) (range_with_len 0 (length g.assets)))
-      ∙ ap (map (sid_at g.assets)) (filter-both (lives_at g.assets next.day) test (is_kept_by g.assets next.day (Some row)) (range_with_len 0 (length g.assets))
-      (λ k i l. ap (λ x. lives_at g.assets next.day (get_or (range_with_len 0 (length g.assets)) k i) && x) (same (get_or (range_with_len 0 (length g.assets)) k i) (places_within (length g.assets) k i l)))))
+      ∙ ap (map (sid_at g.assets)) (filter-twice test (lives_at g.assets next.day) (range_with_len 0 (length g.assets)) ∙ sym (filter-same (is_kept_by g.assets next.day (Some row)) (λ i. lives_at g.assets next.day i && test i) (range_with_len 0 (length g.assets))
+      (λ k i l. ap (λ x. lives_at g.assets next.day (get_or (range_with_len 0 (length g.assets)) k i) && x) (same (get_or (range_with_len 0 (length g.assets)) k i) (places_within (length g.assets) k i l))))))
   by_screen None (Some row) e h = absurd h
   by_screen (Some t) None e h = absurd h
 

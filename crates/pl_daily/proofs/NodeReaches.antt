@@ -1,10 +1,9 @@
 -- A node reaches no session before the first where what it reads does not.
 use Rattle.std.proofs.Common.{◌≡◌, ℕ, zero, suc, ◌+◌, ◌-◌, ◌<◌, ◌≤◌, Bool, true, ◌&&◌, ◌++◌, ℤ, pos, ◌<ℤ◌, ◌≤ℤ◌, List, [], ◌∷◌, length, map, get_or, AllPairs, Option, Some, None, option_to_list, filter_map, inl, inr, refl, sym, ◌∙◌, ap, arith, slice_get, ◌==◌, le-leb, leb-true}
 use Rattle.std.specs.List.{list_all}
-use Rattle.std.proofs.lemmas.Bool.{cases_lt, true≢false, and_parts, or_left, or_right}
+use Rattle.std.proofs.lemmas.Bool.{cases_lt, true≢false, and_parts}
 use Rattle.std.proofs.lemmas.Bool.Decides.{nat_tests}
 use Rattle.std.proofs.lemmas.Int.{ints}
-use Rattle.std.proofs.lemmas.List.Folds.{list_any-append}
 use Rattle.std.proofs.lemmas.Option.{slice_get_within}
 use Rattle.pl_pipeline.specs.Kind.{Kind}
 use Rattle.pl_pipeline.specs.Kind.Kind.{Downsample}
@@ -14,12 +13,17 @@ use Rattle.pl_spec.specs.Window.{before, downward}
 use Rattle.pl_pipeline.specs.Term.{Term, Input, Node, Graph, input_tree, number_tree, trees, term_at, MentionsBelow, IsGraph}
 use Rattle.pl_pipeline.specs.Term.Term.{absent, column, node}
 use Rattle.pl_pipeline.specs.Term.Input.{BarColumn, TermInput}
-use Rattle.pl_pipeline.specs.Graph.{input_number, mentions, contains, least_of, part_reach, reads_at, reach}
+use Rattle.pl_pipeline.specs.Graph.{least_of, part_reach, reads_at, reach}
 use Rattle.pl_pipeline.proofs.Trees.{term_at-node}
 use Rattle.pl_pipeline.proofs.Unfolds.{past}
-use Rattle.pl_pipeline.proofs.Contained.{option-in, input-in}
-use Rattle.pl_laws.proofs.Lows.{reach-rises, reaches-rise, reads_at-within, least_above}
-use Rattle.pl_laws.proofs.Reaches.{AllFrom, below_least, at_downward}
+use Rattle.pl_pipeline.specs.Lows.{Reads, Needs}
+use Rattle.pl_pipeline.proofs.Contained.{alone-in}
+use Rattle.pl_planner.proofs.Lows.{reach-alone}
+use Rattle.pl_spec.specs.declared.Column.{Column}
+use Rattle.pl_spec.proofs.Windows.{before-zero}
+use Rattle.pl_laws.specs.LowLaws.{ReachCovers}
+use Rattle.pl_laws.proofs.Lows.{reach-covers, reach-rises, reaches-rise, reads_at-within, least_above}
+use Rattle.pl_laws.proofs.Reaches.{AllFrom}
 use Rattle.pl_daily.specs.Reaches.{IsFirst}
 use Rattle.pl_daily.specs.Ready.{is_since, is_input_ready, is_number_ready, read_up_to, is_node_ready}
 use Rattle.pl_values.proofs.Operations.{all-at}
@@ -35,27 +39,6 @@ le-since first back s h = grind (arith, nat_tests)
 pub at-all : {X : Type 0} (f : X → Bool) (xs : List X) → ((i : ℕ) (x : X) → slice_get xs i ≡ Some x → f x ≡ true) → list_all f xs ≡ true
 at-all f [] h = refl
 at-all f (y ∷ ys) h = rw (h 0 y refl) (at-all f ys (λ i x e. h (suc i) x e))
-
--- ---- what a node mentions
-
-mention-input : (n : Node) (i u : ℕ) → slice_get n.inputs i ≡ Some (TermInput u) → contains (mentions n) u ≡ true
-mention-input n i u e =
-    list_any-append (λ x. x == u) (filter_map input_number n.inputs ++ option_to_list n.mask) (option_to_list n.group)
-    ∙ or_left (contains (filter_map input_number n.inputs ++ option_to_list n.mask) u) (contains (option_to_list n.group) u)
-    (list_any-append (λ x. x == u) (filter_map input_number n.inputs) (option_to_list n.mask)
-    ∙ or_left (contains (filter_map input_number n.inputs) u) (contains (option_to_list n.mask) u) (input-in n.inputs i u e))
-
-mention-mask : (n : Node) (u : ℕ) → n.mask ≡ Some u → contains (mentions n) u ≡ true
-mention-mask n u e =
-    list_any-append (λ x. x == u) (filter_map input_number n.inputs ++ option_to_list n.mask) (option_to_list n.group)
-    ∙ or_left (contains (filter_map input_number n.inputs ++ option_to_list n.mask) u) (contains (option_to_list n.group) u)
-    (list_any-append (λ x. x == u) (filter_map input_number n.inputs) (option_to_list n.mask)
-    ∙ or_right (contains (filter_map input_number n.inputs) u) (contains (option_to_list n.mask) u) (option-in n.mask u e))
-
-mention-group : (n : Node) (u : ℕ) → n.group ≡ Some u → contains (mentions n) u ≡ true
-mention-group n u e =
-    list_any-append (λ x. x == u) (filter_map input_number n.inputs ++ option_to_list n.mask) (option_to_list n.group)
-    ∙ or_right (contains (filter_map input_number n.inputs ++ option_to_list n.mask) u) (contains (option_to_list n.group) u) (option-in n.group u e)
 
 -- ---- the least of sessions
 
@@ -74,39 +57,24 @@ module _ (days : List ℤ) (rise : AllPairs (λ a b. a <ℤ b) days) where
   abbrev From : Term → ℤ → Type 0
   From t d = pos 0 ≤ℤ reach days t d
 
-  -- from its first session on a term needs none before the first of all
-  first-on : (t : Term) (o : Option ℕ) (e : ℕ) → IsFirst days t o → e < length days → From t (pos e) → is_since o 0 e ≡ true
-  first-on t None e is l h = let below : reach days t (pos e) <ℤ pos 0 = is e l in absurd (omega (arith, ints, below, h))
-  first-on t (Some s) e is l h = elim (cases_lt e s) [
-    | inl early ↦ (let below : reach days t (pos e) <ℤ pos 0 = is.2 e early in absurd (omega (arith, ints, below, h)))
-    | inr late ↦ le-since s 0 e (omega arith)
-  ]
-
   pub on-first : (t : Term) (s e : ℕ) → From t (pos s) → s ≤ e → From t (pos e)
   on-first t s e h l = let up : reach days t (pos s) ≤ℤ reach days t (pos e) = reach-rises days rise t (pos s) (pos e) (omega (arith, ints)) in omega (arith, ints, up, h)
 
-  -- over a window that ends with session s
-  window-on : (t : Term) → IsNode t → (o : Option ℕ) → IsFirst days t o → (size s : ℕ) → 1 ≤ size → s < length days
-      → pos 0 ≤ℤ part_reach t (reach days t) size (pos s) → is_since o (size - 1) s ≡ true
-  window-on absent never o is size s some l h = absurd never
-  window-on (column c) never o is size s some l h = absurd never
-  window-on (node k n x y z m g) stands o is size s some l h =
-      let t : Term = node k n x y z m g in
-      let all = (below_least (pos 0) (pos s) (map (λ i. reach days (node k n x y z m g) (before (pos s) i)) (downward size)) h).1 in
-      let oldest : pos 0 ≤ℤ reach days (node k n x y z m g) (before (pos s) (size - 1)) = at_downward (pos 0) (λ i. reach days (node k n x y z m g) (before (pos s) i)) size all (size - 1) (omega arith) in
-      elim (cases_lt s (size - 1)) [
-        | inl short ↦ absurd (let within : reach days (node k n x y z m g) (before (pos s) (size - 1)) ≤ℤ before (pos s) (size - 1) = reaches-rise.within days (node k n x y z m g) (before (pos s) (size - 1)) in too_early s (size - 1) _ short within oldest)
-        | inr long ↦ (let back : before (pos s) (size - 1) ≡ pos (s - (size - 1)) = omega (arith, ints) in
-            later o (size - 1) s long (first-on (node k n x y z m g) o (s - (size - 1)) is (omega arith) (rw back at oldest)))
-      ]
+  -- where a term reaches no session below 0, its first session has come
+  since-on : (t : Term) (o : Option ℕ) (b s : ℕ) → IsFirst days t o → s < length days → pos 0 ≤ℤ reach days t (before (pos s) b) → is_since o b s ≡ true
+  since-on t o b s is l h = elim (cases_lt s b) [
+    | inl short ↦ absurd (omega (arith, ints, short, h, reaches-rise.within days t (before (pos s) b)))
+    | inr long ↦ (let back : before (pos s) b ≡ pos (s - b) = omega (arith, ints, long) in later o is long (rw back at h))
+  ]
     where
-      too_early : (s b : ℕ) (r : ℤ) → s < b → r ≤ℤ before (pos s) b → pos 0 ≤ℤ r → ⊥
-      too_early s b r l h g = omega (arith, ints)
+      later : (o : Option ℕ) → IsFirst days t o → b ≤ s → From t (pos (s - b)) → is_since o b s ≡ true
+      later None is long h = absurd (omega (arith, ints, is (s - b) (omega (arith, l)), h))
+      later (Some first) is long h = elim (cases_lt (s - b) first) [
+        | inl early ↦ absurd (omega (arith, ints, is.2 (s - b) early, h))
+        | inr late ↦ le-since first b s (omega (arith, late, long))
+      ]
 
-      later : (o : Option ℕ) (b s : ℕ) → b ≤ s → is_since o 0 (s - b) ≡ true → is_since o b s ≡ true
-      later None b s l h = h
-      later (Some first) b s l h = let e : first + 0 ≤ s - b = since-le first 0 (s - b) h in le-since first b s (omega arith)
-
+  -- over a window that ends with session s
   on-window : (t : Term) → IsNode t → (o : Option ℕ) → IsFirst days t o → (size s : ℕ) → 1 ≤ size
       → is_since o (size - 1) s ≡ true → pos 0 ≤ℤ part_reach t (reach days t) size (pos s)
   on-window absent never o is size s some h = absurd never
@@ -120,7 +88,7 @@ module _ (days : List ℤ) (rise : AllPairs (λ a b. a <ℤ b) days) where
 
   -- ---- a node of a graph
 
-  module _ (g : Graph) (ok : IsGraph g) where
+  module _ (g : Graph) (ok : IsGraph g) (wide : (k : ℕ) (n : Node) → slice_get g k ≡ Some n → 1 ≤ n.window) where
     is-node : (u : ℕ) → u < length g → IsNode (term_at g u)
     is-node u l = found (slice_get g u) refl
       where
@@ -128,46 +96,46 @@ module _ (days : List ℤ) (rise : AllPairs (λ a b. a <ℤ b) days) where
         found None e = absurd (past g u l e)
         found (Some m) e = rw (term_at-node g u m ok e) tt
 
-    module _ (since : List (Option ℕ)) (k : ℕ) (n : Node) (at : slice_get g k ≡ Some n) (wide : 1 ≤ n.window)
-        (firsts : (u : ℕ) → u < k → contains (mentions n) u ≡ true → IsFirst days (term_at g u) (get_or since u None)) where
+    module _ (since : List (Option ℕ)) (k : ℕ) (n : Node) (at : slice_get g k ≡ Some n) (d : ℕ)
+        (firsts : (u : ℕ) (r : ℤ) → Reads days n (pos d) u r → IsFirst days (term_at g u) (get_or since u None)) where
       low : MentionsBelow n k
       low = ok.lower k n at
 
       inside : (u : ℕ) → u < k → u < length g
       inside u l = let there : k < length g = slice_get_within g k n at in omega arith
 
-      place-on : (i s : ℕ) (o : Option Input) → slice_get n.inputs i ≡ o → s < length days → pos 0 ≤ℤ part_reach (input_tree (trees g) o) (reach days (input_tree (trees g) o)) n.window (pos s)
-          → (x : Input) → o ≡ Some x → is_input_ready since n.window s x ≡ true
-      place-on i s None e l h x f = cc
-      place-on i s (Some (BarColumn c)) e l h x f =
-          let is : BarColumn c ≡ x = cc in
-          rw (sym is) (le-leb n.window s (omega (arith, ints, h)))
-      place-on i s (Some (TermInput u)) e l h x f =
-          let is : TermInput u ≡ x = cc in
-          let lower : u < k = low.inputs i u e in
-          rw (sym is) (window-on (term_at g u) (is-node u (inside u lower)) (get_or since u None) (firsts u lower (mention-input n i u e)) n.window s wide l h)
+      -- what the term itself reaches, what it reads reaches
+      module _ (h : From (term_at g k) (pos d)) where
+        own : Needs days g (k ∷ []) (pos d) k (pos d)
+        own = Needs.output (alone-in k)
+
+        covers : ReachCovers days g (k ∷ []) (pos d)
+        covers = reach-covers days g ok wide (k ∷ []) (pos d)
+
+        term-from : (u : ℕ) (r : ℤ) → Reads days n (pos d) u r → From (term_at g u) r
+        term-from u r reads = omega (arith, ints, h, reach-alone days g k (pos d), covers.terms u r (Needs.read k n (pos d) own at reads))
+
+        bar-from : (i : ℕ) (c : Column) → slice_get n.inputs i ≡ Some (BarColumn c) → pos 0 ≤ℤ before (reads_at days n.kind (pos d)) n.window
+        bar-from i c e = omega (arith, ints, h, reach-alone days g k (pos d), covers.bars k n (pos d) own at (i, c, e))
+
+        number-on : d < length days → (o : Option ℕ) → ((u : ℕ) → o ≡ Some u → Reads days n (pos d) u (pos d)) → is_number_ready since d o ≡ true
+        number-on l None reads = refl
+        number-on l (Some u) reads =
+            since-on (term_at g u) (get_or since u None) 0 d (firsts u (pos d) (reads u refl)) l (rw (before-zero (pos d)) (term-from u (pos d) (reads u refl)))
 
       on-place : (i s : ℕ) (o : Option Input) → slice_get n.inputs i ≡ o → ((x : Input) → o ≡ Some x → is_input_ready since n.window s x ≡ true)
           → pos 0 ≤ℤ part_reach (input_tree (trees g) o) (reach days (input_tree (trees g) o)) n.window (pos s)
       on-place i s None e h = omega (arith, ints)
       on-place i s (Some (BarColumn c)) e h = let l : n.window ≤ s = leb-true n.window s (h (BarColumn c) refl) in omega (arith, ints, l)
       on-place i s (Some (TermInput u)) e h =
-          let lower : u < k = low.inputs i u e in
-          on-window (term_at g u) (is-node u (inside u lower)) (get_or since u None) (firsts u lower (mention-input n i u e)) n.window s wide (h (TermInput u) refl)
+          on-window (term_at g u) (is-node u (inside u (low.inputs i u e))) (get_or since u None) (firsts u _ (Reads.input i e)) n.window s (wide k n at) (h (TermInput u) refl)
 
-      number-on : (s : ℕ) (o : Option ℕ) → ((u : ℕ) → o ≡ Some u → (u < k) × (contains (mentions n) u ≡ true)) → s < length days
-          → pos 0 ≤ℤ part_reach (number_tree (trees g) o) (reach days (number_tree (trees g) o)) 1 (pos s) → is_number_ready since s o ≡ true
-      number-on s None own l h = refl
-      number-on s (Some u) own l h =
-          window-on (term_at g u) (is-node u (inside u (own u refl).0)) (get_or since u None) (firsts u (own u refl).0 (own u refl).1) 1 s (omega arith) l h
+      on-number : (o : Option ℕ) → ((u : ℕ) → o ≡ Some u → (u < k) × Reads days n (pos d) u (pos d)) → is_number_ready since d o ≡ true
+          → pos 0 ≤ℤ part_reach (number_tree (trees g) o) (reach days (number_tree (trees g) o)) 1 (pos d)
+      on-number None own h = omega (arith, ints)
+      on-number (Some u) own h = on-window (term_at g u) (is-node u (inside u (own u refl).0)) (get_or since u None) (firsts u (pos d) (own u refl).1) 1 d (omega arith) h
 
-      on-number : (s : ℕ) (o : Option ℕ) → ((u : ℕ) → o ≡ Some u → (u < k) × (contains (mentions n) u ≡ true)) → is_number_ready since s o ≡ true
-          → pos 0 ≤ℤ part_reach (number_tree (trees g) o) (reach days (number_tree (trees g) o)) 1 (pos s)
-      on-number s None own h = omega (arith, ints)
-      on-number s (Some u) own h =
-          on-window (term_at g u) (is-node u (inside u (own u refl).0)) (get_or since u None) (firsts u (own u refl).0 (own u refl).1) 1 s (omega arith) h
-
-      module _ (start d : ℕ) (in_days : d < length days) (reads : pos (read_up_to start d n.kind) ≡ reads_at days n.kind (pos d)) where
+      module _ (start : ℕ) (in_days : d < length days) (reads : pos (read_up_to start d n.kind) ≡ reads_at days n.kind (pos d)) where
         abbrev last : ℕ
         last = read_up_to start d n.kind
 
@@ -186,24 +154,16 @@ module _ (days : List ℤ) (rise : AllPairs (λ a b. a <ℤ b) days) where
         last-in : last < length days
         last-in = let w : reads_at days n.kind (pos d) ≤ℤ pos d = reads_at-within days n.kind (pos d) in omega (arith, ints, w, reads)
 
-        mask-own : (u : ℕ) → n.mask ≡ Some u → (u < k) × (contains (mentions n) u ≡ true)
-        mask-own u e = (low.mask u e, mention-mask n u e)
-
-        group-own : (u : ℕ) → n.group ≡ Some u → (u < k) × (contains (mentions n) u ≡ true)
-        group-own u e = (low.group u e, mention-group n u e)
-
         pub node-on : pos 0 ≤ℤ reach days (term_at g k) (pos d) → is_node_ready since start d n ≡ true
         node-on h =
-            let all : AllFrom (pos 0) (parts (pos last)) = (below_least (pos 0) (pos d) (parts (pos last)) (rw reach-is at h)).1 in
-            let few : length n.inputs ≤ 3 = ok.few k n at in
-            let inputs : list_all (is_input_ready since n.window last) n.inputs ≡ true = at-all (is_input_ready since n.window last) n.inputs (each few all) in
-            rw (inputs, number-on d n.mask mask-own in_days all.1.1.1.0, number-on d n.group group-own in_days all.1.1.1.1.0) refl
+            let inputs : list_all (is_input_ready since n.window last) n.inputs ≡ true = at-all (is_input_ready since n.window last) n.inputs input-on in
+            rw (inputs, number-on h in_days n.mask (λ u e. Reads.mask e), number-on h in_days n.group (λ u e. Reads.group e)) refl
           where
-            each : length n.inputs ≤ 3 → AllFrom (pos 0) (parts (pos last)) → (i : ℕ) (x : Input) → slice_get n.inputs i ≡ Some x → is_input_ready since n.window last x ≡ true
-            each few all zero x e = place-on 0 last (slice_get n.inputs 0) refl last-in all.0 x e
-            each few all (suc zero) x e = place-on 1 last (slice_get n.inputs 1) refl last-in all.1.0 x e
-            each few all (suc (suc zero)) x e = place-on 2 last (slice_get n.inputs 2) refl last-in all.1.1.0 x e
-            each few all (suc (suc (suc i))) x e = let in_list = slice_get_within n.inputs (suc (suc (suc i))) x e in absurd (omega arith)
+            input-on : (i : ℕ) (x : Input) → slice_get n.inputs i ≡ Some x → is_input_ready since n.window last x ≡ true
+            input-on i (BarColumn c) e = le-leb n.window last (omega (arith, ints, reads, bar-from h i c e))
+            input-on i (TermInput u) e =
+                since-on (term_at g u) (get_or since u None) (n.window - 1) last (firsts u _ (Reads.input i e)) last-in
+                (rw reads (term-from h u _ (Reads.input i e)))
 
         pub on-node : is_node_ready since start d n ≡ true → pos 0 ≤ℤ reach days (term_at g k) (pos d)
         on-node h =
@@ -211,7 +171,7 @@ module _ (days : List ℤ) (rise : AllPairs (λ a b. a <ℤ b) days) where
             let two = and_parts (list_all (is_input_ready since n.window last) n.inputs) (is_number_ready since d n.mask) three.0 in
             rw reach-is (least_above (pos 0) (pos d) (parts (pos last)) (omega (arith, ints)) (
               place two.0 0,
-              (place two.0 1, (place two.0 2, (on-number d n.mask mask-own two.1, (on-number d n.group group-own three.1, tt)))),
+              (place two.0 1, (place two.0 2, (on-number n.mask (λ u e. (low.mask u e, Reads.mask e)) two.1, (on-number n.group (λ u e. (low.group u e, Reads.group e)) three.1, tt)))),
             ))
           where
             place : list_all (is_input_ready since n.window last) n.inputs ≡ true → (i : ℕ)

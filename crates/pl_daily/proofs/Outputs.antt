@@ -1,13 +1,14 @@
 -- Outputs are used.
-use Rattle.std.proofs.Common.{◌≡◌, ℕ, ◌<◌, true, false, List, [], ◌∷◌, length, map, Some, option_map, option_to_list, slice_get, refl, sym, ◌∙◌, ap, arith}
+use Rattle.std.proofs.Common.{◌≡◌, ℕ, ◌<◌, true, length, map, Some, option_map, option_to_list, slice_get, refl, sym, ◌∙◌, ap, arith}
 use Rattle.std.proofs.lemmas.List.{length-map}
 use Rattle.std.proofs.lemmas.Option.{slice_get_within}
 use Rattle.circular_buffer.proofs.Places.{slice_get-append_left, slice_get-append_right}
+use Rattle.pl_planner.proofs.Pipelines.{downsampled-input}
 use Rattle.pl_spec.specs.declared.Frequency.{Frequency}
 use Rattle.pl_pipeline.specs.Kind.Kind.{Downsample}
 use Rattle.pl_pipeline.specs.Table.{Pipeline, NamedColumn}
-use Rattle.pl_pipeline.specs.Term.{Graph, Input, Node}
-use Rattle.pl_pipeline.specs.Term.Input.{BarColumn, TermInput}
+use Rattle.pl_pipeline.specs.Term.{Node}
+use Rattle.pl_pipeline.specs.Term.Input.{TermInput}
 use Rattle.pl_terms.specs.Checked.{IsChecked, Parts, columns_of, pipeline_of}
 use Rattle.pl_terms.specs.declared.checked.NamedColumn as code
 use Rattle.pl_terms.specs.declared.node.TermId.{TermId}
@@ -32,11 +33,6 @@ column-term-used ps ok i t e =
     output-used (pipeline_of ps) ok i t.0 (slice_get-append_left (map term_of cs) (option_to_list (pipeline_of ps).screen) i inside ∙ at)
 
 -- a downsampled term has a term as its first input
-first-term : (g : Graph) (f : Frequency) (is : List Input) → all_fit g (places (Downsample f)) is ≡ true → (u : ℕ) × (slice_get is 0 ≡ Some (TermInput u))
-unfolding places
-first-term g f [] e = absurd (let bad : false ≡ true = e in cc)
-first-term g f (BarColumn c ∷ is) e = absurd (let bad : false ≡ true = e in cc)
-first-term g f (TermInput u ∷ is) e = (u, refl)
-
 pub downsample-input : (p : Pipeline) → IsChecked p → (k : ℕ) (n : Node) (f : Frequency) → slice_get p.graph k ≡ Some n → n.kind ≡ Downsample f → (u : ℕ) × (slice_get n.inputs 0 ≡ Some (TermInput u))
-downsample-input p ok k n f at kind = first-term p.graph f n.inputs (ap (λ q. all_fit p.graph (places q) n.inputs) (sym kind) ∙ (ok.nodes k n at).inputs)
+unfolding places
+downsample-input p ok k n f at kind = downsampled-input p.graph n.inputs (ap (λ q. all_fit p.graph (places q) n.inputs) (sym kind) ∙ (ok.nodes k n at).inputs)

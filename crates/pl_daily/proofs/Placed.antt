@@ -23,9 +23,6 @@ use Rattle.pl_terms.specs.Checked.{IsChecked}
 use Rattle.pl_terms.specs.Nodes.{node_of}
 use Rattle.pl_terms.specs.Uses.{is_used, outputs}
 use Rattle.pl_terms.specs.Sorts.{is_windowed}
-use Rattle.pl_planner.specs.Extra.{asks_of}
-use Rattle.pl_planner.proofs.Gathers.{mention_of_ask}
-use Rattle.pl_planner.proofs.Lows.{Asked, asked-of}
 use Rattle.pl_planner.proofs.Pipelines.{is-pipeline}
 use Rattle.pl_values.specs.Arrays.{cell_of, Fills}
 use Rattle.pl_rings.specs.Days.{Start, FedDay, fed, IsStart, AreFed}
@@ -42,31 +39,16 @@ use Rattle.pl_daily.specs.Terms
 use Rattle.pl_daily.specs.Terms.{start_at, start_of, AreTerms, Downsamples, IsAt, IsRowOf, IsStartOf, IsStartRoom, IsTermRow, TermsHold}
 use Rattle.circular_buffer.proofs.Places.{slice_get-some}
 use Rattle.pl_daily.proofs.Begins.{days_are}
+use Rattle.pl_daily.proofs.Firsts.{read_used}
 use Rattle.pl_daily.proofs.KeptPlaces.{sid_is}
 
 cell_is : (w : World) (p : Pipeline) (sids : List ℕ) (u i s : ℕ) → cell_of w p sids u i s ≡ cell_on w p sids u i (pos s)
 unfolding cell_of
 cell_is w p sids u i s = refl
 
--- what a used term mentions is used, and lower
-module _ (p : Pipeline) (checked : IsChecked p) (k : ℕ) (n : Node) (used : is_used p k ≡ true) (node : slice_get p.graph k ≡ Some n) where
-  pub read_used : (u : ℕ) (r : ℤ) → Reads [] n (pos 0) u r → (u < k) × (u < length p.graph) × (is_used p u ≡ true)
-  read_used u r reads =
-      let here : pos 0 ≡ pos 0 -ℤ pos 0 = omega (arith, ints) in
-      let ask : Asked [] 0 n 0 u r = asked-of [] 0 n 0 u r (subst (λ d. Reads [] n d u r) here reads) in
-      let mention : contains (mentions_at p.graph k) u ≡ true =
-      mention_of_ask [] 0 p.graph k 0 ask.found.0 (u, ask.back) (ap (λ o. slice_get (asks_of [] 0 o 0) ask.found.0) node ∙ ask.found.1) in
-      let below : u < k = lower p.graph (outputs p) checked.graph k u mention in
-      let inside : k < length p.graph = slice_get_within p.graph k n node in
-      let known : u < length p.graph = omega (arith, below, inside) in (
-        below,
-        known,
-        used_terms-complete p.graph (outputs p) checked.graph u known (Used.mentioned k (used_terms-sound p.graph (outputs p) checked.graph k used) mention),
-      )
-
--- so is the input of a downsampled term
+-- the input of a downsampled term is used, and lower
 pub input_used : (p : Pipeline) (k : ℕ) (f : Frequency) (u : ℕ) → IsChecked p → Downsamples p k f u → (u < k) × (u < length p.graph) × (is_used p u ≡ true)
-input_used p k f u checked down = read_used p checked k down.node down.used down.at u _ (Reads.input 0 down.input)
+input_used p k f u checked down = read_used [] (pos 0) p checked k down.node down.used down.at u _ (Reads.input 0 down.input)
 
 module _ (t : TermDay) (next : FedDay) (days : List FedDay) (s : StartCells)
     (start : IsStart (start_of t.assets.now t.labels.now (rows_lent t.numbers))) (are_fed : AreFed (start_of t.assets.now t.labels.now (rows_lent t.numbers)) (next ∷ days)) (day : next.day ≡ t.day)
@@ -92,7 +74,7 @@ module _ (t : TermDay) (next : FedDay) (days : List FedDay) (s : StartCells)
   v = record { world = fed (start_of t.assets.now t.labels.now (rows_lent t.numbers)) (next ∷ days); session = length days }
 
   is_read : (u : ℕ) (r : ℤ) → Reads [] n (pos 0) u r → (u < t.term.0) × (u < length t.terms.now) × (is_used p u ≡ true)
-  is_read u r reads = let x = read_used p checked t.term.0 n used node u r reads in (x.0, omega (arith, x.1, are.many), x.2)
+  is_read u r reads = let x = read_used [] (pos 0) p checked t.term.0 n used node u r reads in (x.0, omega (arith, x.1, are.many), x.2)
 
   row_held : (u : ℕ) → (u < t.term.0) × (u < length t.terms.now) × (is_used p u ≡ true) → HoldsRow t v u
   row_held u h =

@@ -1,8 +1,7 @@
 //! How many sessions the windows of a pipeline read of a bar column and of a term.
 ghost use Rattle.std.specs.Prelude.{◌≡◌, ◌≤◌, filter_map, map};
 ghost use Rattle.pl_spec.specs.Limits.{most_window};
-ghost use Rattle.pl_spec.specs.World.{column_number};
-ghost use Rattle.pl_pipeline.specs.Graph.{contains, input_column, input_number};
+ghost use Rattle.pl_pipeline.specs.Graph.{contains, input_number};
 ghost use Rattle.pl_terms.specs.Checked.{pipeline_of};
 ghost use Rattle.pl_terms.specs.Kinds.{kind_of};
 ghost use Rattle.pl_terms.specs.Nodes.{input_of, node_of};
@@ -11,21 +10,10 @@ ghost use Rattle.pl_terms.specs.Uses as uses;
 ghost use Rattle.pl_daily.specs.Capacities as spec;
 ghost use Rattle.pl_daily.specs.Inside.{IsNumber, used_window};
 
-use pl_planner::{count, node_at};
+use pl_planner::{count, has_column, node_at};
 use pl_spec::Column;
 use pl_terms::{Checked, Input, Node, TermId, TermKind};
 use pl_values::{Family, family_of};
-
-// Is one of the inputs the bar column?
-fn has_column(inputs: &[Input], column: Column) -> bool
-    ensures { result ≡ contains (filter_map input_column (map input_of inputs.now)) (column_number column) }
-{
-    match inputs {
-        [] => false,
-        [Input::Column(own), rest @ ..] => *own == column || has_column(rest, column),
-        [Input::Term(_), rest @ ..] => has_column(rest, column),
-    }
-}
 
 // Is one of the inputs the term?
 fn has_term(inputs: &[Input], t: TermId) -> bool

@@ -130,9 +130,9 @@ module _ (j : ChunkInputs) (w : Slots) (k : ℕ) (n : spec.Node) (run : IsColumn
           pub filled_back : (w4 : Slots) → w4 ≡ with_slot w3 s Free → IsFilled (task_of j) k (new_from n p) w w4 own before after f
           filled_back w4 released = record {
             array = filled.array;
-            slots = trip_slots w w1 w2 w3 w4 s (new_from n (p + 1)) cells slot_free slot_in begun filled.slots filled.peak finished released;
+            slots = trip_slots w w1 w2 w3 s (new_from n (p + 1)) cells slot_free slot_in begun filled.slots filled.peak finished w4 released;
             len = ap (λ (x : Slots). x.len) released ∙ ap (λ (x : Slots). x.len) finished ∙ filled.len ∙ ap (λ (x : Slots). x.len) begun;
-            peak = (let t = trip_peak w w1 w2 w3 w4 s (new_from n (p + 1)) cells slot_free slot_in begun filled.slots filled.peak finished released in let o = from_one n p place one in omega (arith, t, o));
+            peak = (let t = trip_peak w w1 w2 w3 s (new_from n (p + 1)) cells slot_free slot_in begun filled.slots filled.peak finished w4 released in let o = from_one n p place one in omega (arith, t, o));
             held = (let l = live_next in let o = from_one n p place one in let h = filled.held in omega (arith, l, o, h));
             cost = filled.cost;
             applied = filled.applied;

@@ -2,20 +2,13 @@
 use Rattle.std.proofs.Common.{◌≡◌, ℕ, suc, ◌+◌, ◌<◌, Bool, true, false, ◌&&◌, if◌then◌else◌, max, nat_le, List, [], ◌∷◌, length, map, fold, filter, sum_by, Some, slice_get, refl, sym, ◌∙◌, ap, arith}
 use Rattle.std.specs.List.{range_with_len, count_by}
 use Rattle.std.proofs.lemmas.List.Sums.{sum_by-append, sum_by-cons}
-use Rattle.pl_pipeline.specs.Term.{Graph, IsGraph}
-use Rattle.pl_pipeline.specs.Graph.{contains, Used, used_terms, is_live, live_terms, columns_at, bound}
-use Rattle.pl_laws.proofs.Uses.{lower}
-use Rattle.pl_pipeline.proofs.Contained.{place-of}
+use Rattle.pl_pipeline.specs.Term.{Graph}
+use Rattle.pl_pipeline.specs.Graph.{contains, used_terms, is_live, live_terms, columns_at, bound}
 use Rattle.pl_planner.proofs.Live.{turned, bound_held, contains-filter, filtered}
 use Rattle.pl_exec.proofs.Counts.{range_suc}
 
-module _ (g : Graph) (outputs : List ℕ) where
-  pub used_listed : (q : ℕ → Bool) → ((t : ℕ) → q t ≡ contains (used_terms g outputs) t) → used_terms g outputs ≡ filter q (range_with_len 0 (length g))
-  used_listed q h = filtered g q (length g) outputs (λ t l. h t)
-
-  pub used_within : (ok : IsGraph g) → ((i o : ℕ) → slice_get outputs i ≡ Some o → o < length g) → (t : ℕ) → Used g outputs t → t < length g
-  used_within ok outs t (Used.output e) = let at = place-of outputs t e in outs at.0 t at.1
-  used_within ok outs t (Used.mentioned u v e) = let a = used_within ok outs u v in let b : t < u = lower g outputs ok u t e in omega arith
+pub used_listed : (g : Graph) (outputs : List ℕ) (q : ℕ → Bool) → ((t : ℕ) → q t ≡ contains (used_terms g outputs) t) → used_terms g outputs ≡ filter q (range_with_len 0 (length g))
+used_listed g outputs q h = filtered g q (length g) outputs (λ t l. h t)
 
 -- ---- what is held at once
 

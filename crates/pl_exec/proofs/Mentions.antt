@@ -21,7 +21,7 @@ use Rattle.pl_terms.specs.Sorts.{Place, has_window, places}
 use Rattle.pl_terms.specs.Uses.{outputs}
 use Rattle.pl_planner.specs.Plans.{IsAsked, IsLive, AreLastUsers, is_read_by, is_used, last_user, low_at, slot_of, column_slot}
 use Rattle.pl_planner.specs.Laws.{IsCovered}
-use Rattle.pl_planner.proofs.Pipelines.{IsPipeline, is-pipeline}
+use Rattle.pl_planner.proofs.Pipelines.{IsPipeline, is-pipeline, used-inside}
 use Rattle.pl_planner.proofs.Covers.{reads-covered}
 use Rattle.pl_values.proofs.Typed.{has-input}
 use Rattle.pl_values.proofs.Formulas.{first-place}
@@ -29,7 +29,6 @@ use Rattle.pl_workspace.specs.Slots.{Slots, Free, Begun, slot_at, with_slot}
 use Rattle.pl_exec.specs.Slotted.{AreApart, AreLive, ends_at}
 use Rattle.pl_exec.specs.Tasks.{Task, IsArray, graph_in, kept_in, low_in}
 use Rattle.pl_exec.specs.ChunkInputs.{AreFree, IsRead, IsReady, IsRun, IsTask}
-use Rattle.pl_exec.proofs.Listed.{used_within}
 use Rattle.pl_exec.proofs.Trips.{still_free, still_held, long}
 
 -- ---- kinds over windows have an input
@@ -61,7 +60,7 @@ module _ (t : Task) (is : IsTask t) where
   is_used' k e = used_terms-sound g outs pipe.graph k (sym (is.plan.used k) ∙ e)
 
   pub used_known : (k : ℕ) → is_used t.plan k ≡ true → k < length g
-  used_known k e = used_within g outs pipe.graph pipe.outputs_in k (is_used' k e)
+  used_known k e = used-inside g outs pipe k (is_used' k e)
 
   -- a kept term is live, and the other way round
   pub live_kept : (k u : ℕ) → k < length g → IsLive t.pipeline k u → (u ≤ k) × (kept_in t k u ≡ true)
@@ -229,9 +228,9 @@ module _ (t : Task) (is : IsTask t) where
       here false e true f None q = absurd (true≢false (sym (subst (AreLastUsers g outs u) q (is.plan.last u f)) ∙ e))
       here false e true f (Some l) q =
           let a = subst (AreLastUsers g outs u) q (is.plan.last u f) in
-          let b = used_within g outs pipe.graph pipe.outputs_in l a.1.used in
+          let b = used-inside g outs pipe l a.1.used in
           let r : nat_le (length g) l ≡ false = grind (arith, nat_tests) in
           rw (f, q, r, e) refl
 
   pub output_known : (u : ℕ) → contains outs u ≡ true → u < length g
-  output_known u e = used_within g outs pipe.graph pipe.outputs_in u (Used.output e)
+  output_known u e = pipe.outputs_in u e

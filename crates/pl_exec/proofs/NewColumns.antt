@@ -1,31 +1,21 @@
 -- The distinct bar columns of a node, place by place.
 use Rattle.std.proofs.Common.{◌≡◌, ◌≢◌, ℕ, zero, suc, ◌+◌, ◌≤◌, Bool, true, false, ◌||◌, if◌then◌else◌, List, [], ◌∷◌, ◌++◌, length, take, get_or, filter_map, sum_by, Option, Some, None, slice_get, refl, sym, ◌∙◌, ap, arith, inl, inr, ◌==◌}
-use Rattle.std.proofs.lemmas.Bool.{true≢false, or_cases, or_left, or_right, eq-eqb, eqb-true}
+use Rattle.std.proofs.lemmas.Bool.{true≢false, eq-eqb, eqb-true}
 use Rattle.std.proofs.lemmas.List.{take_more, take_all, append-nil}
 use Rattle.std.proofs.lemmas.List.Elements.{filter_map-append}
-use Rattle.std.proofs.lemmas.List.Folds.{list_any-append}
-use Rattle.std.proofs.lemmas.Option.{slice_get_within}
-use Rattle.std.proofs.Math.Bool.{or-false}
+use Rattle.std.proofs.lemmas.Option.{get_or_from_slice_get, slice_get_within}
 use Rattle.pl_spec.specs.declared.Column.{Column}
 use Rattle.pl_spec.specs.declared.Column.TheVariants.{OpenPrice, High, Low, Close, Volume}
 use Rattle.pl_spec.specs.World.{column_number}
 use Rattle.pl_pipeline.specs.Graph.{contains, columns_at, input_column}
 use Rattle.pl_pipeline.specs.Term as spec
 use Rattle.pl_pipeline.specs.Term.Input.{BarColumn, TermInput}
+use Rattle.pl_pipeline.proofs.Contained.{alone-in, in-back, not-in-alone, not-in-back}
+use Rattle.pl_planner.proofs.Counting.{columns-few}
 use Rattle.pl_exec.specs.Tasks.{columns_of}
 use Rattle.pl_exec.specs.ChunkInputs.{columns_before, new_column, one_new, place_among, unless}
 use Rattle.pl_exec.proofs.Listed.{sum_filter}
 use Rattle.pl_exec.proofs.Places.{IsFirst, first_place, new_first}
-
-in_front : (ns : List ℕ) (k j : ℕ) → j ≢ k → contains (ns ++ k ∷ []) j ≡ contains ns j
-in_front ns k j ne = list_any-append (λ x. x == j) ns (k ∷ []) ∙ ap (λ b. contains ns j || b) (here (contains (k ∷ []) j) refl) ∙ or-false (contains ns j)
-  where
-    here : (b : Bool) → contains (k ∷ []) j ≡ b → contains (k ∷ []) j ≡ false
-    here true e = elim (or_cases (k == j) false e) [ inl p ↦ absurd (ne (sym (eqb-true k j p))) | inr p ↦ absurd (true≢false (sym p)) ]
-    here false e = e
-
-in_back : (ns : List ℕ) (k : ℕ) → contains (ns ++ k ∷ []) k ≡ true
-in_back ns k = list_any-append (λ x. x == k) ns (k ∷ []) ∙ or_right (contains ns k) (contains (k ∷ []) k) (or_left (k == k) false (eq-eqb k k refl))
 
 -- what one number more adds to a sum over those that are listed
 one_grown : (ns : List ℕ) (k j x : ℕ) → (if contains (ns ++ k ∷ []) j then x else 0) ≡ (if contains ns j then x else 0) + (if k == j then (if contains ns k then 0 else x) else 0)
@@ -38,10 +28,10 @@ one_grown ns k j x = here (k == j) refl
     here : (b : Bool) → (k == j) ≡ b → (if contains (ns ++ k ∷ []) j then x else 0) ≡ (if contains ns j then x else 0) + (if b then (if contains ns k then 0 else x) else 0)
     here true e =
         let same : k ≡ j = eqb-true k j e in
-        let own : contains (ns ++ k ∷ []) j ≡ true = ap (contains (ns ++ k ∷ [])) (sym same) ∙ in_back ns k in
+        let own : contains (ns ++ k ∷ []) j ≡ true = ap (contains (ns ++ k ∷ [])) (sym same) ∙ in-back ns (k ∷ []) k (alone-in k) in
         rw own (listed (contains ns k) ∙ ap (λ n. (if contains ns n then x else 0) + (if contains ns k then 0 else x)) same)
     here false e =
-        let other : contains (ns ++ k ∷ []) j ≡ contains ns j = in_front ns k j (λ p. true≢false (sym (eq-eqb k j (sym p)) ∙ e)) in
+        let other : contains (ns ++ k ∷ []) j ≡ contains ns j = not-in-back ns (k ∷ []) j (not-in-alone k j (λ p. true≢false (sym (eq-eqb k j (sym p)) ∙ e))) in
         rw other (let z : (if contains ns j then x else 0) ≡ (if contains ns j then x else 0) + 0 = omega arith in z)
 
 -- a sum over the columns whose numbers are listed
@@ -78,13 +68,8 @@ module _ (n : spec.Node) (f : Column → ℕ) where
       grown : (x : spec.Input) → slice_get n.inputs p ≡ Some x → columns_before n (p + 1) ≡ columns_before n p ++ filter_map input_column (x ∷ [])
       grown x e =
           let w = slice_get_within n.inputs p x e in
-          let g : get_or n.inputs p x ≡ x = at n.inputs p x e in
+          let g : get_or n.inputs p x ≡ x = get_or_from_slice_get n.inputs p x x e in
           ap (filter_map input_column) (take_more n.inputs p x w ∙ ap (λ y. take p n.inputs ++ y ∷ []) g) ∙ filter_map-append input_column (take p n.inputs) (x ∷ [])
-        where
-          at : (xs : List spec.Input) (i : ℕ) (x : spec.Input) → slice_get xs i ≡ Some x → get_or xs i x ≡ x
-          at [] i x e = refl
-          at (y ∷ ys) zero x e = cc
-          at (y ∷ ys) (suc i) x e = at ys i x e
 
       here : (o : Option spec.Input) → slice_get n.inputs p ≡ o → total_of f (columns_before n (p + 1)) ≡ total_of f (columns_before n p) + part f (new_column n p)
       here None e = let s : take (p + 1) n.inputs ≡ take p n.inputs = past n.inputs p e in rw (s, e) (omega arith)
@@ -119,10 +104,6 @@ one_part : (o : Option Column) → part (λ c. 1) o ≡ one_new o
 one_part None = refl
 one_part (Some c) = refl
 
-one_few : (o : Option Column) → one_new o ≤ 1
-one_few None = omega arith
-one_few (Some c) = omega arith
-
 module _ (g : spec.Graph) (k : ℕ) (n : spec.Node) (node : slice_get g k ≡ Some n) (few : length n.inputs ≤ 3) where
   pub columns_count : columns_at g k ≡ one_new (new_column n 0) + one_new (new_column n 1) + one_new (new_column n 2)
   columns_count =
@@ -132,7 +113,7 @@ module _ (g : spec.Graph) (k : ℕ) (n : spec.Node) (node : slice_get g k ≡ So
       t ∙ omega (arith, s, a, b, c)
 
   pub columns_few : columns_at g k ≤ 3
-  columns_few = let c = columns_count in let a = one_few (new_column n 0) in let b = one_few (new_column n 1) in let d = one_few (new_column n 2) in omega arith
+  columns_few = rw node (omega (arith, columns-few n, few))
 
   -- a node without columns has no input that is one
   pub no_bars : columns_at g k ≡ 0 → (p : ℕ) (c : Column) → slice_get n.inputs p ≡ Some (BarColumn c) → ⊥

@@ -1,5 +1,7 @@
 -- What nodes, places and masks are by the code.
 use Rattle.std.proofs.Common.{◌≡◌, ℕ, zero, suc, ◌+◌, ◌<◌, Bool, true, false, ◌&&◌, ◌||◌, filter_map, take, ℤ, pos, List, [], ◌∷◌, length, map, get_or, Some, None, option_map, unwrap_or, slice_get, refl, sym, ◌∙◌, ap, arith, subst, if◌then◌else◌}
+use Rattle.std.specs.List.{take-map}
+use Rattle.std.proofs.Math.Bool.{and-true, and-false}
 use Rattle.pl_spec.specs.declared.AssetRow.{AssetRow}
 use Rattle.pl_spec.specs.Parts.{sid_at}
 use Rattle.pl_spec.specs.Cells.{is_true}
@@ -27,16 +29,8 @@ sid_told assets cols i h sid e = sid_of_place assets cols i h ∙ ap (λ o. unwr
 
 -- who is kept and passes a mask
 pub both_told : (m : Bool) (k : ℤ) → is_true (chosen m k (pos 0)) ≡ (is_true k && m)
-both_told true k = here (is_true k)
-  where
-    here : (b : Bool) → b ≡ (b && true)
-    here true = refl
-    here false = refl
-both_told false k = here (is_true k)
-  where
-    here : (b : Bool) → false ≡ (b && false)
-    here true = refl
-    here false = refl
+both_told true k = sym (and-true (is_true k))
+both_told false k = sym (and-false (is_true k))
 
 -- ---- bar columns among inputs
 
@@ -44,14 +38,8 @@ pub one_column : (i : spec.Input) (is : List spec.Input) (c : Column) → contai
 one_column (spec.BarColumn d) is c = refl
 one_column (spec.TermInput u) is c = refl
 
-map-take : {A B : Type 0} (f : A → B) (p : ℕ) (xs : List A) → map f (take p xs) ≡ take p (map f xs)
-map-take f zero [] = refl
-map-take f (suc p) [] = refl
-map-take f zero (x ∷ xs) = refl
-map-take f (suc p) (x ∷ xs) = ap (λ l. f x ∷ l) (map-take f p xs)
-
 pub before_cut : (is : List Input) (p : ℕ) (c : Column) → contains (filter_map input_column (map input_of (take p is))) (column_number c) ≡ contains (filter_map input_column (take p (map input_of is))) (column_number c)
-before_cut is p c = ap (λ l. contains (filter_map input_column l) (column_number c)) (map-take input_of p is)
+before_cut is p c = ap (λ l. contains (filter_map input_column l) (column_number c)) (sym (take-map input_of p is))
 
 -- a bar column stands first in its first place
 pub record IsFirst (is : List spec.Input) (c : Column) (q : ℕ) : Type 0 where

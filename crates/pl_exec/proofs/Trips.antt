@@ -35,41 +35,6 @@ still_held w v s k h free e = record {
 }
 
 -- while the slot was begun, others came and went: more were in use by so many at the most
-module _ (w w1 w2 w3 w4 : Slots) (k more : ℕ) (cells : List ℤ) (free : slot_at w k ≡ Free) (within : k < length w.slots)
-    (begun : w1 ≡ with_slot w k Begun) (same : w2.slots ≡ w1.slots) (peak : w2.peak ≡ max w1.peak (live_count w1.slots + more))
-    (finished : w3 ≡ with_slot w2 k (Live cells)) (released : w4 ≡ with_slot w3 k Free) where
-  pub begun_count : live_count w1.slots ≡ live_count w.slots + 1
-  begun_count = let u = now_used w w1 k Begun Free begun free within in omega arith
-
-  in_w2 : k < length w2.slots
-  in_w2 = let a : length w2.slots ≡ length w1.slots = ap (λ l. length l) same in let b = long w w1 k Begun begun in omega arith
-
-  at2 : slot_at w2 k ≡ Begun
-  at2 = ap (λ l. get_or l k Begun) same ∙ there w w1 k Begun begun within
-
-  pub trip_slots : w4.slots ≡ w.slots
-  trip_slots =
-      ap (λ (t : Slots). t.slots) released
-      ∙ ap (λ (t : Slots). set t.slots k Free) finished
-      ∙ set-set w2.slots k (Live cells) Free
-      ∙ ap (λ l. set l k Free) same
-      ∙ ap (λ (t : Slots). set t.slots k Free) begun
-      ∙ set-set w.slots k Begun Free
-      ∙ ap (λ s. set w.slots k s) (sym free)
-      ∙ set-get_or w.slots k Begun
-
-  pub trip_peak : w4.peak ≡ max w.peak (live_count w.slots + 1 + more)
-  trip_peak =
-      let c1 = begun_count in
-      let p1 = now_peak w w1 k Begun Free begun free within in
-      let u3 = now_used w2 w3 k (Live cells) Begun finished at2 in_w2 in
-      let p3 = now_peak w2 w3 k (Live cells) Begun finished at2 in_w2 in
-      let s2 : live_count w2.slots ≡ live_count w1.slots = ap live_count same in
-      let s4 : live_count w4.slots ≡ live_count w.slots = ap live_count trip_slots in
-      let p4 : w4.peak ≡ max w3.peak (live_count w4.slots) = ap (λ (x : Slots). x.peak) released ∙ ap (λ (x : Slots). max w3.peak (live_count x.slots)) (sym released) in
-      omega arith
-
--- the same of a slot that stays live
 module _ (w w1 w2 w3 : Slots) (k more : ℕ) (cells : List ℤ) (free : slot_at w k ≡ Free) (within : k < length w.slots)
     (begun : w1 ≡ with_slot w k Begun) (same : w2.slots ≡ w1.slots) (peak : w2.peak ≡ max w1.peak (live_count w1.slots + more))
     (finished : w3 ≡ with_slot w2 k (Live cells)) where
@@ -95,6 +60,26 @@ module _ (w w1 w2 w3 : Slots) (k more : ℕ) (cells : List ℤ) (free : slot_at 
       let f = first_count in
       let t = stay_count in
       omega arith
+
+  -- and when it is released, all is as before but for the peak
+  module _ (w4 : Slots) (released : w4 ≡ with_slot w3 k Free) where
+    pub trip_slots : w4.slots ≡ w.slots
+    trip_slots =
+        ap (λ (t : Slots). t.slots) released
+        ∙ ap (λ (t : Slots). set t.slots k Free) finished
+        ∙ set-set w2.slots k (Live cells) Free
+        ∙ ap (λ l. set l k Free) same
+        ∙ ap (λ (t : Slots). set t.slots k Free) begun
+        ∙ set-set w.slots k Begun Free
+        ∙ ap (λ s. set w.slots k s) (sym free)
+        ∙ set-get_or w.slots k Begun
+
+    pub trip_peak : w4.peak ≡ max w.peak (live_count w.slots + 1 + more)
+    trip_peak =
+        let p3 = stay_peak in
+        let s4 : live_count w4.slots ≡ live_count w.slots = ap live_count trip_slots in
+        let p4 : w4.peak ≡ max w3.peak (live_count w4.slots) = ap (λ (x : Slots). x.peak) released ∙ ap (λ (x : Slots). max w3.peak (live_count x.slots)) (sym released) in
+        omega arith
 
 pub release_peak : (w v : Slots) (k : ℕ) (cells : List ℤ) → slot_at w k ≡ Live cells → k < length w.slots → v ≡ with_slot w k Free → live_count w.slots ≤ w.peak → (v.peak ≡ w.peak) × (live_count v.slots ≤ v.peak)
 release_peak w v k cells at h e l =

@@ -1,11 +1,12 @@
 //! The distinct bar columns among the inputs of a node.
-ghost use Rattle.std.specs.Prelude.{◌≡◌, ◌≤◌, length, filter_map, map, option_map, slice_get};
+ghost use Rattle.std.specs.Prelude.{◌≡◌, ◌≤◌, length, map, option_map, slice_get};
 ghost use Rattle.pl_spec.specs.World.{column_number};
-ghost use Rattle.pl_pipeline.specs.Graph.{contains, input_column};
+ghost use Rattle.pl_pipeline.specs.Graph.{contains};
 ghost use Rattle.pl_terms.specs.Nodes.{input_of, node_of};
 ghost use Rattle.pl_exec.specs.ChunkInputs as spec;
 
 use pl_fixed::Column;
+use pl_planner::has_column;
 use pl_terms::{Input, Node};
 use pl_values::{input_at, inputs_of};
 
@@ -27,15 +28,6 @@ fn is_column(input: Input, column: Column) -> bool
     match input {
         Input::Column(other) => column_number(other) == column_number(column),
         Input::Term(_) => false,
-    }
-}
-
-fn has_column(inputs: &[Input], column: Column) -> bool
-    ensures { result ≡ contains (filter_map input_column (map input_of inputs.now)) (column_number column) }
-{
-    match inputs {
-        [] => false,
-        [first, rest @ ..] => is_column(*first, column) || has_column(rest, column),
     }
 }
 

@@ -7,7 +7,8 @@ use Rattle.pl_pipeline.specs.Term.{Input, Node, Graph, MentionsBelow, IsGraph}
 use Rattle.pl_pipeline.specs.Term.Input.{BarColumn, TermInput}
 use Rattle.pl_pipeline.specs.Graph.{contains, input_number, reads_at}
 use Rattle.pl_pipeline.specs.Lows.{Reads, Needs}
-use Rattle.pl_pipeline.proofs.Contained.{input-in}
+use Rattle.pl_pipeline.proofs.Contained.{input-in, option-in, in-front as among-first, in-back}
+use Rattle.pl_planner.proofs.Mentions.{in-number, option-is, read-lower}
 use Rattle.pl_judge.specs.Planning.{Need, all_on, node_reads, sessions_of, needs_below, needs}
 
 -- ---- members
@@ -89,32 +90,19 @@ in-flat f t r (x ∷ xs) h = elim (in-either t r (f x) (flat_map f xs) h) [
   | inr q ↦ (let i = in-flat f t r xs q in (i.0, (inr i.1.0, i.1.1)))
 ]
 
-in-number : (is : List Input) (t : ℕ) → contains (filter_map input_number is) t ≡ true → (i : ℕ) × (slice_get is i ≡ Some (TermInput t))
-in-number [] t h = absurd (true≢false (sym h))
-in-number (BarColumn c ∷ is) t h = let r = in-number is t h in (suc r.0, r.1)
-in-number (TermInput k ∷ is) t h = elim (or_cases (k == t) (contains (filter_map input_number is) t) h) [
-  | inl e ↦ (zero, ap (λ j. Some (TermInput j)) (eqb-true k t e))
-  | inr f ↦ (let r = in-number is t f in (suc r.0, r.1))
-]
-
 -- of two optional terms
 abbrev both : Option ℕ → Option ℕ → List ℕ
 both m g = option_to_list m ++ option_to_list g
 
 mask-in : (m g : Option ℕ) (t : ℕ) → m ≡ Some t → contains (both m g) t ≡ true
-mask-in m g t e = rw e (or_left (t == t) (contains (option_to_list g) t) (eq-eqb t t refl))
+mask-in m g t e = among-first (option_to_list m) (option_to_list g) t (option-in m t e)
 
 group-in : (m g : Option ℕ) (t : ℕ) → g ≡ Some t → contains (both m g) t ≡ true
-group-in None g t e = rw e (or_left (t == t) false (eq-eqb t t refl))
-group-in (Some u) g t e = rw e (or_right (u == t) (contains (t ∷ []) t) (or_left (t == t) false (eq-eqb t t refl)))
-
-one-is : (g : Option ℕ) (t : ℕ) → contains (option_to_list g) t ≡ true → g ≡ Some t
-one-is None t h = absurd (true≢false (sym h))
-one-is (Some v) t h = elim (or_cases (v == t) false h) [ inl e ↦ ap (λ j. Some j) (eqb-true v t e) | inr f ↦ absurd (true≢false (sym f)) ]
+group-in m g t e = in-back (option_to_list m) (option_to_list g) t (option-in g t e)
 
 in-both : (m g : Option ℕ) (t : ℕ) → contains (both m g) t ≡ true → (m ≡ Some t) ⊎ (g ≡ Some t)
-in-both None g t h = inr (one-is g t h)
-in-both (Some u) g t h = elim (or_cases (u == t) (contains (option_to_list g) t) h) [ inl e ↦ inl (ap (λ j. Some j) (eqb-true u t e)) | inr f ↦ inr (one-is g t f) ]
+in-both None g t h = inr (option-is g t h)
+in-both (Some u) g t h = elim (or_cases (u == t) (contains (option_to_list g) t) h) [ inl e ↦ inl (ap (λ j. Some j) (eqb-true u t e)) | inr f ↦ inr (option-is g t f) ]
 
 module _ (days : List ℤ) (n : Node) (s : ℤ) where
   abbrev inputs : List ℕ
@@ -134,11 +122,6 @@ module _ (days : List ℤ) (n : Node) (s : ℤ) where
     | inr q ↦ (let a = all-on t r s (both n.mask n.group) q in
         elim (in-both n.mask n.group t a.0) [ inl m ↦ subst (Reads days n s t) a.1 (Reads.mask m) | inr g ↦ subst (Reads days n s t) a.1 (Reads.group g) ])
   ]
-
-read-lower : (days : List ℤ) (n : Node) (s : ℤ) (u t : ℕ) (r : ℤ) → MentionsBelow n u → Reads days n s t r → t < u
-read-lower days n s u t r low (Reads.input i e) = low.inputs i t e
-read-lower days n s u t r low (Reads.mask e) = low.mask t e
-read-lower days n s u t r low (Reads.group e) = low.group t e
 
 -- ---- the whole list
 

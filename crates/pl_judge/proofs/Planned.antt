@@ -3,7 +3,7 @@ use Rattle.std.proofs.Common.{◌≡◌, inl, inr, ℕ, zero, suc, ◌+◌, ◌<
 use Rattle.std.specs.List.{list_any, range_with_len}
 use Rattle.std.specs.Int.{int_min, int_gap}
 use Rattle.std.specs.Int.RustNames.{int_lt}
-use Rattle.std.proofs.lemmas.Bool.{or_cases, eqb-true, true≢false}
+use Rattle.std.proofs.lemmas.Bool.{true≢false}
 use Rattle.std.proofs.lemmas.Bool.Decides.{nat_tests}
 use Rattle.std.proofs.lemmas.Int.{ints}
 use Rattle.std.proofs.lemmas.List.Folds.{list_any_at}
@@ -15,11 +15,11 @@ use Rattle.pl_pipeline.specs.Lows.{Needs, IsLow}
 use Rattle.pl_pipeline.specs.Table.{Pipeline}
 use Rattle.pl_spec.proofs.Signed.{le-both}
 use Rattle.pl_laws.proofs.Reaches.{AllFrom, below_least}
-use Rattle.pl_laws.proofs.Uses.{lower, used_terms-complete}
+use Rattle.pl_laws.proofs.Uses.{used_terms-complete}
 use Rattle.pl_terms.specs.Checked.{IsChecked}
 use Rattle.pl_terms.specs.Uses.{outputs, is_used}
-use Rattle.pl_planner.proofs.Pipelines.{IsPipeline, is-pipeline}
-use Rattle.pl_planner.proofs.Covers.{needs-used}
+use Rattle.pl_planner.proofs.Pipelines.{IsPipeline, is-pipeline, used-inside}
+use Rattle.pl_planner.proofs.Mentions.{needs-used}
 use Rattle.pl_planner.specs.Plans.{Planned, IsPlanOf, IsDeepest, IsAsked, low_at}
 use Rattle.pl_judge.specs.Planning.{Need, sessions_of, needs, first_of, first_of_all, extra_of, HasRows, is_too_deep}
 use Rattle.pl_judge.proofs.Needed.{IsIn, IsSession, of-term, term-of, in-of-all, all-of-in, all-listed, listed-are}
@@ -49,19 +49,8 @@ module _ (p : Pipeline) (checked : IsChecked p) where
   ok : IsPipeline p.graph outs
   ok = is-pipeline p checked
 
-  output-within : (os : List ℕ) → ((i o : ℕ) → slice_get os i ≡ Some o → o < length p.graph) → (t : ℕ) → contains os t ≡ true → t < length p.graph
-  output-within [] all t h = absurd (true≢false (sym h))
-  output-within (o ∷ os) all t h = elim (or_cases (o == t) (contains os t) h) [
-    | inl e ↦ (let is : o ≡ t = eqb-true o t e in let l = all 0 o refl in omega arith)
-    | inr f ↦ output-within os (λ i x e. all (suc i) x e) t f
-  ]
-
-  used-within : (t : ℕ) → Used p.graph outs t → t < length p.graph
-  used-within t (Used.output h) = output-within outs ok.outputs_in t h
-  used-within t (Used.mentioned u h m) = let a = used-within u h in let b : t < u = lower p.graph outs ok.graph u t m in omega arith
-
   used-listed : (t : ℕ) → Used p.graph outs t → is_used p t ≡ true
-  used-listed t h = used_terms-complete p.graph outs ok.graph t (used-within t h) h
+  used-listed t h = used_terms-complete p.graph outs ok.graph t (used-inside p.graph outs ok t h) h
 
   needed-used : (days : List ℤ) (d : ℤ) (t : ℕ) (s : ℤ) → Needs days p.graph outs d t s → is_used p t ≡ true
   needed-used days d t s h = used-listed t (needs-used days p.graph outs d t s h)

@@ -1,5 +1,5 @@
 -- What a plan says is what the definitions say.
-use Rattle.std.proofs.Common.{◌≡◌, ℕ, suc, ◌+◌, ◌-◌, ◌*◌, ◌<◌, ◌≤◌, Bool, true, false, ◌&&◌, max, nat_le, nat_lt, if◌then◌else◌, ℤ, pos, negsuc, ◌-ℤ◌, ◌≤ℤ◌, ◌<ℤ◌, List, length, map, fold, AllPairs, Option, Some, None, refl, sym, ◌∙◌, ap, subst, arith, inl, inr, ◌⊎◌, slice_get, get_or, leb-true}
+use Rattle.std.proofs.Common.{◌≡◌, ℕ, ◌+◌, ◌-◌, ◌*◌, ◌<◌, ◌≤◌, Bool, true, false, ◌&&◌, max, nat_le, nat_lt, if◌then◌else◌, ℤ, pos, ◌-ℤ◌, ◌≤ℤ◌, ◌<ℤ◌, List, length, map, fold, AllPairs, Option, Some, None, refl, sym, ◌∙◌, ap, subst, arith, inl, inr, ◌⊎◌, slice_get, get_or, leb-true}
 use Rattle.std.specs.List.{list_any, range_with_len, count_by}
 use Rattle.std.proofs.lemmas.Bool.{true≢false, cases_lt, or_right, and_from, and_parts}
 use Rattle.std.proofs.lemmas.Bool.Decides.{nat_tests}
@@ -8,7 +8,7 @@ use Rattle.std.proofs.lemmas.Option.{slice_get_within}
 use Rattle.pl_pipeline.specs.Table.{Pipeline}
 use Rattle.pl_pipeline.specs.Term.{Node, Graph}
 use Rattle.pl_pipeline.specs.Graph.{reads_at, contains, mentions_at, Used, used_terms, is_live, live_terms, columns_at, bound}
-use Rattle.pl_pipeline.specs.Lows.{Reads, Needs, IsLow, least_reach}
+use Rattle.pl_pipeline.specs.Lows.{Needs, IsLow, least_reach}
 use Rattle.pl_spec.specs.Window.{before}
 use Rattle.pl_laws.specs.LowLaws.{HasBar, ReachCovers}
 use Rattle.pl_laws.proofs.Lows.{lows-cover, reach-covers, reads_at-within}
@@ -18,7 +18,6 @@ use Rattle.pl_terms.specs.Uses as pipeline
 use Rattle.pl_terms.specs.Uses.{outputs}
 use Rattle.pl_planner.specs.declared.uses.Use.{Use}
 use Rattle.pl_planner.specs.declared.slots.TermSlots.{TermSlots}
-use Rattle.pl_planner.specs.Extra.{IsBack, IsExtra, asks_of}
 use Rattle.pl_planner.specs.Uses.{use_at, is_kept, IsLast, AreUses}
 use Rattle.pl_planner.specs.Columns.{held_at}
 use Rattle.pl_planner.specs.Rows.{extra_at, IsRow, AreRows, most_extra}
@@ -27,10 +26,10 @@ use Rattle.pl_planner.specs.Plans as plans
 use Rattle.pl_planner.specs.Plans.{Planned, is_used, low_at, last_user, is_read_by, slot_of, column_slot, AreLows, AreLastUsers, IsLive, HasSlot, HasColumn, IsPlanOf, IsDeepest, KeepsLimits}
 use Rattle.pl_planner.specs.Laws.{ReadsAreCovered}
 use Rattle.pl_planner.proofs.Pipelines.{IsPipeline, is-pipeline}
-use Rattle.pl_planner.proofs.Gathers.{mention_of_ask}
+use Rattle.pl_planner.proofs.Mentions.{needs-used, reads-mention}
 use Rattle.pl_planner.proofs.Counting.{count_more, most_in, columns-few}
 use Rattle.pl_planner.proofs.Live.{turned, contains-filter, some_holds, used_within, live_is, bound_is}
-use Rattle.pl_planner.proofs.Lows.{Asked, asked-of, Back, needs-back, low-is, back-used, needs-rise}
+use Rattle.pl_planner.proofs.Lows.{needs-rise}
 use Rattle.pl_planner.proofs.Tables.{ReachedAt, most-at, most-in, extra-used, extra-some}
 
 pub live-intro : (p : Pipeline) (k t : ℕ) → is_live p.graph (outputs p) k t ≡ true → contains (used_terms p.graph (outputs p)) t ≡ true → IsLive p k t
@@ -38,25 +37,10 @@ live-intro p k t a b = contains-filter (is_live p.graph (outputs p) k) (used_ter
 
 -- ---- what a used term reads is computed, and live
 
-module _ (days : List ℤ) (g : Graph) (k : ℕ) (n : Node) (e : slice_get g k ≡ Some n) where
-  reads-before : (s m t : ℕ) (r : ℤ) → Reads days n (pos s -ℤ pos m) t r → contains (mentions_at g k) t ≡ true
-  reads-before s m t r reads =
-      let a : Asked days s n m t r = asked-of days s n m t r reads in
-      mention_of_ask days s g k m a.found.0 (t, a.back) (ap (λ o. slice_get (asks_of days s o m) a.found.0) e ∙ a.found.1)
-
-  reads-mention : (s r : ℤ) (t : ℕ) → Reads days n s t r → contains (mentions_at g k) t ≡ true
-  reads-mention (pos s) r t reads = reads-before s 0 t r (let z : pos s ≡ pos s -ℤ pos 0 = omega (arith, ints) in subst (λ d. Reads days n d t r) z reads)
-  reads-mention (negsuc s) r t reads = reads-before 0 (suc s) t r (let z : negsuc s ≡ pos 0 -ℤ pos (suc s) = omega (arith, ints) in subst (λ d. Reads days n d t r) z reads)
-
--- what is needed is used
-pub needs-used : (days : List ℤ) (g : Graph) (outs : List ℕ) (d : ℤ) (t : ℕ) (s : ℤ) → Needs days g outs d t s → Used g outs t
-needs-used days g outs d t s (Needs.output h) = Used.output h
-needs-used days g outs d t s (Needs.read u n q needs at reads) = Used.mentioned u (needs-used days g outs d u q needs) (reads-mention days g u n at q s t reads)
-
 pub reads-covered : ReadsAreCovered
 reads-covered days rise p checked plan is k t c n s r asked e low reads =
     let ok : IsPipeline p.graph (outputs p) = is-pipeline p checked in
-    let mention : contains (mentions_at p.graph k) t ≡ true = reads-mention days p.graph k n e s r t reads in
+    let mention : contains (mentions_at p.graph k) t ≡ true = rw e (reads-mention days n s t r reads) in
     let listed : contains (used_terms p.graph (outputs p)) k ≡ true = sym (is.used k) ∙ asked.0 in
     let used_k : Used p.graph (outputs p) k = used_terms-sound p.graph (outputs p) ok.graph k listed in
     let used_t : Used p.graph (outputs p) t = Used.mentioned k used_k mention in
@@ -84,23 +68,21 @@ module _ (days : List ℤ) (p : Pipeline) (checked : IsChecked p) (from to : ℕ
   row : (s : ℕ) → from ≤ s → s ≤ to → IsRow days p.graph (outputs p) s (extra_at extras (length p.graph) (s - from))
   row s a b = let same : from + (s - from) ≡ s = omega arith in subst (λ z. IsRow days p.graph (outputs p) z (extra_at extras (length p.graph) (s - from))) same (rows.rows (s - from) (omega arith))
 
-  is-extra : (t s : ℕ) → Used p.graph (outputs p) t → from ≤ s → s ≤ to → IsExtra days s p.graph (outputs p) t (own_extra s t)
-  is-extra t s u a b =
+  its-low : (t s : ℕ) → Used p.graph (outputs p) t → from ≤ s → s ≤ to → IsLow days p.graph (outputs p) (pos s) t (pos s -ℤ pos (own_extra s t))
+  its-low t s u a b =
       let r = row s a b in
       let within : t < length p.graph = used_within p.graph (outputs p) (is-pipeline p checked).graph r.are t u in
       let same : own_extra s t ≡ (use_at r.uses t).extra = r.is t within ∙ extra-used (use_at r.uses t) ((r.are.used t).1 u) in
-      subst (IsExtra days s p.graph (outputs p) t) (sym same) (r.have t u)
+      subst (λ n. IsLow days p.graph (outputs p) (pos s) t (pos s -ℤ pos n)) (sym same) (r.have t u)
 
   own-most : (t s : ℕ) → t < length p.graph → from ≤ s → s ≤ to → own_extra s t ≤ most_extra extras
   own-most t s within a b = most-in extras (to + 1 - from) (length p.graph) (s - from) t rows.size (omega arith) within
 
-  back-most : (t s n : ℕ) → from ≤ s → s ≤ to → IsBack days s p.graph (outputs p) t n → n ≤ most_extra extras
-  back-most t s n a b back =
-      let u : Used p.graph (outputs p) t = back-used days s p.graph (outputs p) t n back in
+  need-most : (t s : ℕ) (l : ℤ) → from ≤ s → s ≤ to → Needs days p.graph (outputs p) (pos s) t l → (pos s -ℤ l) ≤ℤ pos (most_extra extras)
+  need-most t s l a b needs =
+      let u : Used p.graph (outputs p) t = needs-used days p.graph (outputs p) (pos s) t l needs in
       let within : t < length p.graph = used_within p.graph (outputs p) (is-pipeline p checked).graph (row s a b).are t u in
-      let l : n ≤ own_extra s t = (is-extra t s u a b).most n back in
-      let m = own-most t s within a b in
-      omega arith
+      omega (arith, ints, (its-low t s u a b).least l needs, own-most t s within a b)
 
   pub deepest : 0 < most_extra extras → IsDeepest days p from to (most_extra extras)
   deepest some =
@@ -114,12 +96,9 @@ module _ (days : List ℤ) (p : Pipeline) (checked : IsChecked p) (from to : ℕ
         session = from + m.row;
         low = pos (from + m.row) -ℤ pos (use_at r.uses m.term).extra;
         within = (omega arith, omega arith);
-        is_low = low-is days (from + m.row) p.graph (outputs p) m.term (use_at r.uses m.term).extra (r.have m.term used);
+        is_low = r.have m.term used;
         is = (let e = w.1 in omega (arith, ints));
-        most = λ t s l a b low. (let n : Back days s p.graph (outputs p) t l = needs-back days s p.graph (outputs p) t l low.needed in
-            let m = back-most t s n.back a b n.is_back in
-            let e = n.is in
-            omega (arith, ints));
+        most = λ t s l a b low. need-most t s l a b low.needed;
       }
 
 module _ (days : List ℤ) (rise : AllPairs (λ a b. a <ℤ b) days) (p : Pipeline) (checked : IsChecked p) (uses : List Use) (are : AreUses p.graph (outputs p) uses) where
@@ -154,11 +133,8 @@ module _ (days : List ℤ) (rise : AllPairs (λ a b. a <ℤ b) days) (p : Pipeli
     first-need t s r a needs = needs-rise days rise g outs (pos from) (pos s) (omega (arith, ints)) t r needs
 
     module _ (t s : ℕ) (used : (use_at uses t).used ≡ true) (after : from ≤ s) (until : s ≤ to) where
-      its_extra : IsExtra days s g outs t (extra_of s t)
-      its_extra = is-extra days p checked from to order extras rows t s ((are.used t).0 used) after until
-
       its_low : IsLow days g outs (pos s) t (pos s -ℤ pos (extra_of s t))
-      its_low = low-is days s g outs t (extra_of s t) its_extra
+      its_low = its-low days p checked from to order extras rows t s ((are.used t).0 used) after until
 
       pub reached : reach ≤ℤ (pos s -ℤ pos (extra_of s t))
       reached =

@@ -1,14 +1,16 @@
 -- The outputs, marked one after another.
-use Rattle.std.proofs.Common.{◌≡◌, ℕ, zero, suc, ◌+◌, ◌<◌, List, [], ◌∷◌, ◌++◌, length, map, take, Some, option_map, slice_get, true, refl, sym, ◌∙◌, ap, arith, length-set}
+use Rattle.std.proofs.Common.{◌≡◌, ℕ, zero, suc, ◌+◌, ◌<◌, List, [], ◌∷◌, ◌++◌, length, map, take, Option, Some, None, IfSome, option_map, slice_get, true, refl, sym, ◌∙◌, ap, arith, length-set}
 use Rattle.std.proofs.lemmas.List.Sums.{fold-append}
 use Rattle.pl_terms.specs.declared.checked.NamedColumn.{NamedColumn}
 use Rattle.pl_terms.specs.declared.node.TermId.{TermId}
 use Rattle.pl_terms.specs.Checked.{Parts, columns_of, pipeline_of, IsChecked}
 use Rattle.pl_terms.specs.Nodes.{number_of}
 use Rattle.pl_pipeline.specs.Table as table
+use Rattle.pl_pipeline.proofs.Contained.{in-alone}
 use Rattle.pl_planner.specs.declared.uses.Use.{Use}
 use Rattle.pl_planner.specs.Uses.{marked, all_marked}
-use Rattle.pl_planner.proofs.Pipelines.{column-in, screen-in}
+use Rattle.pl_planner.specs.Asked.{wanted}
+use Rattle.pl_planner.proofs.Pipelines.{IsPipeline, is-pipeline, with-outputs, column-in, screen-in}
 
 abbrev terms : List NamedColumn → List ℕ
 terms cs = map (λ (c : table.NamedColumn). c.term) (columns_of cs)
@@ -48,3 +50,9 @@ column-within p k i t e =
 
 pub screen-within : (p : Parts) → IsChecked (pipeline_of p) → (t : TermId) → p.screen ≡ Some t → t.0 < length (pipeline_of p).graph
 screen-within p k t e = screen-in (pipeline_of p) k t.0 (ap (option_map number_of) e)
+
+-- with what is wanted for its outputs a checked pipeline is one
+pub wanted-pipeline : (p : Parts) → IsChecked (pipeline_of p) → (only : Option TermId) → IfSome only (λ t. number_of t < length (pipeline_of p).graph)
+    → IsPipeline (pipeline_of p).graph (wanted (pipeline_of p) (option_map number_of only))
+wanted-pipeline p k None h = is-pipeline (pipeline_of p) k
+wanted-pipeline p k (Some t) h = with-outputs (pipeline_of p) k (t.0 ∷ []) (λ o e. omega (arith, in-alone t.0 o e, h))

@@ -1,33 +1,39 @@
 -- The pass from the last term to the first over the pipelines of the language.
-use Rattle.std.proofs.Common.{◌≡◌, ℕ, zero, suc, ◌+◌, ◌*◌, ◌-◌, ◌<◌, ◌≤◌, Bool, true, false, ℤ, ◌<ℤ◌, AllPairs, List, length, Some, refl, ap, subst, arith, slice_get, replicate}
+use Rattle.std.proofs.Common.{◌≡◌, ℕ, zero, suc, ◌+◌, ◌*◌, ◌-◌, ◌<◌, ◌≤◌, Bool, true, false, ℤ, pos, ◌-ℤ◌, ◌<ℤ◌, AllPairs, List, length, Some, refl, arith, slice_get, replicate}
 use Rattle.std.specs.List.{list_any}
+use Rattle.std.proofs.lemmas.Int.{ints}
 use Rattle.std.proofs.lemmas.Option.{slice_get_within}
 use Rattle.pl_pipeline.specs.Term.{Node, Graph, MentionsBelow}
 use Rattle.pl_pipeline.specs.Kind.{Kind}
 use Rattle.pl_planner.specs.declared.uses.Use.{Use}
-use Rattle.pl_planner.specs.Extra.{asks, asks_of, asks_at, back_from, IsBack}
+use Rattle.pl_pipeline.specs.Lows.{Needs}
+use Rattle.pl_planner.specs.Extra.{asks, back_from}
 use Rattle.pl_planner.specs.Columns.{is_bar, bars_back}
 use Rattle.pl_planner.specs.Uses.{unused, use_at, all_asked, all_marked, AreUses, HaveExtras}
-use Rattle.pl_planner.proofs.Pipelines.{IsPipeline, output-below}
+use Rattle.pl_planner.proofs.Pipelines.{IsPipeline}
 use Rattle.pl_planner.proofs.Asking.{lower-more}
-use Rattle.pl_planner.proofs.Gathers.{AreGathered, begun, step, gathered, extras, needed_few, back-few}
+use Rattle.pl_planner.proofs.Gathers.{AreGathered, begun, step, gathered, extras, needs-near, back-few}
 
-module _ (days : List ℤ) (rise : AllPairs (λ a b. a <ℤ b) days) (s : ℕ) (g : Graph) (outs : List ℕ) (ok : IsPipeline g outs) where
+back-short : (days : List ℤ) (s : ℕ) (k : Kind) (n : ℕ) → n ≤ s + 1260 * 256 → back_from days s k n ≤ s + 1260 * 256
+back-short days s k n h = omega (arith, back-few days s k n)
+
+pub bars-few : {g : Graph} {outs : List ℕ} → IsPipeline g outs → (t : ℕ) (n : Node) → slice_get g t ≡ Some n → bars_back n ≤ 1260
+bars-few ok t n e = here (list_any is_bar n.inputs) refl
+  where
+    here : (b : Bool) → list_any is_bar n.inputs ≡ b → bars_back n ≤ 1260
+    here true f = rw f (ok.windows t n e).1
+    here false f = rw f (omega arith)
+
+module _ {days : List ℤ} (rise : AllPairs (λ a b. a <ℤ b) days) (s : ℕ) {g : Graph} {outs : List ℕ} (ok : IsPipeline g outs) where
   pub pass_begun : (us : List Use) (n : ℕ) → n ≡ length g → us ≡ all_marked (replicate (length g) unused) n outs → AreGathered days s g outs n us
   pass_begun us n e f = rw (f, e) (begun days s g outs ok.outputs_in)
 
-  pub pass_node : (k : ℕ) (n : Node) → slice_get g k ≡ Some n → (1 ≤ n.window) × (n.window ≤ 1260)
-  pass_node k n e = ok.windows k n e
-
   -- no term is computed so many sessions early
-  few-back : length g ≤ 256 → (t n : ℕ) → IsBack days s g outs t n → n ≤ s + 1260 * 256
-  few-back few t n b = let l = (needed_few days rise s g outs ok.graph (output-below g outs ok) (λ j n e. (ok.windows j n e).1) t n b).0 in omega arith
-
-  back-short : (k : Kind) (n : ℕ) → n ≤ s + 1260 * 256 → back_from days s k n ≤ s + 1260 * 256
-  back-short k n h = let l = back-few days s k n in omega arith
+  few-back : length g ≤ 256 → (t n : ℕ) → Needs days g outs (pos s) t (pos s -ℤ pos n) → n ≤ s + 1260 * 256
+  few-back few t n needs = omega (arith, ints, few, (needs-near days s g outs ok.graph ok.outputs_in (λ j n e. (ok.windows j n e).1) t (pos s -ℤ pos n) needs).0)
 
   pub pass_room : length g ≤ 256 → (us : List Use) (j k : ℕ) (kind : Kind) → AreGathered days s g outs j us → (use_at us k).used ≡ true → back_from days s kind (use_at us k).extra ≤ s + 1260 * 256
-  pass_room few us j k kind h u = back-short kind (use_at us k).extra (few-back few k (use_at us k).extra (h.sound k u).0)
+  pass_room few us j k kind h u = back-short days s kind (use_at us k).extra (few-back few k (use_at us k).extra (h.sound k u).0)
 
   pub pass_step : (us vs : List Use) (k : ℕ) (n : Node) → AreGathered days s g outs k us → 0 < k → slice_get g (k - 1) ≡ Some n → (use_at us (k - 1)).used ≡ true
       → vs ≡ all_asked us (k - 1) (asks days s n (use_at us (k - 1)).extra) → AreGathered days s g outs (k - 1) vs
@@ -37,8 +43,7 @@ module _ (days : List ℤ) (rise : AllPairs (λ a b. a <ℤ b) days) (s : ℕ) (
       let at = rw less at e in
       let used = rw less at u in
       let is = rw less at f in
-      let list : asks_at days s g k (use_at us k).extra ≡ asks days s n (use_at us k).extra = ap (λ o. asks_of days s o (use_at us k).extra) at in
-      rw (less, is) (subst (λ l. AreGathered days s g outs k (all_asked us k l)) list (step days rise s g outs ok.graph us k h used (slice_get_within g k n at)))
+      rw (less, is) (step days rise s g outs ok.graph us k n h at used)
 
   pub pass_ended : (us : List Use) → AreGathered days s g outs 0 us → AreUses g outs us × HaveExtras days s g outs us
   pass_ended us h = (gathered days rise s g outs ok.graph us h, extras days rise s g outs ok.graph us h)
@@ -48,11 +53,4 @@ module _ (days : List ℤ) (rise : AllPairs (λ a b. a <ℤ b) days) (s : ℕ) (
 
   pub extra-few : length g ≤ 256 → (us : List Use) → AreUses g outs us → HaveExtras days s g outs us → (t : ℕ) (kind : Kind) → (use_at us t).used ≡ true
       → back_from days s kind (use_at us t).extra ≤ s + 1260 * 256
-  extra-few few us are have t kind u = back-short kind (use_at us t).extra (few-back few t (use_at us t).extra (have t ((are.used t).0 u)).back)
-
-  pub bars-few : (t : ℕ) (n : Node) → slice_get g t ≡ Some n → bars_back n ≤ 1260
-  bars-few t n e = here (list_any is_bar n.inputs) refl
-    where
-      here : (b : Bool) → list_any is_bar n.inputs ≡ b → bars_back n ≤ 1260
-      here true f = let w = (ok.windows t n e).1 in rw f w
-      here false f = rw f (omega arith)
+  extra-few few us are have t kind u = back-short days s kind (use_at us t).extra (few-back few t (use_at us t).extra (have t ((are.used t).0 u)).needed)

@@ -1,7 +1,7 @@
 -- What a checked pipeline keeps that plans rest on.
-use Rattle.std.proofs.Common.{◌≡◌, ℕ, zero, suc, ◌-◌, ◌<◌, ◌≤◌, ◌==◌, nat_le, true, false, ℤ, pos, ◌-ℤ◌, unsigned_abs, List, [], ◌∷◌, ◌++◌, length, map, Option, Some, None, slice_get, option_to_list, refl, sym, ◌∙◌, ap, arith, ◌⊎◌, inl, inr}
+use Rattle.std.proofs.Common.{◌≡◌, ℕ, suc, ◌-◌, ◌<◌, ◌≤◌, ◌==◌, nat_le, true, false, ℤ, pos, ◌-ℤ◌, unsigned_abs, List, [], ◌∷◌, ◌++◌, length, map, Option, Some, None, slice_get, option_to_list, refl, sym, ◌∙◌, ap, arith, ◌⊎◌, inl, inr}
 use Rattle.std.proofs.lemmas.Int.{ints}
-use Rattle.std.proofs.lemmas.Bool.{and_parts, true≢false, eqb-true, or_left, eq-eqb}
+use Rattle.std.proofs.lemmas.Bool.{and_parts, true≢false, eqb-true, or_cases, or_left, eq-eqb}
 use Rattle.std.proofs.lemmas.Bool.Decides.{nat_tests}
 use Rattle.std.proofs.lemmas.Option.{slice_get_within}
 use Rattle.pl_pipeline.specs.Kind as kind
@@ -11,9 +11,9 @@ use Rattle.pl_spec.specs.declared.Frequency.{Frequency}
 use Rattle.pl_spec.specs.Periods.{period_start}
 use Rattle.pl_pipeline.specs.Term.{Graph, Node, Input, IsGraph}
 use Rattle.pl_pipeline.specs.Term.Input.{BarColumn, TermInput}
-use Rattle.pl_pipeline.specs.Graph.{contains, reads_at}
-use Rattle.pl_pipeline.specs.Graph.Used.{output}
-use Rattle.pl_pipeline.proofs.Contained.{place-of}
+use Rattle.pl_pipeline.specs.Graph.{contains, reads_at, Used}
+use Rattle.pl_pipeline.specs.Graph.Used.{output, mentioned}
+use Rattle.pl_pipeline.proofs.Contained.{in-alone}
 use Rattle.pl_terms.specs.Sorts.{has_window, window_fits, is_window_from, sort_at, Filters, places, all_fit, AnyTerm, is_downsampled}
 use Rattle.pl_terms.specs.Checked.{IsChecked}
 use Rattle.pl_terms.specs.Uses.{outputs}
@@ -23,7 +23,10 @@ use Rattle.pl_terms.specs.declared.node.Node as code
 use Rattle.pl_planner.specs.Extra.{back_from}
 use Rattle.pl_planner.proofs.Moved.{early-still}
 use Rattle.pl_planner.specs.Plans.{Planned, IsPlanOf, is_used}
-use Rattle.pl_laws.proofs.Uses.{used_terms-complete}
+use Rattle.pl_planner.specs.declared.uses.Use.{Use}
+use Rattle.pl_planner.specs.Uses.{AreUses}
+use Rattle.pl_planner.proofs.Live.{used_within}
+use Rattle.pl_laws.proofs.Uses.{lower, used_terms-complete}
 
 abbrev Fits : ℕ → Type 0
 Fits w = (1 ≤ w) × (w ≤ 1260)
@@ -66,7 +69,7 @@ reads-now (kind.Downsample f) e days s = absurd (true≢false e)
 reads-now (kind.Constant c) e days s = refl
 reads-now k e days s = refl
 
-downsampled-input : (g : Graph) (is : List Input) → all_fit g (AnyTerm ∷ []) is ≡ true → (t : ℕ) × (slice_get is 0 ≡ Some (TermInput t))
+pub downsampled-input : (g : Graph) (is : List Input) → all_fit g (AnyTerm ∷ []) is ≡ true → (t : ℕ) × (slice_get is 0 ≡ Some (TermInput t))
 downsampled-input g [] h = absurd (let no : false ≡ true = h in cc)
 downsampled-input g (BarColumn c ∷ is) h = absurd (let no : false ≡ true = h in cc)
 downsampled-input g (TermInput t ∷ is) h = (t, refl)
@@ -79,21 +82,23 @@ reads-terms g k is h = inl (λ days s. refl)
 
 pub record IsPipeline (g : Graph) (outs : List ℕ) : Type 0 where
   pub graph : IsGraph g
-  pub some_output : (o : ℕ) × (contains outs o ≡ true)
-  pub outputs_in : (i o : ℕ) → slice_get outs i ≡ Some o → o < length g
+  pub outputs_in : (t : ℕ) → contains outs t ≡ true → t < length g
   pub windows : (k : ℕ) (n : Node) → slice_get g k ≡ Some n → (1 ≤ n.window) × (n.window ≤ 1260)
   pub reads : (k : ℕ) (n : Node) → slice_get g k ≡ Some n → ReadsTerms n
 
-pub output-below : (g : Graph) (outs : List ℕ) → IsPipeline g outs → (t : ℕ) → contains outs t ≡ true → t < length g
-output-below g outs is t h = let at = place-of outs t h in is.outputs_in at.0 t at.1
+-- so are the terms that are used
+pub used-inside : (g : Graph) (outs : List ℕ) → IsPipeline g outs → (t : ℕ) → Used g outs t → t < length g
+used-inside g outs is t (output h) = is.outputs_in t h
+used-inside g outs is t (mentioned u h m) = omega (arith, used-inside g outs is u h, lower g outs is.graph u t m)
 
 columns-in : (g : Graph) (cs : List NamedColumn) (screen : Option ℕ) → ((i : ℕ) (c : NamedColumn) → slice_get cs i ≡ Some c → c.term < length g)
-    → ((t : ℕ) → screen ≡ Some t → t < length g) → (i o : ℕ) → slice_get (map (λ (c : NamedColumn). c.term) cs ++ option_to_list screen) i ≡ Some o → o < length g
-columns-in g [] None cols scr i o e = cc
-columns-in g [] (Some t) cols scr zero o e = let is : t ≡ o = cc in let l = scr t refl in omega arith
-columns-in g [] (Some t) cols scr (suc i) o e = cc
-columns-in g (c ∷ cs) screen cols scr zero o e = let is : c.term ≡ o = cc in let l = cols 0 c refl in omega arith
-columns-in g (c ∷ cs) screen cols scr (suc i) o e = columns-in g cs screen (λ j d f. cols (suc j) d f) scr i o e
+    → ((t : ℕ) → screen ≡ Some t → t < length g) → (o : ℕ) → contains (map (λ (c : NamedColumn). c.term) cs ++ option_to_list screen) o ≡ true → o < length g
+columns-in g [] None cols scr o e = absurd (true≢false (sym e))
+columns-in g [] (Some t) cols scr o e = omega (arith, in-alone t o e, scr t refl)
+columns-in g (c ∷ cs) screen cols scr o e = elim (or_cases (c.term == o) (contains (map (λ (d : NamedColumn). d.term) cs ++ option_to_list screen) o) e) [
+  | inl here ↦ omega (arith, eqb-true c.term o here, cols 0 c refl)
+  | inr later ↦ columns-in g cs screen (λ j d f. cols (suc j) d f) scr o later
+]
 
 sort-within : (g : Graph) (t : ℕ) → sort_at g t ≡ Some Filters → t < length g
 sort-within g t e = here (slice_get g t) refl
@@ -106,19 +111,28 @@ first-output : (cs : List NamedColumn) (rest : List ℕ) → 1 ≤ length cs →
 first-output [] rest h = absurd (omega arith)
 first-output (c ∷ cs) rest h = (c.term, or_left (c.term == c.term) (contains (map (λ (d : NamedColumn). d.term) cs ++ rest) c.term) (eq-eqb c.term c.term refl))
 
-pub is-pipeline : (p : Pipeline) → IsChecked p → IsPipeline p.graph (outputs p)
-is-pipeline p c = record {
+pub some-output : (p : Pipeline) → IsChecked p → (o : ℕ) × (contains (outputs p) o ≡ true)
+some-output p c = first-output p.columns (option_to_list p.screen) c.some_column
+
+-- a checked pipeline with these terms for its outputs
+pub with-outputs : (p : Pipeline) → IsChecked p → (outs : List ℕ) → ((t : ℕ) → contains outs t ≡ true → t < length p.graph) → IsPipeline p.graph outs
+with-outputs p c outs inside = record {
   graph = c.graph;
-  some_output = first-output p.columns (option_to_list p.screen) c.some_column;
-  outputs_in = columns-in p.graph p.columns p.screen c.columns (λ t e. sort-within p.graph t (c.screen t e));
+  outputs_in = inside;
   windows = λ k n e. kind-fits n.kind n.window (c.nodes k n e).window;
   reads = λ k n e. reads-terms p.graph n.kind n.inputs (c.nodes k n e).inputs;
 }
 
+pub is-pipeline : (p : Pipeline) → IsChecked p → IsPipeline p.graph (outputs p)
+is-pipeline p c = with-outputs p c (outputs p) (columns-in p.graph p.columns p.screen c.columns (λ t e. sort-within p.graph t (c.screen t e)))
+
+-- and with those that these are the uses for
+pub pipeline-for : (p : Pipeline) → IsChecked p → (outs : List ℕ) (uses : List Use) → AreUses p.graph outs uses → IsPipeline p.graph outs
+pipeline-for p c outs uses are = with-outputs p c outs (λ t h. used_within p.graph outs c.graph are t (output h))
+
 pub output-used : (days : List ℤ) (p : Pipeline) (plan : Planned) → IsChecked p → IsPlanOf days p plan → (t : ℕ) → contains (outputs p) t ≡ true → is_used plan t ≡ true
 output-used days p plan ok is t h =
-    let at = place-of (outputs p) t h in
-    is.used t ∙ used_terms-complete p.graph (outputs p) ok.graph t ((is-pipeline p ok).outputs_in at.0 t at.1) (output h)
+    is.used t ∙ used_terms-complete p.graph (outputs p) ok.graph t ((is-pipeline p ok).outputs_in t h) (output h)
 
 -- ---- the nodes of the code
 

@@ -1,5 +1,5 @@
 -- The extra sessions of a range, row by row.
-use Rattle.std.proofs.Common.{◌≡◌, ℕ, zero, suc, ◌+◌, ◌-◌, ◌*◌, ◌/◌, ◌%◌, ◌<◌, ◌≤◌, true, false, Bool, max, ℤ, List, [], ◌∷◌, ◌++◌, length, map, fold, get_or, refl, sym, ◌∙◌, ap, subst, arith, inl, inr, length-append}
+use Rattle.std.proofs.Common.{◌≡◌, ℕ, zero, suc, ◌+◌, ◌-◌, ◌*◌, ◌/◌, ◌%◌, ◌<◌, ◌≤◌, true, false, Bool, ℤ, List, ◌++◌, length, map, get_or, refl, sym, ◌∙◌, ap, subst, arith, inl, inr, length-append}
 use Rattle.std.proofs.lemmas.Bool.{cases_lt}
 use Rattle.std.proofs.lemmas.Nat.{mul-le, div-add-mod'}
 use Rattle.std.proofs.lemmas.List.{get_or_append_left, get_or-append-add, get_or-map, length-map}
@@ -8,6 +8,7 @@ use Rattle.pl_spec.proofs.Places.{row-within}
 use Rattle.pl_planner.specs.declared.uses.Use.{Use}
 use Rattle.pl_planner.specs.Uses.{unused, AreUses, HaveExtras}
 use Rattle.pl_planner.specs.Rows.{extra_in, extra_at, AreRows, most_extra}
+use Rattle.pl_planner.proofs.Counting.{Reached, most-each, most-reached}
 
 -- ---- places
 
@@ -48,27 +49,6 @@ module _ (days : List ℤ) (g : Graph) (outs : List ℕ) (from : ℕ) where
       (rows-more (session - from) extras after uses rows are (subst (λ d. HaveExtras days d g outs uses) here have) (e ∙ ap (λ us. extras ++ map extra_in us) same))
 
 -- ---- the greatest number
-
-most-least : (xs : List ℕ) (a : ℕ) → a ≤ fold max a xs
-most-least [] a = omega arith
-most-least (x ∷ xs) a = let h = most-least xs (max a x) in omega arith
-
-most-each : (xs : List ℕ) (a i : ℕ) → i < length xs → get_or xs i 0 ≤ fold max a xs
-most-each [] a i h = absurd (omega arith)
-most-each (x ∷ xs) a zero h = let l = most-least xs (max a x) in omega arith
-most-each (x ∷ xs) a (suc i) h = most-each xs (max a x) i (omega arith)
-
-record Reached (xs : List ℕ) (n : ℕ) : Type 0 where
-  place : ℕ
-  within : place < length xs
-  is : get_or xs place 0 ≡ n
-
-most-reached : (xs : List ℕ) (a : ℕ) → a < fold max a xs → Reached xs (fold max a xs)
-most-reached [] a h = absurd (omega arith)
-most-reached (x ∷ xs) a h = elim (cases_lt (max a x) (fold max (max a x) xs)) [
-  | inl p ↦ (let r = most-reached xs (max a x) p in record { place = suc r.place; within = (let w = r.within in omega arith); is = r.is })
-  | inr p ↦ (let l = most-least xs (max a x) in record { place = 0; within = omega arith; is = omega arith })
-]
 
 -- it stands in a row, for a term
 pub record ReachedAt (extras : List ℕ) (count terms n : ℕ) : Type 0 where

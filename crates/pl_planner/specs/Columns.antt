@@ -24,11 +24,6 @@ is_bar (TermInput k) = false
 abbrev pub bars_back : Node → ℕ
 bars_back n = if list_any is_bar n.inputs then n.window else 0
 
--- how many sessions early the own bars of a node begin that is computed so many early and reads its inputs up to
--- so many early
-abbrev pub own_depth : ℕ → ℕ → Node → ℕ
-own_depth back depth n = if list_any is_bar n.inputs then back + n.window else depth
-
 -- how many sessions before session s a term reads that is computed so many sessions before it
 abbrev pub node_back : List ℤ → ℕ → Option Node → ℕ → ℕ
 node_back days s None extra = extra

@@ -1,9 +1,9 @@
 -- How far back terms are computed for a session, in sessions before it.
-use Rattle.std.specs.Prelude.{◌≡◌, ℕ, ◌<◌, ◌+◌, ◌-◌, ◌≤◌, true, ℤ, pos, ◌-ℤ◌, unsigned_abs, List, [], ◌∷◌, ◌++◌, filter_map, Option, Some, None, slice_get}
+use Rattle.std.specs.Prelude.{ℕ, ◌<◌, ◌+◌, ◌-◌, ℤ, pos, ◌-ℤ◌, unsigned_abs, List, [], ◌∷◌, ◌++◌, filter_map, Option, Some, None}
 use Rattle.pl_pipeline.specs.Kind.{Kind}
-use Rattle.pl_pipeline.specs.Term.{Input, Node, Graph}
+use Rattle.pl_pipeline.specs.Term.{Input, Node}
 use Rattle.pl_pipeline.specs.Term.Input.{BarColumn, TermInput}
-use Rattle.pl_pipeline.specs.Graph.{contains, reads_at}
+use Rattle.pl_pipeline.specs.Graph.{reads_at}
 
 -- a term that is mentioned, and the first session of it that is read
 abbrev pub Ask : Type 0
@@ -31,22 +31,3 @@ asks days s node n = asks_back (back_from days s node.kind n) n node
 abbrev pub IsBelow : ℕ → Input → Type 0
 IsBelow b (BarColumn c) = Unit {0}
 IsBelow b (TermInput k) = k < b
-
-abbrev pub asks_of : List ℤ → ℕ → Option Node → ℕ → List Ask
-asks_of days s None n = []
-asks_of days s (Some node) n = asks days s node n
-
-abbrev pub asks_at : List ℤ → ℕ → Graph → ℕ → ℕ → List Ask
-asks_at days s g u n = asks_of days s (slice_get g u) n
-
--- Term t is read n sessions before session s: an output not at all, and what such a term mentions as far as
--- that term reads it.
-pub data IsBack (days : List ℤ) (s : ℕ) (g : Graph) (outputs : List ℕ) : ℕ → ℕ → Type 0 where
-  output : {t : ℕ} → contains outputs t ≡ true → IsBack days s g outputs t 0
-  mentioned : {t : ℕ} (u n i back : ℕ) → IsBack days s g outputs u n → slice_get (asks_at days s g u n) i ≡ Some (t, back)
-      → IsBack days s g outputs t back
-
--- the greatest of these numbers
-pub record IsExtra (days : List ℤ) (s : ℕ) (g : Graph) (outputs : List ℕ) (t extra : ℕ) : Type 0 where
-  pub back : IsBack days s g outputs t extra
-  pub most : (n : ℕ) → IsBack days s g outputs t n → n ≤ extra

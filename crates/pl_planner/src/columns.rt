@@ -1,6 +1,6 @@
 //! How many arrays are held at once, and how far back bars are read.
 
-ghost use Rattle.std.specs.Prelude.{◌≡◌, ◌||◌, if◌then◌else◌, ◌+◌, ◌*◌, ◌<◌, ◌≤◌, count_by, filter_map, fold, length, map, max, option_to_list};
+ghost use Rattle.std.specs.Prelude.{◌≡◌, ◌||◌, if◌then◌else◌, ◌+◌, ◌*◌, ◌<◌, ◌≤◌, count_by, filter_map, fold, length, map, max};
 ghost use Rattle.std.specs.List.{list_any, range_with_len};
 ghost use Rattle.pl_spec.specs.Limits.{most_terms, most_window};
 ghost use Rattle.pl_spec.specs.World.{column_number};
@@ -9,7 +9,7 @@ ghost use Rattle.pl_terms.specs.Checked.{pipeline_of};
 ghost use Rattle.pl_terms.specs.Nodes.{input_of, node_of};
 ghost use Rattle.pl_terms.specs.Uses.{outputs};
 ghost use Rattle.pl_planner.specs.Asked.{AreAsked};
-ghost use Rattle.pl_planner.specs.Uses.{AreUses, HaveExtras, is_kept, use_at};
+ghost use Rattle.pl_planner.specs.Uses.{AreForOutputs, AreUses, is_kept, use_at};
 ghost use Rattle.pl_planner.specs.Columns.{bars_back, is_bar, columns_in, held_at, most_back, reads_back};
 
 use crate::pipeline::{count, node_at};
@@ -50,12 +50,14 @@ fn live_at(uses: &[Use], k: usize) -> usize
     live
 }
 
-fn is_column(input: Input, column: Column) -> bool
-    ensures { result ≡ contains (option_to_list (input_column (input_of input))) (column_number column) }
+/// Is one of the inputs the bar column?
+pub fn has_column(inputs: &[Input], column: Column) -> bool
+    ensures { result ≡ contains (filter_map input_column (map input_of inputs.now)) (column_number column) }
 {
-    match input {
-        Input::Column(own) => own == column,
-        Input::Term(_) => false,
+    match inputs {
+        [] => false,
+        [Input::Column(own), rest @ ..] => *own == column || has_column(rest, column),
+        [Input::Term(_), rest @ ..] => has_column(rest, column),
     }
 }
 
@@ -63,11 +65,7 @@ fn is_column(input: Input, column: Column) -> bool
 fn reads(node: &Node, column: Column) -> bool
     ensures { result ≡ contains (filter_map input_column (node_of node.now).inputs) (column_number column) }
 {
-    let mut found = false;
-    for input in node.inputs.as_slice() {
-        found = either(found, is_column(*input, column));
-    }
-    found
+    has_column(node.inputs.as_slice(), column)
 }
 
 fn columns_of(node: &Node) -> usize
@@ -140,9 +138,7 @@ fn reads_back(
     t: usize,
 ) -> usize
     requires asked { AreAsked sessions.now (pipeline_of checked.now) }
-    requires uses { AreUses (pipeline_of checked.now).graph (outputs (pipeline_of checked.now)) uses.now }
-    requires extras { HaveExtras sessions.now session (pipeline_of checked.now).graph
-        (outputs (pipeline_of checked.now)) uses.now }
+    requires uses { AreForOutputs sessions.now session (pipeline_of checked.now).graph uses.now }
     requires session { session < length sessions.now }
     requires within { t < length uses.now }
     ensures value { result ≡ reads_back sessions.now session (pipeline_of checked.now).graph uses.now t }
@@ -164,9 +160,7 @@ pub(crate) fn most_back(
     session: usize,
 ) -> usize
     requires asked { AreAsked sessions.now (pipeline_of checked.now) }
-    requires uses { AreUses (pipeline_of checked.now).graph (outputs (pipeline_of checked.now)) uses.now }
-    requires extras { HaveExtras sessions.now session (pipeline_of checked.now).graph
-        (outputs (pipeline_of checked.now)) uses.now }
+    requires uses { AreForOutputs sessions.now session (pipeline_of checked.now).graph uses.now }
     requires within { session < length sessions.now }
     ensures value { result ≡ most_back sessions.now session (pipeline_of checked.now).graph uses.now
         (length (pipeline_of checked.now).graph) }

@@ -12,6 +12,7 @@ mod rows;
 mod slots;
 mod uses;
 
+pub use columns::has_column;
 pub use pipeline::{count, node_at};
 pub use planning::plan;
 pub use plans::{Plan, PlanError};

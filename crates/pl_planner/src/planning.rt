@@ -1,37 +1,21 @@
 //! The plan of a run.
-ghost use Rattle.std.specs.Prelude.{◌≡◌, ◌<◌, ◌≤◌, pos, IfErr, IfOk, length};
-ghost use Rattle.pl_pipeline.specs.Lows.{least_reach};
+ghost use Rattle.std.specs.Prelude.{◌≡◌, ◌<◌, ◌≤◌, IfErr, IfOk, length};
 ghost use Rattle.pl_terms.specs.Checked.{pipeline_of};
-ghost use Rattle.pl_terms.specs.Uses.{outputs};
-ghost use Rattle.pl_planner.specs.Asked.{AreAsked};
 ghost use Rattle.pl_planner.specs.Plans.{IsPlanFault, IsPlanOf};
-ghost use Rattle.pl_planner.specs.Uses.{AreUses, HaveExtras};
 
-use crate::columns::{bound_of, most_back};
+use crate::columns::bound_of;
 use crate::pipeline::are_asked;
 use crate::plans::{Plan, PlanError};
+use crate::reach::reach_of;
 use crate::rows::{gather_rows, most_extra};
 use crate::slots::slot_terms;
-use crate::uses::{Use, gather};
+use crate::uses::gather;
 use pl_calendar::Sessions;
 use pl_terms::Checked;
 use std::alloc::Global;
 
 /// The greatest number of extra rows.
 const MOST_ROWS: usize = 4096;
-
-// The least session that is reached for the first one.
-fn reach_of(checked: &Checked, sessions: &Sessions, uses: &[Use], from: usize) -> i64
-    requires asked { AreAsked sessions.now (pipeline_of checked.now) }
-    requires uses { AreUses (pipeline_of checked.now).graph (outputs (pipeline_of checked.now)) uses.now }
-    requires extras { HaveExtras sessions.now from (pipeline_of checked.now).graph
-        (outputs (pipeline_of checked.now)) uses.now }
-    requires within { from < length sessions.now }
-    ensures { result ≡ least_reach sessions.now (pipeline_of checked.now).graph
-        (outputs (pipeline_of checked.now)) (pos from) }
-{
-    from as i64 - most_back(checked, sessions, uses, from) as i64
-}
 
 /// The plan of a pipeline for the sessions `from` to `to`, which are counted from 0 and both included. The
 /// error says that a column or the screen needs a session before the first one, or a term more than 4,096
@@ -51,7 +35,7 @@ pub fn plan(
     ensures fault { IfErr result (λ e. IsPlanFault sessions.now (pipeline_of checked.now) from to e) }
 {
     are_asked(checked, sessions);
-    let Ok(uses) = gather(alloc, checked, sessions, from) else {
+    let Ok(uses) = gather(alloc, checked, sessions, from, None) else {
         return Err(PlanError::Memory);
     };
     let reach = reach_of(checked, sessions, &uses, from);

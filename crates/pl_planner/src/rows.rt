@@ -44,7 +44,7 @@ pub(crate) fn gather_rows(
 {
     let mut extras = Vec::new(alloc);
     for session in from..to + 1 {
-        let uses = gather(alloc, checked, sessions, session)?;
+        let uses = gather(alloc, checked, sessions, session, None)?;
         push_row(&mut extras, &uses)?;
     }
     Ok(extras)

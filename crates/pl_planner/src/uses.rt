@@ -6,7 +6,7 @@ ghost use Rattle.pl_pipeline.specs.Term.{MentionsBelow};
 ghost use Rattle.pl_terms.specs.Checked.{IsChecked, columns_of, pipeline_of};
 ghost use Rattle.pl_terms.specs.Nodes.{input_of, node_of, number_of};
 ghost use Rattle.pl_terms.specs.Uses.{outputs};
-ghost use Rattle.pl_planner.specs.Asked.{AreAsked};
+ghost use Rattle.pl_planner.specs.Asked.{AreAsked, wanted};
 ghost use Rattle.pl_planner.specs.Extra.{IsBelow, asks, back_from, input_ask, number_asks};
 ghost use Rattle.pl_planner.specs.Uses.{AreUses, HaveExtras, all_asked, all_marked, marked, raised, unused, use_at};
 
@@ -172,17 +172,39 @@ fn mark_outputs(uses: &mut [Use], checked: &Checked, terms: usize)
     }
 }
 
+// The same of one term alone, or of all outputs.
+fn mark_wanted(uses: &mut [Use], checked: &Checked, only: Option<TermId>, terms: usize)
+    requires checked { IsChecked (pipeline_of checked.now) }
+    requires only { IfSome only (λ t. number_of t < length (pipeline_of checked.now).graph) }
+    requires long { length uses.old ≡ length (pipeline_of checked.now).graph }
+    ensures { uses.new ≡ all_marked uses.old terms
+        (wanted (pipeline_of checked.now) (option_map number_of only)) }
+{
+    match only {
+        Some(term) => mark(uses, term, terms),
+        None => mark_outputs(uses, checked, terms),
+    }
+}
+
 // One pass from the last term to the first.
-fn ask_down(uses: &mut [Use], checked: &Checked, sessions: &Sessions, session: usize)
+fn ask_down(
+    uses: &mut [Use],
+    checked: &Checked,
+    sessions: &Sessions,
+    session: usize,
+    only: Option<TermId>,
+)
     requires asked { AreAsked sessions.now (pipeline_of checked.now) }
     requires unused { uses.old ≡ replicate (length (pipeline_of checked.now).graph) unused }
     requires within { session < length sessions.now }
-    ensures uses { AreUses (pipeline_of checked.now).graph (outputs (pipeline_of checked.now)) uses.new }
+    requires only { IfSome only (λ t. number_of t < length (pipeline_of checked.now).graph) }
+    ensures uses { AreUses (pipeline_of checked.now).graph
+        (wanted (pipeline_of checked.now) (option_map number_of only)) uses.new }
     ensures extras { HaveExtras sessions.now session (pipeline_of checked.now).graph
-        (outputs (pipeline_of checked.now)) uses.new }
+        (wanted (pipeline_of checked.now) (option_map number_of only)) uses.new }
 {
     let mut k = count(checked);
-    mark_outputs(uses, checked, k);
+    mark_wanted(uses, checked, only, k);
     while k > 0 {
         k -= 1;
         let own = uses[k];
@@ -193,21 +215,24 @@ fn ask_down(uses: &mut [Use], checked: &Checked, sessions: &Sessions, session: u
     }
 }
 
-/// The uses of all terms, and the extra sessions of the used ones for a session.
+/// The uses of all terms, and the extra sessions of the used ones for a session, where one term alone or all
+/// outputs are wanted.
 pub(crate) fn gather(
     alloc: Global,
     checked: &Checked,
     sessions: &Sessions,
     session: usize,
+    only: Option<TermId>,
 ) -> Result<Vec<Use>, AllocError>
     requires asked { AreAsked sessions.now (pipeline_of checked.now) }
     requires within { session < length sessions.now }
-    ensures uses { IfOk result (λ uses.
-        AreUses (pipeline_of checked.now).graph (outputs (pipeline_of checked.now)) uses.items) }
+    requires only { IfSome only (λ t. number_of t < length (pipeline_of checked.now).graph) }
+    ensures uses { IfOk result (λ uses. AreUses (pipeline_of checked.now).graph
+        (wanted (pipeline_of checked.now) (option_map number_of only)) uses.items) }
     ensures extras { IfOk result (λ uses. HaveExtras sessions.now session (pipeline_of checked.now).graph
-        (outputs (pipeline_of checked.now)) uses.items) }
+        (wanted (pipeline_of checked.now) (option_map number_of only)) uses.items) }
 {
     let mut uses = vec![in alloc; UNUSED; count(checked)]?;
-    ask_down(&mut uses, checked, sessions, session);
+    ask_down(&mut uses, checked, sessions, session, only);
     Ok(uses)
 }

@@ -10,7 +10,7 @@ use Rattle.pl_pipeline.specs.Term.{Node}
 use Rattle.pl_pipeline.specs.Table.{Pipeline}
 use Rattle.pl_terms.specs.Checked.{IsChecked}
 use Rattle.pl_planner.specs.Plans.{Planned, IsPlanOf, is_used, low_at}
-use Rattle.pl_planner.proofs.Pipelines.{is-pipeline, output-used}
+use Rattle.pl_planner.proofs.Pipelines.{is-pipeline, some-output, output-used}
 use Rattle.pl_values.specs.Arrays.{HasAll}
 use Rattle.pl_exec.specs.declared.chunk.Chunk.{Chunk}
 use Rattle.pl_runner.specs.Chunks.{columns_of}
@@ -66,7 +66,7 @@ module _ (days : List ℤ) (w : World) (p : Pipeline) (plan : Planned) (chunk : 
   -- the sessions of the chunk itself are computed
   pub all-there : AllPairs (λ x y. x.sid < y.sid) w.assets → (s : ℕ) → chunk.from ≤ s → s ≤ chunk.to → HasAll w (map (sid_at w.assets) cols) s
   all-there up s a b =
-      let t = (is-pipeline p ok).some_output in
+      let t = some-output p ok in
       let u = output-used days p plan ok is t.0 t.1 in
       let low = (is.lows.few t.0 chunk.from (u, (from, omega arith))).0 in
       subst (λ (cs : List ℕ). HasAll w (map (sid_at w.assets) cs) s) (sym own) (columns-have days w p plan chunk is up t.0 s u (omega arith) b)

@@ -6,7 +6,7 @@ use Rattle.pl_pipeline.proofs.Contained.{used-below}
 use Rattle.pl_terms.specs.Checked.{IsChecked}
 use Rattle.pl_terms.specs.Uses.{outputs}
 use Rattle.pl_planner.specs.Plans.{Planned, IsPlanOf, is_used, low_at}
-use Rattle.pl_planner.proofs.Pipelines.{is-pipeline, output-used}
+use Rattle.pl_planner.proofs.Pipelines.{some-output, output-used}
 use Rattle.pl_runner.specs.Chunks.{IsLeast}
 
 pub used-within : (days : List ℤ) (p : Pipeline) (plan : Planned) → IsPlanOf days p plan → (k : ℕ) → is_used plan k ≡ true → k < length p.graph
@@ -14,7 +14,7 @@ used-within days p plan is k h = used-below p.graph (length p.graph) (outputs p)
 
 -- there is a used term
 pub some-used : (days : List ℤ) (p : Pipeline) (plan : Planned) → IsChecked p → IsPlanOf days p plan → (t : ℕ) × (is_used plan t ≡ true)
-some-used days p plan ok is = let o = (is-pipeline p ok).some_output in (o.0, output-used days p plan ok is o.0 o.1)
+some-used days p plan ok is = let o = some-output p ok in (o.0, output-used days p plan ok is o.0 o.1)
 
 -- ---- the least low
 

@@ -11,9 +11,7 @@ use Rattle.pl_daily.proofs.capacities.greatest_window.Goals as goal
 pub loop-k-preserved : goal.loop-k-preserved
 loop-k-preserved c =
     let m : c.max-greatest.result ≡ max c.loop-k.greatest c.window_over.result = search rules in
-    m ∙ ap (λ n. max n c.window_over.result) c.loop-k.invariant
-    ∙ ap (max (fold max 0 (map (used_window (reads (input_of c.args.input)) (pipeline_of c.args.checked.now)) (range_with_len 0 c.loop-k.k)))) c.window_over.ensures
-    ∙ sym (most_more (used_window (reads (input_of c.args.input)) (pipeline_of c.args.checked.now)) c.loop-k.k)
+    omega (arith, m, c.loop-k.invariant, c.window_over.ensures, most_more (used_window (reads (input_of c.args.input)) (pipeline_of c.args.checked.now)) c.loop-k.k)
 
 pub returns : goal.returns
 returns c =

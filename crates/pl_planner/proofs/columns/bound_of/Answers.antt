@@ -1,4 +1,4 @@
-use Rattle.std.proofs.Common.{rules, ◌∙◌, ap, max, fold, map, ◌≡◌, length, sym, arith}
+use Rattle.std.proofs.Common.{rules, ◌∙◌, ap, max, fold, map, ◌≡◌, length, arith}
 use Rattle.std.specs.List.{range_with_len}
 use Rattle.pl_terms.specs.Checked.{pipeline_of}
 use Rattle.pl_terms.specs.Uses.{outputs}
@@ -10,12 +10,9 @@ use Rattle.pl_planner.proofs.columns.bound_of.Goals as goal
 pub loop-k-preserved : goal.loop-k-preserved
 loop-k-preserved c =
     let m : c.max-bound.result ≡ max c.loop-k.bound c.held_at.result = search rules in
-    let f = c.held_at.ensures.few in
-    let l = c.loop-k.invariant.few in
     record {
-      most = m ∙ ap (λ n. max n c.held_at.result) c.loop-k.invariant.most ∙ ap (max (fold max 0 (map (held_at (pipeline_of c.args.checked.now).graph c.args.uses.now) (range_with_len 0 c.loop-k.k)))) c.held_at.ensures.value
-          ∙ sym (most_more (held_at (pipeline_of c.args.checked.now).graph c.args.uses.now) c.loop-k.k);
-      few = omega arith;
+      most = omega (arith, m, c.loop-k.invariant.most, c.held_at.ensures.value, most_more (held_at (pipeline_of c.args.checked.now).graph c.args.uses.now) c.loop-k.k);
+      few = omega (arith, m, c.loop-k.invariant.few, c.held_at.ensures.few);
     }
 
 pub returns : goal.returns

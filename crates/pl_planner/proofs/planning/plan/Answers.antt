@@ -1,6 +1,7 @@
 use Rattle.std.proofs.Common.{rules, arith, ◌≤◌, ◌<◌, ◌≡◌, ◌≤ℤ◌, pos, ap, ◌∙◌, FitsSigned, w64, subst, sym, length, List}
 use Rattle.std.proofs.lemmas.Int.{to_z-of_z}
 use Rattle.pl_terms.specs.Checked.{pipeline_of}
+use Rattle.pl_terms.specs.Uses.{outputs}
 use Rattle.pl_planner.specs.declared.uses.Use.{Use}
 use Rattle.pl_planner.specs.Rows.{most_extra}
 use Rattle.pl_planner.specs.Plans.{IsDeepest}
@@ -11,7 +12,8 @@ pub returns-then-rows-gt-MOST_ROWS-clause-fault : goal.returns-then-rows-gt-MOST
 returns-then-rows-gt-MOST_ROWS-clause-fault c =
     let e : c.most_extra-rows.result ≡ most_extra c.in-Ok-gather_rows.extras.items = c.most_extra-rows.ensures ∙ ap most_extra c.deref-2.ensures.value in
     let early : pos 0 ≤ℤ c.reach_of-reach.result = search rules in
-    let l = rw c.reach_of-reach.ensures at early in
+    let reached = (rw c.deref.ensures.value at c.reach_of-reach.ensures) (outputs (pipeline_of c.args.checked.now)) in
+    let l = rw (reached c.in-Ok.ensures.uses c.in-Ok.ensures.extras) at early in
     let deep : 4096 < c.most_extra-rows.result = c.if-rows-gt-MOST_ROWS.true in
     let d = deepest c.args.sessions.now (pipeline_of c.args.checked.now) c.are_asked.ensures.checked c.args.from c.args.to c.requires.order c.in-Ok-gather_rows.extras.items c.in-Ok-gather_rows.ensures (omega arith) in
     (l, subst (IsDeepest c.args.sessions.now (pipeline_of c.args.checked.now) c.args.from c.args.to) (sym e) d, deep)
@@ -22,13 +24,14 @@ invariant_of-result c =
     let few : most_extra c.in-Ok-gather_rows.extras.items ≤ 4096 = omega (arith, e, c.if-rows-gt-MOST_ROWS.false) in
     let early : pos 0 ≤ℤ c.reach_of-reach.result = search rules in
     let fit : FitsSigned w64 c.reach_of-reach.result = search rules in
+    let reached = (rw c.deref.ensures.value at c.reach_of-reach.ensures) (outputs (pipeline_of c.args.checked.now)) in
     let lent = c.deref-4.ensures.value in
     let slotted = rw lent at c.in-Ok-slot_terms.ensures.slotted in
     let long : length c.in-Ok-slot_terms.slots.items ≡ length c.in-Ok.uses.items = c.in-Ok-slot_terms.ensures.size ∙ ap (λ (l : List Use). length l) lent in
     rw (to_z-of_z w64 c.reach_of-reach.result fit)
     (limits c.args.sessions.now c.are_asked.ensures.days.ascend (pipeline_of c.args.checked.now) c.are_asked.ensures.checked c.in-Ok.uses.items c.in-Ok.ensures.uses c.in-Ok-slot_terms.slots.items slotted long c.args.from c.args.to c.requires.order c.requires.within
     c.in-Ok-gather_rows.extras.items c.in-Ok-gather_rows.ensures
-    c.reach_of-reach.result c.bound_of-bound.result c.reach_of-reach.ensures early c.bound_of-bound.ensures.value few c.are_asked.ensures.few c.bound_of-bound.ensures.few)
+    c.reach_of-reach.result c.bound_of-bound.result (reached c.in-Ok.ensures.uses c.in-Ok.ensures.extras) early c.bound_of-bound.ensures.value few c.are_asked.ensures.few c.bound_of-bound.ensures.few)
 
 pub returns-clause-plan : goal.returns-clause-plan
 returns-clause-plan c =
@@ -36,10 +39,11 @@ returns-clause-plan c =
     let few : most_extra c.in-Ok-gather_rows.extras.items ≤ 4096 = omega (arith, e, c.if-rows-gt-MOST_ROWS.false) in
     let early : pos 0 ≤ℤ c.reach_of-reach.result = search rules in
     let fit : FitsSigned w64 c.reach_of-reach.result = search rules in
+    let reached = (rw c.deref.ensures.value at c.reach_of-reach.ensures) (outputs (pipeline_of c.args.checked.now)) in
     let lent = c.deref-4.ensures.value in
     let slotted = rw lent at c.in-Ok-slot_terms.ensures.slotted in
     let long : length c.in-Ok-slot_terms.slots.items ≡ length c.in-Ok.uses.items = c.in-Ok-slot_terms.ensures.size ∙ ap (λ (l : List Use). length l) lent in
     rw (to_z-of_z w64 c.reach_of-reach.result fit)
     (is-plan c.args.sessions.now c.are_asked.ensures.days.ascend (pipeline_of c.args.checked.now) c.are_asked.ensures.checked c.in-Ok.uses.items c.in-Ok.ensures.uses c.in-Ok-slot_terms.slots.items slotted long c.args.from c.args.to c.requires.order c.requires.within
     c.in-Ok-gather_rows.extras.items c.in-Ok-gather_rows.ensures
-    c.reach_of-reach.result c.bound_of-bound.result c.reach_of-reach.ensures early c.bound_of-bound.ensures.value few)
+    c.reach_of-reach.result c.bound_of-bound.result (reached c.in-Ok.ensures.uses c.in-Ok.ensures.extras) early c.bound_of-bound.ensures.value few)

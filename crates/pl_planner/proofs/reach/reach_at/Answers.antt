@@ -1,15 +1,22 @@
-use Rattle.std.proofs.Common.{rules, arith, ◌≡◌, ◌<◌, ◌≤◌, ◌^◌, ◌-ℤ◌, pos, to_z, w64, FitsSigned}
-use Rattle.std.proofs.lemmas.Int.{to_z-of_z, to_z_pos}
+use Rattle.std.proofs.Common.{rules, arith, ◌∷◌, ◌∙◌, [], pos}
+use Rattle.pl_terms.specs.Nodes.{graph_of}
+use Rattle.pl_terms.proofs.Graphs.{graph-long}
+use Rattle.pl_planner.proofs.Lows.{reach-alone}
 use Rattle.pl_planner.proofs.reach.reach_at.Goals as goal
+
+pub gather-requires-clause-only : goal.gather-requires-clause-only
+gather-requires-clause-only c = omega (arith, c.requires.term, graph-long c.args.checked.now.graph)
+
+pub reach_of-requires : goal.reach_of-requires
+reach_of-requires c = rw c.deref.ensures.value (record {
+  asked = c.are_asked.ensures;
+  uses = record { outputs = c.args.t.0 ∷ []; are = c.in_ok-uses.ensures.uses; have = c.in_ok-uses.ensures.extras };
+  within = c.requires.session;
+})
 
 pub returns : goal.returns
 returns c =
-    let deepest = c.deepest_read-deepest.result in
-    let few : c.deepest_read-deepest.result ≤ 2 ^ 32 = c.deepest_read-deepest.ensures.few in
-    let most = c.are_asked.ensures.days.few in
-    let in_days = c.requires.session in
-    let inside : c.args.session < 16000 = omega arith in
-    let f1 : to_z w64 c.args.session ≡ pos c.args.session = to_z_pos w64 c.args.session (omega arith) in
-    let f2 : to_z w64 c.deepest_read-deepest.result ≡ pos c.deepest_read-deepest.result = to_z_pos w64 c.deepest_read-deepest.result (omega arith) in
-    let fit : FitsSigned w64 (pos c.args.session -ℤ pos c.deepest_read-deepest.result) = search rules in
-    rw (f1, f2, to_z-of_z w64 (pos c.args.session -ℤ pos c.deepest_read-deepest.result) fit) c.deepest_read-deepest.ensures.value
+    let reached = rw c.deref.ensures.value at c.reach_of.ensures in
+    let own = reached (c.args.t.0 ∷ []) c.in_ok-uses.ensures.uses c.in_ok-uses.ensures.extras
+    ∙ reach-alone c.args.sessions.now (graph_of c.args.checked.now.graph) c.args.t.0 (pos c.args.session) in
+    search (rules, own)

@@ -1,12 +1,13 @@
-use Rattle.std.proofs.Common.{◌≤◌, length}
+use Rattle.std.proofs.Common.{◌≤◌, length, option_map}
 use Rattle.pl_terms.specs.Checked.{pipeline_of}
-use Rattle.pl_terms.specs.Uses.{outputs}
+use Rattle.pl_terms.specs.Nodes.{number_of}
+use Rattle.pl_planner.specs.Asked.{wanted}
 use Rattle.pl_planner.proofs.Gathers.{AreGathered}
 use Rattle.pl_planner.proofs.uses.ask_down.Given as goal
 
 abbrev pub invariant-loop-k : goal.invariant-loop-k
 invariant-loop-k l = record {
-  gathered : AreGathered l.sessions l.session (pipeline_of l.checked).graph (outputs (pipeline_of l.checked)) l.k l.uses;
+  gathered : AreGathered l.sessions l.session (pipeline_of l.checked).graph (wanted (pipeline_of l.checked) (option_map number_of l.fn.only)) l.k l.uses;
   within : l.k ≤ length (pipeline_of l.checked).graph;
 }
 
