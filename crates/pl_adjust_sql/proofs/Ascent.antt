@@ -1,5 +1,5 @@
 -- No two ids are the same, wherever the rowids of the stored rows rise.
-use Rattle.std.proofs.Common.{◌≡◌, ◌∙◌, ◌<◌, ◌<ℤ◌, ◌≤ℤ◌, ℤ, ℕ, zero, suc, Bool, true, false, List, [], ◌∷◌, map, length, refl, sym, ap, subst, arith, slice_index_or, AllPairs}
+use Rattle.std.proofs.Common.{◌≡◌, ◌∙◌, ◌<◌, ◌<ℤ◌, ◌≤ℤ◌, ℤ, ℕ, Bool, true, false, List, [], ◌∷◌, map, length, refl, sym, ap, subst, arith, slice_index_or, AllPairs}
 use Rattle.std.specs.declared.cmp.Ordering.{Ordering}
 use Rattle.std.specs.declared.cmp.Ordering.TheVariants.{Less, Equal, Greater}
 use Rattle.std.specs.Ordering.{is_eq, ordering_reverse}
@@ -7,6 +7,7 @@ use Rattle.std.specs.List.{AllByRecursion, IsDistinct}
 use Rattle.std.specs.List.Sorted.{IsPermutation}
 use Rattle.std.proofs.lemmas.Int.{by_lt_z, ints}
 use Rattle.std.proofs.lemmas.Cmp.{tied_itself}
+use Rattle.std.proofs.lemmas.List.{get_or-map, length-map}
 use Rattle.std.proofs.lemmas.List.Sorted.{IsPermutation-map}
 use Rattle.std.proofs.lemmas.Map.Keys.{IsDistinct-IsPermutation, apart_from_distinct}
 use Rattle.sqlite_value.specs.Order.{Row, column, value_cmp}
@@ -43,13 +44,8 @@ rowids_differ more [] up = tt
 rowids_differ more (row ∷ rows) up = (below_all more row rows up.0, rowids_differ more rows up.1)
 
 id_at : (rows : List RawAdjust) (i : ℕ) (d : RawAdjust) (v : Value) → i < length rows → slice_index_or (map first (map row_of rows)) i v ≡ Int (slice_index_or rows i d).id
-id_at [] i d v within = absurd (omega arith)
-id_at (a ∷ rows) zero d v within = refl
-id_at (a ∷ rows) (suc i) d v within = id_at rows i d v (omega arith)
-
-count : (rows : List RawAdjust) → length (map first (map row_of rows)) ≡ length rows
-count [] = refl
-count (a ∷ rows) = ap suc (count rows)
+id_at rows i d v within =
+    get_or-map first (map row_of rows) i (row_of d) v (omega (arith, length-map rows row_of)) ∙ ap first (get_or-map row_of rows i d (row_of d) within)
 
 strictly : (a b : ℤ) → a ≤ℤ b → ties (Int a) (Int b) ≡ false → a <ℤ b
 strictly a b at_most apart =
@@ -63,7 +59,7 @@ pub ids_ascend : (more : List ℕ) (stored : List Row) (rows : List RawAdjust) �
 ids_ascend more stored rows same ascend up i j d below within =
     let moved = IsPermutation-map first (map (shown (0 ∷ more)) stored) (map row_of rows) same in
     let differ = IsDistinct-IsPermutation ties flips _ _ moved (rowids_differ more stored up) in
-    let counted = count rows in
+    let counted = length-map (map row_of rows) first ∙ length-map rows row_of in
     let here = id_at rows i d (Int d.id) (omega arith) in
     let there = id_at rows j d (Int d.id) within in
     let apart = apart_from_distinct ties (map first (map row_of rows)) i j (Int d.id) differ below (omega arith) in

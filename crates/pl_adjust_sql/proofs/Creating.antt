@@ -1,6 +1,6 @@
 -- What the statements that make the tables do to a schema.
 use Rattle.std.proofs.Common.{◌≡◌, ◌+◌, ◌∙◌, ◌⊎◌, inl, inr, ℕ, zero, suc, List, [], ◌∷◌, ◌++◌, length, slice_get, Bool, true, false, cond, None, Some, Option, Ok, Err, Result, refl, sym, ap, subst, arith, is_some, append_assoc}
-use Rattle.std.specs.Prelude.{◌||◌}
+use Rattle.std.specs.Prelude.{◌||◌, if◌then◌else◌}
 use Rattle.std.specs.Option.{option_or}
 use Rattle.std.specs.List.{position_from}
 use Rattle.std.proofs.lemmas.Bool.{cases_Bool}
@@ -52,51 +52,36 @@ module _ (s : Schema) (table : Table) (q : IsCreation table) where
   abbrev other : Bool
   other = is_some (index_named s q.def.name)
 
-  attached : is_attached s q.def.name ≡ true → compiled s (create_statement_of table) ≡ Err Unsupported
-  unfolding compiled planned compile.meaning compile.returning compile.command compile.create_table compile.timed
-  attached e = rw (q.parsed, q.is, q.bare.0, q.bare.1, e)
-
-  taken : is_attached s q.def.name ≡ false → other ≡ true → compiled s (create_statement_of table) ≡ Err Exists
+  -- it is refused where the name is not free, and else it makes the table
+  compiled_as : (b c d : Bool) → is_attached s q.def.name ≡ b → other ≡ c → same ≡ d
+      → compiled s (create_statement_of table) ≡ (if b then Err Unsupported else if c then Err Exists else if d then Err Exists else Ok (make q.p))
   unfolding compiled planned compile.meaning compile.returning compile.command compile.create_table compile.timed creates
-  taken e f = rw (q.parsed, q.is, q.bare.0, q.bare.1, e, q.new.1, f)
-
-  there : is_attached s q.def.name ≡ false → other ≡ false → same ≡ true → compiled s (create_statement_of table) ≡ Err Exists
-  unfolding compiled planned compile.meaning compile.returning compile.command compile.create_table compile.timed creates
-  there e f g = rw (q.parsed, q.is, q.bare.0, q.bare.1, e, q.new.1, f, g, q.new.0)
-
-  fresh : is_attached s q.def.name ≡ false → other ≡ false → same ≡ false → compiled s (create_statement_of table) ≡ Ok (make q.p)
-  unfolding compiled planned compile.meaning compile.returning compile.command compile.create_table compile.timed creates
-  fresh e f g = rw (q.parsed, q.is, q.bare.0, q.bare.1, e, q.new.1, f, g, q.table_is, q.new.2)
-
-  creation : (compiled s (create_statement_of table) ≡ Err Unsupported) ⊎ ((compiled s (create_statement_of table) ≡ Err Exists) ⊎ (compiled s (create_statement_of table) ≡ Ok (make q.p)))
-  creation = elim (cases_Bool (is_attached s q.def.name)) [
-    | inl e ↦ inl (attached e)
-    | inr e ↦ elim (cases_Bool other) [
-      | inl f ↦ inr (inl (taken e f))
-      | inr f ↦ elim (cases_Bool same) [ inl g ↦ inr (inl (there e f g)) | inr g ↦ inr (inr (fresh e f g)) ]
-    ]
-  ]
+  compiled_as true c d e f g = rw (q.parsed, q.is, q.bare.0, q.bare.1, e)
+  compiled_as false true d e f g = rw (q.parsed, q.is, q.bare.0, q.bare.1, e, q.new.1, f)
+  compiled_as false false true e f g = rw (q.parsed, q.is, q.bare.0, q.bare.1, e, q.new.1, f, g, q.new.0)
+  compiled_as false false false e f g = rw (q.parsed, q.is, q.bare.0, q.bare.1, e, q.new.1, f, g, q.table_is, q.new.2)
 
   -- a statement that is understood makes a table
   understood_as : (it : Compiled) → understood s (create_statement_of table) ≡ Ok it → understood s (create_statement_of table) ≡ Ok (make q.p)
-  understood_as it ok = elim creation [
-    | inl e ↦ absurd (let r = settled s _ _ e refl in let bad = sym r.0 ∙ ok in cc)
-    | inr (inl e) ↦ absurd (let r = settled s _ _ e refl in let bad = sym r.0 ∙ ok in cc)
-    | inr (inr e) ↦ (settled s _ _ e refl).0
-  ]
+  understood_as it ok = here _ _ _ (compiled_as _ _ _ refl refl refl)
+    where
+      here : (b c d : Bool) → compiled s (create_statement_of table) ≡ (if b then Err Unsupported else if c then Err Exists else if d then Err Exists else Ok (make q.p))
+          → understood s (create_statement_of table) ≡ Ok (make q.p)
+      here true c d e = absurd (let r = settled s _ _ e refl in let bad = sym r.0 ∙ ok in cc)
+      here false true d e = absurd (let r = settled s _ _ e refl in let bad = sym r.0 ∙ ok in cc)
+      here false false true e = absurd (let r = settled s _ _ e refl in let bad = sym r.0 ∙ ok in cc)
+      here false false false e = (settled s _ _ e refl).0
 
 pub creation_of : (table : Table) → IsCreation table
 unfolding everything
 creation_of Splits = record { p = _; parsed = refl; def = _; is = refl; bare = (refl, refl); new = (refl, refl, refl); table_is = refl; defined = refl }
-creation_of Mergers = record { p = _; parsed = refl; def = _; is = refl; bare = (refl, refl); new = (refl, refl, refl); table_is = refl; defined = refl }
-creation_of Dividends = record { p = _; parsed = refl; def = _; is = refl; bare = (refl, refl); new = (refl, refl, refl); table_is = refl; defined = refl }
+creation_of table = record { p = _; parsed = refl; def = _; is = refl; bare = (refl, refl); new = (refl, refl, refl); table_is = refl; defined = refl }
 
 -- the text that is kept is the whole statement
 whole : (table : Table) → statement_of (create_statement_of table) (Ok (make (creation_of table).p)) ≡ create_statement_of table
 unfolding creation_of everything
 whole Splits = refl
-whole Mergers = refl
-whole Dividends = refl
+whole table = refl
 
 -- ---- lists that get longer
 
@@ -187,8 +172,7 @@ grows table old new count h =
 pub has_its_name : (table : Table) → same_name (name_of table) (name_of table) ≡ true
 unfolding same_name
 has_its_name Splits = refl
-has_its_name Mergers = refl
-has_its_name Dividends = refl
+has_its_name table = refl
 
 pub are_placed : (table : Table) (tree : ℕ) → places_named (created_table table tree) columns ≡ Some created_places
 unfolding same_name

@@ -34,10 +34,10 @@ zipped (r ∷ rows) (t ∷ tables) all row (inr later) = let at = zipped rows ta
 abbrev Apart : Stored → Stored → Type 0
 Apart s t = same_name s.name t.name ≡ false
 
-apart_at : (s : Stored) (tables : List Stored) (i : ℕ) (t : Stored) → slice_get tables i ≡ Some t → AllByRecursion (Apart s) tables → Apart s t
-apart_at s [] i t at all = absurd cc
-apart_at s (x ∷ tables) zero t at all = let same : x ≡ t = cc in subst (Apart s) same all.0
-apart_at s (x ∷ tables) (suc i) t at all = apart_at s tables i t at all.1
+pub each_at : {X : Type 0} (P : X → Type 0) (xs : List X) (i : ℕ) (x : X) → slice_get xs i ≡ Some x → AllByRecursion P xs → P x
+each_at P [] i x at all = absurd cc
+each_at P (y ∷ xs) zero x at all = let same : y ≡ x = cc in subst P same all.0
+each_at P (y ∷ xs) (suc i) x at all = each_at P xs i x at all.1
 
 named_at : (name : List ℕ) → same_name name name ≡ true → (tables : List Stored) (i : ℕ) (t : Stored) (from : ℕ) → slice_get tables i ≡ Some t → t.name ≡ name → IsAscending Apart tables
     → position_from (λ (x : Stored). same_name x.name name) from tables ≡ Some (from + i)
@@ -48,7 +48,7 @@ named_at name itself (x ∷ tables) zero t from at is apart =
     let here : from ≡ from + 0 = omega arith in
     rw yes' (ap Some here)
 named_at name itself (x ∷ tables) (suc i) t from at is apart =
-    let no' : same_name x.name name ≡ false = subst (λ n. same_name x.name n ≡ false) is (apart_at x tables i t at apart.0) in
+    let no' : same_name x.name name ≡ false = subst (λ n. same_name x.name n ≡ false) is (each_at (Apart x) tables i t at apart.0) in
     let there : from + 1 + i ≡ from + suc i = omega arith in
     rw no' (named_at name itself tables i t (from + 1) at is apart.1 ∙ ap Some there)
 

@@ -1,6 +1,5 @@
 -- The rows of a table rise by their rowids.
-use Rattle.std.proofs.Common.{◌≡◌, ℕ, zero, suc, Bool, true, false, IsTrue, List, [], ◌∷◌, slice_get, Some, refl, subst}
-use Rattle.std.specs.List.{AllByRecursion}
+use Rattle.std.proofs.Common.{◌≡◌, ℕ, Bool, true, false, IsTrue, slice_get, Some, refl, subst}
 use Rattle.sqlite.specs.Schema.{Schema}
 use Rattle.sqlite.specs.Table.{Table as Stored}
 use Rattle.sqlite_trees.specs.declared.store.Shape.{Shape}
@@ -10,18 +9,14 @@ use Rattle.sqlite_trees.specs.Objects.{catalog_tree, IsListed}
 use Rattle.sqlite_trees.specs.View.{View, IsOrdered, IsShaped}
 use Rattle.sqlite_catalog.specs.Listing.{IsSound}
 use Rattle.sqlite_catalog.proofs.LayoutLemmas.{laid_out, objects_rise}
-
-shaped_at : (shapes : ℕ → Shape) (tables : List Stored) (at : ℕ) (t : Stored) → slice_get tables at ≡ Some t → AllByRecursion (λ x. shapes x.tree ≡ shape.Table) tables → shapes t.tree ≡ shape.Table
-shaped_at shapes [] at t is all = absurd cc
-shaped_at shapes (x ∷ tables) zero t is all = let same : x ≡ t = cc in subst (λ (y : Stored). shapes y.tree ≡ shape.Table) same all.0
-shaped_at shapes (x ∷ tables) (suc at) t is all = shaped_at shapes tables at t is all.1
+use Rattle.pl_adjust_sql.proofs.Listing.{each_at}
 
 -- as the store keeps them while the transaction isn't broken
 pub rows_rise : (v : View) (schema : Schema) → IsSound schema v.trees → IsListed (v.trees catalog_tree) v.shape v.reals → IsOrdered v.shape v.trees
     → (at : ℕ) (t : Stored) → slice_get schema.tables at ≡ Some t → IsTable (v.trees t.tree)
 rows_rise v schema sound listed ordered at t is =
     let laid = laid_out listed (objects_rise v listed ordered) sound.lists.listed in
-    let shaped = shaped_at v.shape schema.tables at t is laid.tables in
+    let shaped = each_at (λ (x : Stored). v.shape x.tree ≡ shape.Table) schema.tables at t is laid.tables in
     (subst (λ (s : Shape). IsShaped s (v.trees t.tree)) shaped (ordered t.tree)).0
 
 -- a store that isn't broken is open

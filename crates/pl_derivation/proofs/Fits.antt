@@ -1,9 +1,9 @@
 -- The premises of a fact that may stand in a derivation may stand in it too, and are of a lower depth.
-use Rattle.std.proofs.Common.{◌≡◌, ℕ, zero, suc, ◌<◌, ◌≤◌, Bool, true, false, if◌then◌else◌, cond, ℤ, pos, negsuc, ◌≤ℤ◌, ◌<ℤ◌, List, [], ◌∷◌, ◌++◌, length, map, filter, filter_map, Option, Some, None, option_map, unwrap_or, option_to_list, refl, arith, slice_get, ◌==◌}
+use Rattle.std.proofs.Common.{◌≡◌, ℕ, zero, suc, ◌<◌, ◌≤◌, Bool, true, false, if◌then◌else◌, cond, ℤ, pos, negsuc, ◌≤ℤ◌, ◌<ℤ◌, List, [], ◌∷◌, ◌++◌, length, map, filter, filter_map, Option, Some, None, option_map, unwrap_or, option_to_list, refl, arith, slice_get, get_or, ◌==◌}
 use Rattle.std.specs.List.{list_any}
 use Rattle.std.proofs.lemmas.Int.{ints}
 use Rattle.std.proofs.lemmas.Bool.{or_left, or_right, and_from, and_parts, eq-eqb}
-use Rattle.std.proofs.lemmas.Option.{slice_get_within}
+use Rattle.std.proofs.lemmas.Option.{slice_get_within, slice_get-get_or}
 use Rattle.pl_spec.specs.declared.Column.{Column}
 use Rattle.pl_spec.specs.declared.AssetRow.{AssetRow}
 use Rattle.pl_spec.specs.declared.Frequency.{Frequency}
@@ -40,6 +40,10 @@ use Rattle.pl_derivation.specs.Walks.{depth_of}
 abbrev pub HasSessions : Graph → Type 0
 HasSessions g = (k : ℕ) (n : Node) → slice_get g k ≡ Some n → 1 ≤ n.window
 
+-- three lists, one after the other
+three_each : {X : Type 0} (P : X → Type 0) (xs ys zs : List X) → Each P xs → Each P ys → Each P zs → Each P (xs ++ ys ++ zs)
+three_each P xs ys zs x y z = each_both P (xs ++ ys) zs (each_both P xs ys x y) z
+
 each_downward : (P : ℕ → Type 0) (size : ℕ) → ((n : ℕ) → n < size → P n) → Each P (downward size)
 each_downward P zero h = tt
 each_downward P (suc size) h = (h size (omega arith), each_downward P size (λ n l. h n (omega arith)))
@@ -74,11 +78,7 @@ abbrev pub IsSession : World → ℤ → Type 0
 IsSession w d = (n : ℕ) × (day : ℤ) × (d ≡ pos n) × (day_of w (pos n) ≡ Some day)
 
 get_before : {X : Type 0} (xs : List X) (m n : ℕ) (x : X) → m ≤ n → slice_get xs n ≡ Some x → (y : X) × (slice_get xs m ≡ Some y)
-get_before {X} xs m n x l e = found (slice_get xs m) refl
-  where
-    found : (o : Option X) → slice_get xs m ≡ o → (y : X) × (slice_get xs m ≡ Some y)
-    found None f = let within : n < length xs = slice_get_within xs n x e in absurd (past xs m (omega arith) f)
-    found (Some y) f = (y, f)
+get_before xs m n x l e = let within = slice_get_within xs n x e in (get_or xs m x, slice_get-get_or xs m x (omega arith))
 
 pub session_before : (w : World) (s d : ℤ) → IsSession w d → pos 0 ≤ℤ s → s ≤ℤ d → IsSession w s
 session_before w (pos m) d h low l =
@@ -251,27 +251,22 @@ module _ (w : World) (p : Pipeline) (ok : IsGraph p.graph) (windows : HasSession
     inputs_ready : (s d : ℤ) → IsSession w s → Reached s d → (a : ℕ) → has_sid w a ≡ true → Each (Ready (suc k)) (over_inputs (facts_now a s) n)
     inputs_ready s d now far a sid =
         let some : 1 ≤ n.window = windows k n at in
-        each_both (Ready (suc k)) (facts_now a s (slice_get n.inputs 0) ++ facts_now a s (slice_get n.inputs 1)) (facts_now a s (slice_get n.inputs 2))
-        (each_both (Ready (suc k)) (facts_now a s (slice_get n.inputs 0)) (facts_now a s (slice_get n.inputs 1))
-        (now_ready a s sid now 0 n.window some far.first) (now_ready a s sid now 1 n.window some far.second))
-        (now_ready a s sid now 2 n.window some far.third)
+        three_each (Ready (suc k)) (facts_now a s (slice_get n.inputs 0)) (facts_now a s (slice_get n.inputs 1)) (facts_now a s (slice_get n.inputs 2))
+        (now_ready a s sid now 0 n.window some far.first) (now_ready a s sid now 1 n.window some far.second) (now_ready a s sid now 2 n.window some far.third)
 
     module _ (d : ℤ) (now : IsSession w d) where
       windows_ready : Reached d d → (a : ℕ) → has_sid w a ≡ true → Each (Ready (suc k)) (over_inputs (window_facts n.window a d) n)
       windows_ready far a sid =
-          each_both (Ready (suc k)) (window_facts n.window a d (slice_get n.inputs 0) ++ window_facts n.window a d (slice_get n.inputs 1)) (window_facts n.window a d (slice_get n.inputs 2))
-          (each_both (Ready (suc k)) (window_facts n.window a d (slice_get n.inputs 0)) (window_facts n.window a d (slice_get n.inputs 1))
-          (window_ready a d sid now 0 n.window far.first) (window_ready a d sid now 1 n.window far.second))
-          (window_ready a d sid now 2 n.window far.third)
+          three_each (Ready (suc k)) (window_facts n.window a d (slice_get n.inputs 0)) (window_facts n.window a d (slice_get n.inputs 1)) (window_facts n.window a d (slice_get n.inputs 2))
+          (window_ready a d sid now 0 n.window far.first) (window_ready a d sid now 1 n.window far.second) (window_ready a d sid now 2 n.window far.third)
 
       mask_ready : (s : ℤ) → Reached s d → (a : ℕ) → has_sid w a ≡ true → Each (Ready (suc k)) (number_facts a d n.mask)
       mask_ready s far a sid = number_ready a d sid now n.mask mask_lower far.mask
 
       entry_ready : Reached d d → (a : ℕ) → has_sid w a ≡ true → Each (Ready (suc k)) (entry_facts n d a)
       entry_ready far a sid =
-          each_both (Ready (suc k)) (number_facts a d n.mask ++ number_facts a d n.group) (over_inputs (facts_now a d) n)
-          (each_both (Ready (suc k)) (number_facts a d n.mask) (number_facts a d n.group) (mask_ready d far a sid) (number_ready a d sid now n.group group_lower far.group))
-          (inputs_ready d d now far a sid)
+          three_each (Ready (suc k)) (number_facts a d n.mask) (number_facts a d n.group) (over_inputs (facts_now a d) n)
+          (mask_ready d far a sid) (number_ready a d sid now n.group group_lower far.group) (inputs_ready d d now far a sid)
 
       start_session : (f : Frequency) → IsSession w (period_start f w.days d)
       start_session f =

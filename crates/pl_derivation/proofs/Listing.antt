@@ -4,8 +4,9 @@ use Rattle.std.proofs.lemmas.List.{map-append}
 use Rattle.std.proofs.lemmas.Bool.Decides.{nat_tests}
 use Rattle.std.proofs.Math.Numerals.{suc-eq-add-one}
 use Rattle.pl_spec.specs.Limits.{most_lines}
+use Rattle.pl_spec.proofs.Each.{each_both}
 use Rattle.pl_derivation.specs.Lines.{Line}
-use Rattle.pl_derivation.specs.Texts.{Broken, pieces, line_in, with_line, line_judged, lines_from, lines_in, IsWritable, AreWritable}
+use Rattle.pl_derivation.specs.Texts.{Broken, pieces, line_in, with_line, line_judged, lines_from, lines_in, IsWritable}
 use Rattle.pl_derivation.specs.Texts.Broken.{BadLine, TooMany}
 use Rattle.pl_derivation.specs.declared.line.Line as code
 use Rattle.pl_derivation.specs.Listed.{line_of}
@@ -34,10 +35,6 @@ from_more n piece (q ∷ qs) h = refl
 line_stated : (ls : List Line) (l : Line) (r : Result (List Line) Broken) → lines_stated ls (with_line l r) ≡ lines_stated (ls ++ l ∷ []) r
 line_stated ls l (Ok more) = ap Ok (sym (append_assoc ls (l ∷ []) more))
 line_stated ls l (Err e) = refl
-
-pub writable_more : (ls : List Line) (l : Line) → AreWritable ls → IsWritable l → AreWritable (ls ++ l ∷ [])
-writable_more [] l h i = (i, tt)
-writable_more (m ∷ ls) l h i = (h.0, writable_more ls l h.1 i)
 
 module _ (bytes : List ℕ) (ls : List Line) (n : ℕ) (left : List ℕ) (stated : lines_in bytes ≡ lines_stated ls (lines_from (suc n) (pieces 10 left))) where
   pub no_end : 0 < length left → position (λ b. b == 10) left ≡ None → lines_in bytes ≡ Err (BadLine (n + 1))
@@ -84,5 +81,5 @@ loop_more bytes items left h end at line e other =
     record {
       stated = rw (lines, count) (one_more bytes (map line_of items) (length items) left h.stated end at (line_of line) e (omega (arith, other)));
       few = rw count (omega (arith, other));
-      writable = rw lines (writable_more (map line_of items) (line_of line) h.writable (line_said (take end left) (line_of line) (sym e)).0);
+      writable = rw lines (each_both IsWritable (map line_of items) (line_of line ∷ []) h.writable ((line_said (take end left) (line_of line) (sym e)).0, tt));
     }

@@ -103,9 +103,6 @@ something_said [] x none h e = here (plain_said [] x (λ z. omega arith) h e)
         omega arith
 something_said (c ∷ cs) x none h e = omega arith
 
-pub none_some : (o : Option ℕ) (n : ℕ) → o ≡ None → o ≡ Some n → ⊥
-none_some o n e f = let bad : None ≡ Some n = sym e ∙ f in cc
-
 pub one_answer : (o : Option ℕ) (m n : ℕ) → o ≡ Some m → o ≡ Some n → m ≡ n
 one_answer o m n e f = let same : Some m ≡ Some n = sym e ∙ f in cc
 

@@ -1,23 +1,16 @@
 -- Fields that are put one after the other are the text of a line.
-use Rattle.std.proofs.Common.{◌≡◌, ℕ, zero, suc, ℤ, pos, List, [], ◌∷◌, ◌++◌, map, Some, None, codes, refl, sym, ◌∙◌, ap, append_assoc, append-nil, slice_get, take, length, ◌<◌, ◌+◌, subst, arith, fold, get_or}
+use Rattle.std.proofs.Common.{◌≡◌, ℕ, ℤ, pos, List, [], ◌∷◌, ◌++◌, map, Some, codes, refl, sym, ◌∙◌, ap, append_assoc, append-nil, slice_get, take, length, ◌<◌, ◌+◌, fold, get_or}
 use Rattle.std.proofs.lemmas.Grind.{flat_map-append}
 use Rattle.std.specs.List.{flat_map, join_by}
 use Rattle.std.proofs.lemmas.List.Folds.{flat_map-map}
-use Rattle.std.proofs.lemmas.Option.{slice_get-map, slice_get_read}
+use Rattle.std.proofs.lemmas.Option.{slice_get-map, slice_get_read, slice_get_within, get_or_from_slice_get}
 use Rattle.std.proofs.lemmas.List.{length-map, flat_map_more, take_more}
 use Rattle.pl_spec.specs.Dates.{date_text}
 use Rattle.pl_derivation.specs.declared.line.Line as code
 use Rattle.pl_derivation.specs.Listed.{line_of}
 use Rattle.pl_derivation.specs.Lines.{Line}
-use Rattle.pl_derivation.specs.Texts.{number_text, body_of, text_of, IsWritable, AreWritable}
-
-pub writable_at : (ls : List Line) → AreWritable ls → (i : ℕ) (l : Line) → slice_get ls i ≡ Some l → IsWritable l
-writable_at [] h i l e = absurd (let bad : None ≡ Some l = e in cc)
-writable_at (m ∷ ls) h zero l e = let same : m ≡ l = cc in subst IsWritable same h.0
-writable_at (m ∷ ls) h (suc i) l e = writable_at ls h.1 i l e
-
-abbrev behind : List (List ℕ) → List ℕ
-behind fs = flat_map (λ y. (32 ∷ []) ++ y) fs
+use Rattle.pl_derivation.specs.Texts.{number_text, body_of, text_of}
+use Rattle.pl_derivation.proofs.TextsRead.{behind}
 
 one_by_one : (b : List ℕ) (fs : List (List ℕ)) → fold (λ bytes f. bytes ++ ((32 ∷ []) ++ f)) b fs ≡ b ++ behind fs
 one_by_one b [] = sym (append-nil b)
@@ -56,10 +49,9 @@ unfolding text_of
 text_more [] l = append-nil (body_of l ++ 10 ∷ [])
 text_more (m ∷ ls) l = ap (λ t. (body_of m ++ 10 ∷ []) ++ t) (text_more ls l) ∙ sym (append_assoc (body_of m ++ 10 ∷ []) (text_of ls) (body_of l ++ 10 ∷ []))
 
-lines_more : (ls : List Line) (i : ℕ) (l : Line) → slice_get ls i ≡ Some l → take (i + 1) ls ≡ take i ls ++ l ∷ []
-lines_more [] i l e = absurd (let bad : None ≡ Some l = e in cc)
-lines_more (m ∷ ls) zero l e = let same : m ≡ l = cc in rw same refl
-lines_more (m ∷ ls) (suc i) l e = let next : suc i + 1 ≡ suc (i + 1) = omega arith in rw next (ap (λ r. m ∷ r) (lines_more ls i l e))
+-- the lines up to one
+pub lines_more : (ls : List Line) (i : ℕ) (l : Line) → slice_get ls i ≡ Some l → take (i + 1) ls ≡ take i ls ++ l ∷ []
+lines_more ls i l e = take_more ls i l (slice_get_within ls i l e) ∙ ap (λ x. take i ls ++ x ∷ []) (get_or_from_slice_get ls i l l e)
 
 pub text_next : (ls : List Line) (i : ℕ) (l : Line) → slice_get ls i ≡ Some l → text_of (take (i + 1) ls) ≡ text_of (take i ls) ++ (body_of l ++ 10 ∷ [])
 text_next ls i l e = rw (lines_more ls i l e) (text_more (take i ls) l)

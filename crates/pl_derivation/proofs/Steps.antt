@@ -21,6 +21,11 @@ use Rattle.pl_spec.proofs.Each.{Each, each_front, each_back, each_of_map, each_o
 pub before-twice : (d : ℤ) (n : ℕ) → before (before d n) 1 ≡ before d (suc n)
 before-twice d n = omega (arith, ints)
 
+each_three : {X : Type 0} (P : X → Type 0) (xs ys zs : List X) → Each P (xs ++ ys ++ zs) → Each P xs × Each P ys × Each P zs
+each_three P xs ys zs h =
+    let front = each_front P (xs ++ ys) zs h in
+    (each_front P xs ys front, each_back P xs ys front, each_back P (xs ++ ys) zs h)
+
 module _ (w : World) (p : Pipeline) (r q : Reading) where
   abbrev Same : Fact → Type 0
   Same f = r f ≡ q f
@@ -58,53 +63,38 @@ module _ (w : World) (p : Pipeline) (r q : Reading) where
     abbrev stepped : Reading → Kind → Value
     stepped s k = kind_value w p.names k n.window (operands_read w p s k n d) a d
 
-    fronts : (f : Option Input → List Fact) → Each Same (over_inputs f n) → Each Same (f (input 0) ++ f (input 1))
-    fronts f h = each_front Same (f (input 0) ++ f (input 1)) (f (input 2)) h
+    -- the facts of the inputs, and those of an entry, list by list
+    parts : (f : Option Input → List Fact) → Each Same (over_inputs f n) → Each Same (f (input 0)) × Each Same (f (input 1)) × Each Same (f (input 2))
+    parts f h = each_three Same (f (input 0)) (f (input 1)) (f (input 2)) h
 
-    firsts : (f : Option Input → List Fact) → Each Same (over_inputs f n) → Each Same (f (input 0))
-    firsts f h = each_front Same (f (input 0)) (f (input 1)) (fronts f h)
-
-    seconds : (f : Option Input → List Fact) → Each Same (over_inputs f n) → Each Same (f (input 1))
-    seconds f h = each_back Same (f (input 0)) (f (input 1)) (fronts f h)
-
-    thirds : (f : Option Input → List Fact) → Each Same (over_inputs f n) → Each Same (f (input 2))
-    thirds f h = each_back Same (f (input 0) ++ f (input 1)) (f (input 2)) h
-
-    numbers : (b : ℕ) → Each Same (entry_facts n d b) → Each Same (number_facts b d n.mask ++ number_facts b d n.group)
-    numbers b h = each_front Same (number_facts b d n.mask ++ number_facts b d n.group) (over_inputs (facts_now b d) n) h
-
-    masks : (b : ℕ) → Each Same (entry_facts n d b) → Each Same (number_facts b d n.mask)
-    masks b h = each_front Same (number_facts b d n.mask) (number_facts b d n.group) (numbers b h)
-
-    groups : (b : ℕ) → Each Same (entry_facts n d b) → Each Same (number_facts b d n.group)
-    groups b h = each_back Same (number_facts b d n.mask) (number_facts b d n.group) (numbers b h)
-
-    entries : (b : ℕ) → Each Same (entry_facts n d b) → Each Same (facts_now b d (input 0))
-    entries b h = firsts (facts_now b d) (each_back Same (number_facts b d n.mask ++ number_facts b d n.group) (over_inputs (facts_now b d) n) h)
+    entries : (b : ℕ) → Each Same (entry_facts n d b) → Each Same (number_facts b d n.mask) × Each Same (number_facts b d n.group) × Each Same (over_inputs (facts_now b d) n)
+    entries b h = each_three Same (number_facts b d n.mask) (number_facts b d n.group) (over_inputs (facts_now b d) n) h
 
     entry_alike : (k : CrossKind) (b : ℕ) → Each Same (entry_facts n d b) → AlikeEntry (operands_read w p r (Cross k) n d) (operands_read w p q (Cross k) n d) b d
-    entry_alike k b h = record {
-      first = input_alike (Cross k) (λ s e c. refl) b d d (input 0) (entries b h);
-      mask = number_alike b d n.mask (masks b h);
-      group = number_alike b d n.group (groups b h);
-    }
+    entry_alike k b h =
+        let all = entries b h in
+        record {
+          first = input_alike (Cross k) (λ s e c. refl) b d d (input 0) (parts (facts_now b d) all.2).0;
+          mask = number_alike b d n.mask all.0;
+          group = number_alike b d n.group all.1;
+        }
 
     step_same : (k : Kind) → exists w a d ≡ true → Each Same (kind_facts w n k a d) → stepped r k ≡ stepped q k
     unfolding kind_value
     step_same (Window k) e h =
         rw (
-          window_alike k n.window a d (input 0) (firsts (window_facts n.window a d) h),
-          window_alike k n.window a d (input 1) (seconds (window_facts n.window a d) h),
-          window_alike k n.window a d (input 2) (thirds (window_facts n.window a d) h),
+          window_alike k n.window a d (input 0) (parts (window_facts n.window a d) h).0,
+          window_alike k n.window a d (input 1) (parts (window_facts n.window a d) h).1,
+          window_alike k n.window a d (input 2) (parts (window_facts n.window a d) h).2,
         ) refl
     step_same (Point k) e h =
         rw (
-          (input_alike (Point k) (λ s e c. refl) a d d (input 0) (firsts (facts_now a d) h)).value,
-          (input_alike (Point k) (λ s e c. refl) a d d (input 1) (seconds (facts_now a d) h)).value,
-          (input_alike (Point k) (λ s e c. refl) a d d (input 2) (thirds (facts_now a d) h)).value,
+          (input_alike (Point k) (λ s e c. refl) a d d (input 0) (parts (facts_now a d) h).0).value,
+          (input_alike (Point k) (λ s e c. refl) a d d (input 1) (parts (facts_now a d) h).1).value,
+          (input_alike (Point k) (λ s e c. refl) a d d (input 2) (parts (facts_now a d) h).2).value,
         ) refl
     step_same (LabelTest k) e h =
-        rw (input_alike (LabelTest k) (λ s e c. refl) a d d (input 0) (firsts (facts_now a d) h)).value refl
+        rw (input_alike (LabelTest k) (λ s e c. refl) a d d (input 0) (parts (facts_now a d) h).0).value refl
     step_same (Cross k) e h =
         let each : Each (λ b. AlikeEntry (operands_read w p r (Cross k) n d) (operands_read w p q (Cross k) n d) b d) (living_sids w d)
         = each_more _ _ (living_sids w d) (entry_alike k) (each_of_flat Same (entry_facts n d) (living_sids w d) h) in
@@ -112,7 +102,7 @@ module _ (w : World) (p : Pipeline) (r q : Reading) where
         rw (eligible_alike w w k _ _ a d own refl each, own.first.value) refl
     step_same (Downsample f) e h =
         let start : ℤ = period_start f w.days d in
-        (input_alike (Downsample f) (λ s e c. refl) a start d (input 0) (firsts (facts_now a start) h)).value
+        (input_alike (Downsample f) (λ s e c. refl) a start d (input 0) (parts (facts_now a start) h).0).value
     step_same k e h = refl
 
     node_same : (t : ℕ) → Each Same (node_facts w p r n a d) → (node_facts w p r n a d ≡ node_facts w p q n a d) × (node_read w p r t n a d ≡ node_read w p q t n a d)

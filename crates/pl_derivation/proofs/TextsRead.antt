@@ -37,7 +37,7 @@ pieces_one : (b : ℕ) (f : List ℕ) → Without b f → pieces b f ≡ f ∷ [
 pieces_one b [] h = refl
 pieces_one b (x ∷ xs) h = let other : (x == b) ≡ false = h.0 in rw (other, pieces_one b xs h.1) refl
 
-abbrev behind : List (List ℕ) → List ℕ
+abbrev pub behind : List (List ℕ) → List ℕ
 behind fs = flat_map (λ y. (32 ∷ []) ++ y) fs
 
 pieces_joined : (f : List ℕ) (fs : List (List ℕ)) → Without 32 f → Each (Without 32) fs → pieces 32 (f ++ behind fs) ≡ f ∷ fs
@@ -104,8 +104,7 @@ column_plain Close = literal_plain (codes "close") refl
 column_plain Volume = literal_plain (codes "volume") refl
 
 numbers_plain : (xs : List ℤ) → AreCells xs → Each Plain (map number_text xs)
-numbers_plain [] h = tt
-numbers_plain (x ∷ xs) h = (number_plain x h.0, numbers_plain xs h.1)
+numbers_plain xs h = each_in_map Plain number_text xs (each_more IsCell _ xs number_plain h)
 
 sid_plain : (n : ℕ) → n < 2 ^ 32 → Plain (decimal n)
 sid_plain n h = decimal_plain n (omega arith)

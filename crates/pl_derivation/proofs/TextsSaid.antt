@@ -45,11 +45,11 @@ together b (x ∷ xs) = step (x == b) refl (pieces b xs) (some_piece b xs) (toge
 
 -- ---- fields
 
-then_some : {X Y : Type 0} (f : X → Option Y) (o : Option X) (y : Y) → option_and_then f o ≡ Some y → (x : X) × (o ≡ Some x) × (f x ≡ Some y)
+pub then_some : {X Y : Type 0} (f : X → Option Y) (o : Option X) (y : Y) → option_and_then f o ≡ Some y → (x : X) × (o ≡ Some x) × (f x ≡ Some y)
 then_some f None y h = absurd (let bad : None ≡ Some y = h in cc)
 then_some f (Some x) y h = (x, refl, h)
 
-map_some : {X Y : Type 0} (f : X → Y) (o : Option X) (y : Y) → option_map f o ≡ Some y → (x : X) × (o ≡ Some x) × (y ≡ f x)
+pub map_some : {X Y : Type 0} (f : X → Y) (o : Option X) (y : Y) → option_map f o ≡ Some y → (x : X) × (o ≡ Some x) × (y ≡ f x)
 map_some f None y h = absurd (let bad : None ≡ Some y = h in cc)
 map_some f (Some x) y h = let same : Some (f x) ≡ Some y = h in (x, refl, cc)
 

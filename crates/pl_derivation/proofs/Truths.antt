@@ -1,8 +1,9 @@
 -- Where no line is wrong, each states the number that the world has.
 use Rattle.std.proofs.Common.{◌≡◌, ℕ, suc, ◌+◌, Bool, true, false, ◌&&◌, ℤ, pos, List, [], ◌∷◌, ◌++◌, length, append_assoc, append-nil, arith, fold, get_or, Option, Some, None, option_map, refl, sym, ◌∙◌, ap, slice_get, ◌==◌, inl, inr}
 use Rattle.std.specs.List.{list_any, list_all}
-use Rattle.std.specs.Option.{option_and_then, option_eq, option_to_list}
+use Rattle.std.specs.Option.{option_eq, option_to_list}
 use Rattle.std.specs.Ordering.{int_eq}
+use Rattle.std.specs.Cmp.{both_ways}
 use Rattle.std.specs.Cmp.Lexicographic.{pointwise}
 use Rattle.std.proofs.lemmas.Bool.{true≢false, or_cases, and_parts, eqb-true, eq-eqb}
 use Rattle.std.proofs.lemmas.Bool.Decides.{Decides-int_eq}
@@ -25,6 +26,7 @@ use Rattle.pl_spec.proofs.Each.{Each, each_both, each_more, each_list_all, each_
 use Rattle.pl_spec.proofs.Signed.{int_eq-true, int_eq-itself}
 use Rattle.pl_spec.proofs.Columns.{column_number-one}
 use Rattle.pl_derivation.proofs.Finding.{place_found}
+use Rattle.pl_derivation.proofs.TextsSaid.{then_some, map_some}
 use Rattle.pl_derivation.proofs.Steps.{fact_same}
 use Rattle.pl_derivation.proofs.Codes.{step_true}
 
@@ -57,6 +59,9 @@ same_is (TermValue t a d) (Seen c' a' s' d') h = absurd (true≢false (sym h))
 pub is_same : (f : Fact) → same_fact f f ≡ true
 is_same (Seen c a s d) = rw (nat_same (column_number c), nat_same a, int_eq-itself s, int_eq-itself d) refl
 is_same (TermValue t a d) = rw (nat_same t, nat_same a, int_eq-itself d) refl
+
+pub same_turned : (f g : Fact) → same_fact f g ≡ same_fact g f
+same_turned f g = both_ways _ _ (λ e. ap (same_fact g) (same_is f g e) ∙ is_same g) (λ e. ap (same_fact f) (same_is g f e) ∙ is_same f)
 
 -- ---- days of records
 
@@ -91,16 +96,6 @@ session_is w day s e =
     let place = place_found (λ x. int_eq x day) w.days s (pos 0) e in
     let same : get_or w.days s (pos 0) ≡ day = int_eq-true (get_or w.days s (pos 0)) day place.1 in
     slice_get-get_or w.days s (pos 0) place.0 ∙ ap Some same
-
-seen_sessions : (c : Column) (a : ℕ) (f : Fact) (o q : Option ℕ) → option_and_then (λ s. option_map (λ d. Seen c a (pos s) (pos d)) q) o ≡ Some f
-    → (s : ℕ) × (d : ℕ) × (o ≡ Some s) × (q ≡ Some d) × (f ≡ Seen c a (pos s) (pos d))
-seen_sessions c a f None q h = absurd (let bad : None ≡ Some f = h in cc)
-seen_sessions c a f (Some s) None h = absurd (let bad : None ≡ Some f = h in cc)
-seen_sessions c a f (Some s) (Some d) h = let same : Some (Seen c a (pos s) (pos d)) ≡ Some f = h in (s, d, refl, refl, cc)
-
-value_session : (t a : ℕ) (f : Fact) (q : Option ℕ) → option_map (λ d. TermValue t a (pos d)) q ≡ Some f → (d : ℕ) × (q ≡ Some d) × (f ≡ TermValue t a (pos d))
-value_session t a f None h = absurd (let bad : None ≡ Some f = h in cc)
-value_session t a f (Some d) h = let same : Some (TermValue t a (pos d)) ≡ Some f = h in (d, refl, cc)
 
 -- ---- the cells of a bar
 
@@ -199,15 +194,16 @@ module _ (w : World) (p : Pipeline) where
       where
         true_line : (l : Line) (f : Fact) → fact_of w l ≡ Some f → is_right_about w p lines l (Some f) ≡ true → number_stated l ≡ number_in w p f → IsTrueLine w p l
         true_line (SeenLine c a bar day cells) f i e n =
-            let at = seen_sessions c a f (session_of w bar) (session_of w day) i in
-            let fact : f ≡ Seen c a (pos at.0) (pos at.1) = at.4 in
+            let first = then_some _ (session_of w bar) f i in
+            let last = map_some _ (session_of w day) f first.2 in
+            let fact : f ≡ Seen c a (pos first.0) (pos last.0) = last.2 in
             let parts = and3 (is_fitting w p f) (list_all (is_stated w lines) (premises w p (reading_of w lines) f)) (states_step w p (reading_of w lines) (SeenLine c a bar day cells) f) e in
-            let stated : pointwise int_eq cells (seen_cells w a c (pos at.0) (pos at.1)) ≡ true = rw fact at parts.2 in
-            let same : cells ≡ seen_cells w a c (pos at.0) (pos at.1) = (slice_eq-Decides Decides-int_eq cells (seen_cells w a c (pos at.0) (pos at.1)) _ refl).0 stated in
-            let ends : (front : List ℤ) × (seen_cells w a c (pos at.0) (pos at.1) ≡ front ++ seen_cell w a c (pos at.0) (pos at.1) ∷ []) = seen_ends w a c (pos at.0) (pos at.1) in
-            (at.0, at.1, session_is w bar at.0 at.2, session_is w day at.1 at.3, ends.0, same ∙ ends.1)
+            let stated : pointwise int_eq cells (seen_cells w a c (pos first.0) (pos last.0)) ≡ true = rw fact at parts.2 in
+            let same : cells ≡ seen_cells w a c (pos first.0) (pos last.0) = (slice_eq-Decides Decides-int_eq cells (seen_cells w a c (pos first.0) (pos last.0)) _ refl).0 stated in
+            let ends : (front : List ℤ) × (seen_cells w a c (pos first.0) (pos last.0) ≡ front ++ seen_cell w a c (pos first.0) (pos last.0) ∷ []) = seen_ends w a c (pos first.0) (pos last.0) in
+            (first.0, last.0, session_is w bar first.0 first.1, session_is w day last.0 last.1, ends.0, same ∙ ends.1)
         true_line (ValueLine t a day v known) f i e n =
-            let at = value_session t a f (session_of w day) i in
+            let at = map_some _ (session_of w day) f i in
             let fact : f ≡ TermValue t a (pos at.0) = at.2 in
             let r : Reading = reading_of w lines in
             let parts = and3 (is_fitting w p f) (list_all (is_stated w lines) (premises w p r f)) (states_step w p r (ValueLine t a day v known) f) e in

@@ -24,7 +24,7 @@ use Rattle.pl_derivation.specs.Laws.{IsAsked, IsDerivation}
 use Rattle.pl_spec.proofs.Each.{Each, each_both, each_more, each_in_map, list_all_each}
 use Rattle.pl_derivation.proofs.Steps.{fact_same}
 use Rattle.pl_derivation.proofs.Codes.{step_true}
-use Rattle.pl_derivation.proofs.Truths.{same_is, is_same, same_day, is_fact, last_seen, States, stated_true, behind_right}
+use Rattle.pl_derivation.proofs.Truths.{same_is, is_same, same_turned, same_day, is_fact, last_seen, States, stated_true, behind_right}
 use Rattle.pl_derivation.proofs.Fits.{HasSessions, IsSession, Fits, Ready, premises_ready}
 
 not_equal : (x y : ℤ) → x <ℤ y → int_eq x y ≡ false
@@ -41,6 +41,10 @@ session_of_day w up n day e =
 
 date_is : (w : World) (d : ℤ) → (s : IsSession w d) → date_of w d ≡ s.1
 date_is w d s = rw (s.2, s.3) refl
+
+-- a fact that is put after others is among them
+pub in_last : (done : List Fact) (f : Fact) → is_in (done ++ f ∷ []) f ≡ true
+in_last done f = list_any-append (same_fact f) done (f ∷ []) ∙ or_right (is_in done f) (is_in (f ∷ []) f) (or_left (same_fact f f) false (is_same f))
 
 module _ (w : World) (p : Pipeline) (ok : IsWorld w) (known : HasTexts w) (graph : IsGraph p.graph) (windows : HasSessions p.graph) where
   abbrev Fit : Fact → Type 0
@@ -116,17 +120,11 @@ module _ (w : World) (p : Pipeline) (ok : IsWorld w) (known : HasTexts w) (graph
   once_more [] f h fresh = (refl, tt)
   once_more (x ∷ xs) f h fresh =
       let parts = or_false (same_fact f x) (is_in xs f) fresh in
-      (list_any-append (same_fact x) xs (f ∷ []) ∙ rw (h.0, other x parts.0) refl, once_more xs f h.1 parts.1)
+      (list_any-append (same_fact x) xs (f ∷ []) ∙ rw (h.0, same_turned x f ∙ parts.0) refl, once_more xs f h.1 parts.1)
     where
       or_false : (a b : Bool) → (a || b) ≡ false → (a ≡ false) × (b ≡ false)
       or_false true b e = absurd (true≢false e)
       or_false false b e = (refl, e)
-
-      other : (x : Fact) → same_fact f x ≡ false → same_fact x f ≡ false
-      other x e = elim (cases_Bool (same_fact x f)) [
-        | inl y ↦ (let same : x ≡ f = same_is x f y in let back : same_fact f x ≡ true = rw same (is_same f) in absurd (true≢false (sym back ∙ e)))
-        | inr n ↦ n
-      ]
 
   goes_more : (done : List Fact) → Goes done → (f : Fact) → Fit f → Each (λ g. is_in done g ≡ true) (premises w p (number_in w p) f) → is_in done f ≡ false → Goes (done ++ f ∷ [])
   goes_more done h f fit behind fresh = (
@@ -137,9 +135,6 @@ module _ (w : World) (p : Pipeline) (ok : IsWorld w) (known : HasTexts w) (graph
 
   in_more : (done : List Fact) (f : Fact) → Within done (done ++ f ∷ [])
   in_more done f g h = list_any-append (same_fact g) done (f ∷ []) ∙ or_left (is_in done g) (is_in (f ∷ []) g) h
-
-  in_last : (done : List Fact) (f : Fact) → is_in (done ++ f ∷ []) f ≡ true
-  in_last done f = list_any-append (same_fact f) done (f ∷ []) ∙ or_right (is_in done f) (is_in (f ∷ []) f) (or_left (same_fact f f) false (is_same f))
 
   -- what is new is of at most this depth
   abbrev IsNew : ℕ → List Fact → List Fact → Type 0

@@ -4,6 +4,7 @@ use Rattle.std.specs.List.{join_by}
 use Rattle.std.specs.Fmt.{decimal, signed_decimal}
 use Rattle.std.specs.Str.Parse.{signed_digits_value}
 use Rattle.std.specs.Int.RustNames.{unsigned_abs}
+use Rattle.pl_spec.specs.Each.{Each}
 use Rattle.pl_spec.specs.Limits.{most_lines}
 use Rattle.pl_spec.specs.declared.Column.{Column}
 use Rattle.pl_spec.specs.declared.Column.TheVariants.{OpenPrice, High, Low, Close, Volume}
@@ -114,8 +115,7 @@ lines_in bytes = if bytes_eq bytes [] then Err (BadLine 1) else lines_from 1 (pi
 -- ---- the law
 
 abbrev pub AreCells : List ℤ → Type 0
-AreCells [] = Unit {0}
-AreCells (x ∷ xs) = IsCell x × AreCells xs
+AreCells cells = Each IsCell cells
 
 -- what has a text of its own: numbers of 32 bits, days that have dates, cells
 abbrev pub IsWritable : Line → Type 0
@@ -123,8 +123,7 @@ IsWritable (SeenLine c a bar day cells) = (a < 2 ^ 32) × IsDay bar × IsDay day
 IsWritable (ValueLine t a day v known) = (t < 2 ^ 32) × (a < 2 ^ 32) × IsDay day × IsCell v × IfSome known IsDay
 
 abbrev pub AreWritable : List Line → Type 0
-AreWritable [] = Unit {0}
-AreWritable (l ∷ ls) = IsWritable l × AreWritable ls
+AreWritable lines = Each IsWritable lines
 
 -- what was written is read back
 abbrev pub TextsAreRead : Type 0

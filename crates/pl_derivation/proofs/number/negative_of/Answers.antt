@@ -1,5 +1,5 @@
-use Rattle.std.proofs.Common.{◌≡◌, ◌<◌, suc, length, arith}
-use Rattle.pl_derivation.proofs.Numbers.{missing_said, minus_said, none_some, one_answer, negated}
+use Rattle.std.proofs.Common.{◌≡◌, ◌<◌, ◌∙◌, sym, suc, length, arith, Some, None}
+use Rattle.pl_derivation.proofs.Numbers.{missing_said, minus_said, one_answer, negated}
 use Rattle.pl_derivation.proofs.number.negative_of.Goals as goal
 
 pub returns-then-is_empty-clause-only : goal.returns-then-is_empty-clause-only
@@ -9,7 +9,7 @@ pub returns-in-None-clause-only : goal.returns-in-None-clause-only
 returns-in-None-clause-only c = λ x h e.
     let some : 0 < length c.args.digits.now = grind arith in
     let said = minus_said c.args.digits.now x some h e in
-    absurd (none_some c.read_whole.result (suc said.0) c.in-None.is (c.read_whole.ensures.only (suc said.0) said.1 said.3))
+    absurd (let bad : None ≡ Some (suc said.0) = sym c.in-None.is ∙ c.read_whole.ensures.only (suc said.0) said.1 said.3 in cc)
 
 pub returns-then-size-eq0-clause-only : goal.returns-then-size-eq0-clause-only
 returns-then-size-eq0-clause-only c = λ x h e.
