@@ -36,7 +36,7 @@ pub record AreFlags (n : ℕ) (xs : List ℤ) : Type 0 where
   pub flags : All IsFlag xs
   pub many : length xs ≡ n
 
--- the values at a place of an operation: those of a filter where it takes one, else of a factor or a classifier
+-- the values at a place of an operation: a filter's where it takes one, else a factor's or a classifier's
 abbrev pub ArePlaced : Option Place → ℕ → List ℤ → Type 0
 ArePlaced None n xs = ⊤
 ArePlaced (Some Filter) n xs = AreFlags n xs
@@ -45,7 +45,9 @@ ArePlaced (Some q) n xs = AreCells n xs
 -- the operands that an operation uses, in order
 abbrev pub AreOperandsOf : PointKind → List ℤ → List ℤ → List ℤ → ℕ → Type 0
 AreOperandsOf op a b c n =
-    ArePlaced (slice_get (point_places op) 0) n a × ArePlaced (slice_get (point_places op) 1) n b × ArePlaced (slice_get (point_places op) 2) n c
+    ArePlaced (slice_get (point_places op) 0) n a
+    × ArePlaced (slice_get (point_places op) 1) n b
+    × ArePlaced (slice_get (point_places op) 2) n c
 
 abbrev pub AreOperands : Kind → List ℤ → List ℤ → List ℤ → ℕ → Type 0
 AreOperands (Point op) a b c n = AreOperandsOf op a b c n
