@@ -16,8 +16,10 @@ AreTaken (Chooses f) n a b = All IsFlag f.now × (length f.now ≡ n) × All IsC
 
 abbrev pub given_at : Kernel → List ℤ → List ℤ → ℕ → ℤ
 given_at (Compares op) a b k = comparison op (get_or a k (pos 0)) (get_or b k (pos 0))
-given_at (Joins both) a b k = truth (joined both (is_true (get_or a k (pos 0))) (is_true (get_or b k (pos 0))))
-given_at (Chooses f) a b k = if is_true (get_or f.now k (pos 0)) then get_or a k (pos 0) else get_or b k (pos 0)
+given_at (Joins both) a b k =
+    truth (joined both (is_true (get_or a k (pos 0))) (is_true (get_or b k (pos 0))))
+given_at (Chooses f) a b k =
+    if is_true (get_or f.now k (pos 0)) then get_or a k (pos 0) else get_or b k (pos 0)
 
 -- the bits of the eight values from a place on
 pub record AreLanes (at : ℕ) (lanes : List ℕ) (value : ℕ → ℤ) : Type 0 where

@@ -88,7 +88,8 @@ fn write(kernel: Kernel, a: &[i64], b: &[i64], out: &mut [i64])
     requires left_length { length a.now ≡ length out.old }
     requires right_length { length b.now ≡ length out.old }
     ensures length { length out.new ≡ length out.old }
-    ensures each { (k : ℕ) → k < length out.old → get_or out.new k (pos 0) ≡ given_at kernel.entry a.now b.now k }
+    ensures each { (k : ℕ) → k < length out.old
+        → get_or out.new k (pos 0) ≡ given_at kernel.entry a.now b.now k }
 {
     let at = write_blocks(kernel, a, b, out);
     write_rest(kernel, a, b, at, out);

@@ -15,7 +15,7 @@ use Rattle.pl_spec.proofs.Signed.{unsigned_abs-neg}
 use Rattle.pl_pipeline.proofs.Cells.{chosen-has, to_cell-cell, quot-cell, sub-cell}
 use Rattle.pl_lanes.specs.Flags.{IsFlag}
 use Rattle.pl_lanes.proofs.Cells.{is_within}
-use Rattle.pl_pointwise.specs.Operands.{HasCells, IsOperation, AreCells, AreFlags, AreOperands, AreOperandsOf, operation}
+use Rattle.pl_pointwise.specs.Operands.{HasCells, IsOperation, AreCells, AreOperands, AreOperandsOf, operation}
 
 of_both-cell : (x y v : ℤ) → IsCell v → IsCell (of_both x y v)
 of_both-cell x y v h = chosen-has IsCell (is_missing x || is_missing y) MISSING v (inl refl) h
@@ -44,10 +44,6 @@ flag-cell : (x : ℤ) → IsFlag x → IsCell x
 flag-cell x (inl e) = inr (rw e (omega arith))
 flag-cell x (inr e) = inr (rw e (omega arith))
 
--- the values of a filter are cells
-pub flags-cells : {n : ℕ} {xs : List ℤ} → AreFlags n xs → AreCells n xs
-flags-cells h = record { cells = λ k d l. flag-cell _ (h.flags k d l); many = h.many }
-
 at : (xs : List ℤ) (n i : ℕ) → AreCells n xs → i < n → IsCell (get_or xs i (pos 0))
 at xs n i h p = h.cells i (pos 0) (omega (arith, h.many))
 
@@ -59,11 +55,11 @@ result-cell Add a b c n i h o p = add-cell _ _
 result-cell Sub a b c n i h o p = sub-cell _ _
 result-cell Mul a b c n i h o p = mul-cell _ _
 result-cell Div a b c n i h o p = div-cell _ _
-result-cell Neg a b c n i h o p = tested-size _ _ _ refl (unsigned_abs-neg (get_or a i (pos 0))) (at a n i o p)
-result-cell Abs a b c n i h o p = tested-size _ _ _ refl refl (at a n i o p)
+result-cell Neg a b c n i h o p = tested-size _ _ _ refl (unsigned_abs-neg (get_or a i (pos 0))) (at a n i o.0 p)
+result-cell Abs a b c n i h o p = tested-size _ _ _ refl refl (at a n i o.0 p)
 result-cell (Clip low high) a b c n i h o p =
     let x = get_or a i (pos 0) in
-    let lower = chosen-has IsCell (int_lt x high) x high (at a n i o p) h.1 in
+    let lower = chosen-has IsCell (int_lt x high) x high (at a n i o.0 p) h.1 in
     chosen-has IsCell _ _ _ (inl refl) (chosen-has IsCell (int_lt (int_min high x) low) low _ h.0 lower)
 result-cell FillNa a b c n i h o p = chosen-has IsCell _ _ _ (at b n i o.1 p) (at a n i o.0 p)
 result-cell IfElse a b c n i h o p = chosen-has IsCell _ _ _ (at b n i o.1 p) (at c n i o.2 p)

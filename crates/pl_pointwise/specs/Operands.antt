@@ -1,13 +1,14 @@
 -- Which kinds are operations on the values of one place, what each asks of its operands, and what it gives.
-use Rattle.std.specs.Prelude.{◌≡◌, ℕ, ℤ, List, length, ⊤, Bool, true, false}
+use Rattle.std.specs.Prelude.{◌≡◌, ℕ, ℤ, List, length, slice_get, Option, Some, None, ⊤, Bool, true, false}
 use Rattle.std.specs.List.{All}
 use Rattle.pl_spec.specs.Rounding.{IsCell, MISSING}
 use Rattle.pl_pipeline.specs.Kind.{Kind, PointKind}
 use Rattle.pl_pipeline.specs.Kind.Kind.{Point}
-use Rattle.pl_pipeline.specs.Kind.PointKind.{Add, Sub, Mul, Div, Comparison, And, Or, Not, Clip, FillNa, IfElse}
+use Rattle.pl_pipeline.specs.Kind.PointKind.{Add, Sub, Mul, Div, Comparison, Clip, FillNa}
 use Rattle.pl_pipeline.specs.Pointwise.{pointwise}
 use Rattle.pl_terms.specs.declared.kind.LabelValue.{LabelValue}
 use Rattle.pl_terms.specs.declared.kind.LabelValue.TheVariants.{Number, Text}
+use Rattle.pl_terms.specs.Sorts.{Place, Filter, point_places}
 use Rattle.pl_lanes.specs.Flags.{IsFlag}
 
 -- the bounds of a clip are cells
@@ -35,19 +36,18 @@ pub record AreFlags (n : ℕ) (xs : List ℤ) : Type 0 where
   pub flags : All IsFlag xs
   pub many : length xs ≡ n
 
+-- the values at a place of an operation: a filter's where it takes one, else a factor's or a classifier's
+abbrev pub ArePlaced : Option Place → ℕ → List ℤ → Type 0
+ArePlaced None n xs = ⊤
+ArePlaced (Some Filter) n xs = AreFlags n xs
+ArePlaced (Some q) n xs = AreCells n xs
+
 -- the operands that an operation uses, in order
 abbrev pub AreOperandsOf : PointKind → List ℤ → List ℤ → List ℤ → ℕ → Type 0
-AreOperandsOf Add a b c n = AreCells n a × AreCells n b
-AreOperandsOf Sub a b c n = AreCells n a × AreCells n b
-AreOperandsOf Mul a b c n = AreCells n a × AreCells n b
-AreOperandsOf Div a b c n = AreCells n a × AreCells n b
-AreOperandsOf (Comparison t) a b c n = AreCells n a × AreCells n b
-AreOperandsOf FillNa a b c n = AreCells n a × AreCells n b
-AreOperandsOf And a b c n = AreFlags n a × AreFlags n b
-AreOperandsOf Or a b c n = AreFlags n a × AreFlags n b
-AreOperandsOf IfElse a b c n = AreFlags n a × AreCells n b × AreCells n c
-AreOperandsOf Not a b c n = AreFlags n a
-AreOperandsOf op a b c n = AreCells n a
+AreOperandsOf op a b c n =
+    ArePlaced (slice_get (point_places op) 0) n a
+    × ArePlaced (slice_get (point_places op) 1) n b
+    × ArePlaced (slice_get (point_places op) 2) n c
 
 abbrev pub AreOperands : Kind → List ℤ → List ℤ → List ℤ → ℕ → Type 0
 AreOperands (Point op) a b c n = AreOperandsOf op a b c n

@@ -1,15 +1,14 @@
 -- Sums of at most 1,260 cells, products or differences are small, and what is computed of them is exact.
-use Rattle.std.proofs.Common.{◌≡◌, ◌≤◌, ◌<◌, ◌+◌, ◌-◌, ◌*◌, ℕ, zero, suc, ℤ, pos, ◌-ℤ◌, List, length, get_or, Bool, true, false, inl, inr, unsigned_abs, w64, to_z, of_z, refl, arith}
+use Rattle.std.proofs.Common.{◌≡◌, ◌≤◌, ◌<◌, ◌+◌, ◌-◌, ◌*◌, ℕ, zero, suc, ℤ, pos, ◌-ℤ◌, List, length, get_or, Bool, true, false, inr, unsigned_abs, refl, arith}
 use Rattle.std.specs.List.{All}
-use Rattle.std.proofs.lemmas.Bool.{cases_lt}
-use Rattle.std.proofs.lemmas.Int.{ints, to_z-of_z}
+use Rattle.std.proofs.lemmas.Int.{ints}
 use Rattle.std.proofs.lemmas.Nat.{mul-le}
-use Rattle.std.proofs.lemmas.List.{length-take, get_or_past}
-use Rattle.std.proofs.lemmas.List.Elements.{All-take, All-get_or}
+use Rattle.std.proofs.lemmas.List.{length-take}
+use Rattle.std.proofs.lemmas.List.Elements.{All-take}
 use Rattle.pl_spec.specs.Rounding.{LIMIT, IsCell, is_missing}
 use Rattle.pl_spec.specs.Cells.{present_values, total}
 use Rattle.pl_pipeline.specs.Formula.{products, places, differences}
-use Rattle.pl_lanes.proofs.Bits.{cell-fits}
+use Rattle.pl_lanes.proofs.Bits.{at-cell}
 use Rattle.pl_lanes.proofs.Cells.{total-few, few-present, is_within}
 use Rattle.pl_factors.specs.Terms.{product, gain, swing, total_swings}
 use Rattle.pl_factors.proofs.Casts.{product-wide, above-zero-small, apart}
@@ -22,15 +21,6 @@ pub moved-is : (s t l m e f : ℤ) → s ≡ t → l ≡ m → e ≡ f → moved
 moved-is s t l m e f p q r = rw (p, q, r) refl
 
 -- ---- the cells of a list
-
-pub at-cell : (xs : List ℤ) (i : ℕ) → All IsCell xs → IsCell (get_or xs i (pos 0))
-at-cell xs i cells = elim (cases_lt i (length xs)) [
-  | inl h ↦ All-get_or IsCell xs i (pos 0) h cells
-  | inr h ↦ let e : get_or xs i (pos 0) ≡ pos 0 = get_or_past xs i (pos 0) h in rw e (inr (omega arith))
-]
-
-pub at-exact : (xs : List ℤ) (i : ℕ) → All IsCell xs → to_z w64 (of_z w64 (get_or xs i (pos 0))) ≡ get_or xs i (pos 0)
-at-exact xs i cells = to_z-of_z w64 (get_or xs i (pos 0)) (cell-fits _ (at-cell xs i cells))
 
 pub before-cells : (xs : List ℤ) → All IsCell xs → All IsCell (before xs)
 before-cells xs cells = All-take IsCell (length xs - 1) xs cells

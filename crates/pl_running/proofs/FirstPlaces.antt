@@ -12,10 +12,10 @@ use Rattle.pl_spec.specs.Rounding.{MISSING, IsCell}
 use Rattle.pl_spec.proofs.Signed.{int_eq-itself}
 use Rattle.pl_lanes.specs.Heights.{peak, rank, best_of}
 use Rattle.pl_lanes.proofs.Heights.{best-rank}
+use Rattle.pl_lanes.proofs.Bits.{at-cell}
 use Rattle.pl_factors.specs.Terms.{first_place}
 use Rattle.pl_running.specs.Spans.{before, after, last}
 use Rattle.pl_running.proofs.Sliding.{whole}
-use Rattle.pl_running.proofs.Bounds.{at-cell}
 use Rattle.pl_running.proofs.Peaks.{best-slides, rank-same, rank-missing}
 
 -- how many cells are not x, up to the first that is

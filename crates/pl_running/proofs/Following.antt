@@ -9,9 +9,9 @@ use Rattle.pl_pipeline.specs.Formula.{faded, faded_mean, formula, mean}
 use Rattle.pl_spec.specs.Window.{downward}
 use Rattle.pl_pipeline.specs.Kind.{Kind}
 use Rattle.pl_pipeline.specs.Kind.Kind.{Window}
-use Rattle.pl_pipeline.specs.Kind.WindowKind.{ExponentialWeightedMovingAverage, SimpleMovingAverage}
+use Rattle.pl_pipeline.specs.Kind.WindowKind.{ExponentialWeightedMovingAverage}
 use Rattle.pl_factors.specs.Terms.{mean_by}
-use Rattle.pl_running.specs.Lanes.{AreGiven, AreValues, HasWindows, TakesLanes, formula_at, weighted_at, window_at}
+use Rattle.pl_running.specs.Lanes.{AreGiven, AreValues, HasWindows, TakesLanes, weighted_at, window_at}
 use Rattle.pl_running.specs.Spans.{TakesSpans, after, before, takes_range}
 
 front_of : (size : ℕ) (ys : List ℤ) → (length ys ≡ 0) ⊎ (size + 1 ≤ length ys) → take (length (take (size + 1) ys) - 1) (take (size + 1) ys) ≡ take size ys
@@ -98,25 +98,8 @@ module _ (f : ℕ → ℤ) where
   pub all_given : (n done : ℕ) (out : List ℤ) → n ≤ done → AreGiven f done out → AreGiven f n out
   all_given n done out few m = record { each = λ j h. m.each j (omega (arith, few, h)); cell = λ j h. m.cell j (omega (arith, few, h)) }
 
-pub values_given : (q : Kind) (size : ℕ) (a b c : List ℤ) (n done : ℕ) (out : List ℤ) → n ≤ done → AreGiven (formula_at q size a b c) done out → AreValues q size a b c n out
-values_given q size a b c n done out few m = record { each = λ j h. m.each j (omega (arith, few, h)); cell = λ j h. m.cell j (omega (arith, few, h)) }
-
-module _ (q : Kind) (size : ℕ) (a b c : List ℤ) where
-  pub none_valued : (out : List ℤ) → AreValues q size a b c 0 out
-  none_valued out = values_given q size a b c 0 0 out (omega arith) (none_given (formula_at q size a b c) out)
-
-  pub one_valued : (done : ℕ) (out : List ℤ) (x : ℤ) → AreValues q size a b c done out → done < length out → x ≡ formula_at q size a b c done → IsCell x
-      → AreValues q size a b c (done + 1) (set out done x)
-  one_valued done out x so_far room e is_cell =
-      values_given q size a b c (done + 1) (done + 1) (set out done x) (omega arith)
-      (one_given (formula_at q size a b c) done out x (record { each = so_far.each; cell = so_far.cell }) room e is_cell)
-
 unfoldable pub mean_at : ℕ → List ℤ → ℕ → ℤ
 mean_at size a j = mean (window_at size j a)
-
-pub means_are : (size : ℕ) (a b c : List ℤ) (n done : ℕ) (out : List ℤ) → n ≤ done → AreGiven (mean_at size a) done out → AreValues (Window SimpleMovingAverage) size a b c n out
-unfolding formula mean_at
-means_are size a b c n done out few m = values_given (Window SimpleMovingAverage) size a b c n done out few m
 
 -- ---- lists for lists
 
@@ -133,6 +116,26 @@ module _ (size k j : ℕ) (next : j ≡ k - 1 + 1) (xs span : List ℤ) (has : 0
 
   pub span_after : after span ≡ window_at size j xs
   span_after = ap after is ∙ after_is size (k - 1) xs has ∙ ap (λ n. window_at size n xs) (sym next)
+
+-- what holds of the windows of three lists, before a place and at it, holds of those in the spans that were
+-- taken one place before
+module _ (q : Kind) (size n : ℕ) (a b c : List ℤ) (lanes : TakesLanes q size n a b c) (k : ℕ) (some : 1 ≤ k) (inside : k < n) (x y z : List ℤ)
+    (first : x ≡ window_at (size + 1) (k - 1) a) (second : y ≡ window_at (size + 1) (k - 1) b) (third : z ≡ window_at (size + 1) (k - 1) c) where
+  next : k ≡ k - 1 + 1
+  next = omega (arith, some)
+
+  room : (xs : List ℤ) → HasWindows size n xs → 0 < length xs → k - 1 + (size + 1) ≤ length xs
+  room xs has = roomy_span q size n a b c lanes xs has (k - 1) (omega (arith, some, inside))
+
+  pub before_hold : (P : List ℤ → List ℤ → List ℤ → Type 0) → P (window_at size (k - 1) a) (window_at size (k - 1) b) (window_at size (k - 1) c) → P (before x) (before y) (before z)
+  before_hold P h =
+      holds_of P _ _ _ _ _ _ (span_before size k k next a x (room a lanes.first_long) first) (span_before size k k next b y (room b lanes.second_long) second)
+      (span_before size k k next c z (room c lanes.third_long) third) h
+
+  pub after_hold : (P : List ℤ → List ℤ → List ℤ → Type 0) → P (window_at size k a) (window_at size k b) (window_at size k c) → P (after x) (after y) (after z)
+  after_hold P h =
+      holds_of P _ _ _ _ _ _ (span_after size k k next a x (room a lanes.first_long) first) (span_after size k k next b y (room b lanes.second_long) second)
+      (span_after size k k next c z (room c lanes.third_long) third) h
 
 pub window_long : (size k : ℕ) (xs : List ℤ) → k + size ≤ length xs → length (window_at size k xs) ≡ size
 window_long size k xs room = let d = length-drop k xs in let t = length-take size (drop k xs) in omega (arith, d, t, room)

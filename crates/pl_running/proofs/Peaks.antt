@@ -7,14 +7,13 @@ use Rattle.std.proofs.lemmas.Int.{ints, to_z-of_z}
 use Rattle.std.proofs.lemmas.List.Elements.{All-take, All-tail}
 use Rattle.pl_spec.specs.Rounding.{MISSING, LIMIT, IsCell, is_missing}
 use Rattle.pl_lanes.specs.Heights.{height, depth, peak, rank, best_of}
-use Rattle.pl_lanes.proofs.Bits.{cell-fits}
+use Rattle.pl_lanes.proofs.Bits.{at-cell, cell-fits}
 use Rattle.pl_lanes.proofs.Cells.{is_within, is_gone, missing-is}
 use Rattle.pl_lanes.proofs.Heights.{height-missing, height-there, depth-missing, depth-there, best-rank, from-height, from-depth}
 use Rattle.pl_running.specs.Kept.{Kept}
 use Rattle.pl_running.specs.Spans.{before, after, first, last}
 use Rattle.pl_running.specs.Laws.{least_of, better}
 use Rattle.pl_running.proofs.Sliding.{whole}
-use Rattle.pl_running.proofs.Bounds.{at-cell}
 use Rattle.pl_factors.proofs.Exact.{same}
 
 -- ---- heights tell cells apart and order them

@@ -29,15 +29,14 @@ pub record TakesLanes (k : Kind) (size n : ℕ) (a b c : List ℤ) : Type 0 wher
 abbrev pub formula_at : Kind → ℕ → List ℤ → List ℤ → List ℤ → ℕ → ℤ
 formula_at k size a b c j = formula_of k (window_at size j a) (window_at size j b) (window_at size j c)
 
--- the first cells are what the formula gives over the first windows
-pub record AreValues (k : Kind) (size : ℕ) (a b c : List ℤ) (done : ℕ) (out : List ℤ) : Type 0 where
-  pub each : (j : ℕ) → j < done → get_or out j (pos 0) ≡ formula_at k size a b c j
-  pub cell : (j : ℕ) → j < done → IsCell (get_or out j (pos 0))
-
 -- the first cells are what f gives for their places
 pub record AreGiven (f : ℕ → ℤ) (done : ℕ) (out : List ℤ) : Type 0 where
   pub each : (j : ℕ) → j < done → get_or out j (pos 0) ≡ f j
   pub cell : (j : ℕ) → j < done → IsCell (get_or out j (pos 0))
+
+-- they are what the formula gives over the windows of their places
+abbrev pub AreValues : Kind → ℕ → List ℤ → List ℤ → List ℤ → ℕ → List ℤ → Type 0
+AreValues k size a b c done out = AreGiven (formula_at k size a b c) done out
 
 -- the mean of the window of place j with these weights
 abbrev pub weighted_at : List ℤ → List ℤ → ℕ → ℤ

@@ -1,5 +1,5 @@
 -- Operations on the values of one place.
-use Rattle.std.proofs.Common.{◌≡◌, ℕ, zero, suc, ◌<◌, ◌≤◌, Bool, true, false, ◌&&◌, if◌then◌else◌, ℤ, pos, List, [], ◌∷◌, Option, Some, length, refl, sym, ◌∙◌, ap, arith, slice_get, get_or, nat_lt, All, subst, inr, unsigned_abs}
+use Rattle.std.proofs.Common.{◌≡◌, ℕ, zero, suc, ◌<◌, ◌≤◌, Bool, true, false, ◌&&◌, if◌then◌else◌, ℤ, pos, List, [], ◌∷◌, Option, Some, None, length, refl, sym, ◌∙◌, ap, arith, slice_get, get_or, nat_lt, All, subst, inr, unsigned_abs}
 use Rattle.std.specs.Int.RustNames.{int_le}
 use Rattle.std.proofs.lemmas.Bool.Decides.{nat_tests}
 use Rattle.std.proofs.lemmas.Bool.{and_parts, and_from}
@@ -9,7 +9,7 @@ use Rattle.pl_spec.specs.Rounding.{MISSING, LIMIT, IsCell}
 use Rattle.pl_spec.specs.World.{World}
 use Rattle.pl_pipeline.specs.Kind.{Kind, PointKind}
 use Rattle.pl_pipeline.specs.Kind.Kind.{Point}
-use Rattle.pl_pipeline.specs.Kind.PointKind.{Add, Sub, Mul, Div, Comparison, And, Or, Not, Clip, FillNa, IsNull, NotNull, IfElse}
+use Rattle.pl_pipeline.specs.Kind.PointKind.{Add, Clip, IsNull, NotNull}
 use Rattle.pl_pipeline.specs.Pointwise.{pointwise}
 use Rattle.pl_pipeline.specs.Term.{Node, Input}
 use Rattle.pl_pipeline.specs.Term.Input.{BarColumn, TermInput}
@@ -20,7 +20,7 @@ use Rattle.pl_pipeline.specs.Table.{Pipeline, value_of, in_array}
 use Rattle.pl_terms.specs.Checked.{IsChecked}
 use Rattle.pl_terms.specs.Sorts.{Sort, Factors, Filters, Numbers, Place, AnyTerm, Series, Factor, Filter, FactorOrClassifier, Classifier, LabelClassifier, NumberedClassifier, sort_at, places, point_places, fits, all_fit, takes_sort, has_parameters, is_limited}
 use Rattle.pl_lanes.specs.Flags.{IsFlag}
-use Rattle.pl_pointwise.specs.Operands.{IsOperation, HasCells, AreOperands, AreOperandsOf, AreCells, AreFlags, operation}
+use Rattle.pl_pointwise.specs.Operands.{IsOperation, HasCells, AreOperands, AreOperandsOf, AreCells, AreFlags, ArePlaced, operation}
 use Rattle.pl_cross.specs.Arrays.{sid_in}
 use Rattle.pl_values.specs.Arrays.{cell_of, Fills}
 use Rattle.pl_values.specs.Inputs.{IsEntryRow, AreEntries}
@@ -182,10 +182,6 @@ module _ (w : World) (p : Pipeline) (sids : List ℕ) (ok : IsChecked p) (k : �
         let b = row-is j x.0 row x.1 r in
         record { cells = fills-all IsCell (λ i. cell_of w p sids x.0 (place i) (on i)) size row b b.cell; many = b.long }
 
-    two-cells : (a b c : List ℤ) → AreEntries w p sids n place on size a b c → slice_get (point_places f) 0 ≡ Some Factor → slice_get (point_places f) 1 ≡ Some Factor
-        → AreCells size a × AreCells size b
-    two-cells a b c r first second = (cells-at 0 a Factor r.first first, cells-at 1 b Factor r.second second)
-
     flags-at : (j : ℕ) (row : List ℤ) → IsEntryRow w p sids place on size (slice_get n.inputs j) row → slice_get (point_places f) j ≡ Some Filter → AreFlags size row
     flags-at j row r h =
         let x = term-at j Filter h in
@@ -196,23 +192,13 @@ module _ (w : World) (p : Pipeline) (sids : List ℕ) (ok : IsChecked p) (k : �
           many = b.long;
         }
 
-operands-of : (w : World) (p : Pipeline) (sids : List ℕ) (ok : IsChecked p) (k : ℕ) (n : Node) → slice_get p.graph k ≡ Some n → (f : PointKind) → n.kind ≡ Point f
-    → (place on : ℕ → ℕ) (size : ℕ) (a b c : List ℤ) → AreEntries w p sids n place on size a b c → AreOperandsOf f a b c size
-operands-of w p sids ok k n is Add e place on size a b c r = two-cells w p sids ok k n is Add e place on size a b c r refl refl
-operands-of w p sids ok k n is Sub e place on size a b c r = two-cells w p sids ok k n is Sub e place on size a b c r refl refl
-operands-of w p sids ok k n is Mul e place on size a b c r = two-cells w p sids ok k n is Mul e place on size a b c r refl refl
-operands-of w p sids ok k n is Div e place on size a b c r = two-cells w p sids ok k n is Div e place on size a b c r refl refl
-operands-of w p sids ok k n is (Comparison t) e place on size a b c r = two-cells w p sids ok k n is (Comparison t) e place on size a b c r refl refl
-operands-of w p sids ok k n is FillNa e place on size a b c r = two-cells w p sids ok k n is FillNa e place on size a b c r refl refl
-operands-of w p sids ok k n is And e place on size a b c r = (flags-at w p sids ok k n is And e place on size 0 a r.first refl, flags-at w p sids ok k n is And e place on size 1 b r.second refl)
-operands-of w p sids ok k n is Or e place on size a b c r = (flags-at w p sids ok k n is Or e place on size 0 a r.first refl, flags-at w p sids ok k n is Or e place on size 1 b r.second refl)
-operands-of w p sids ok k n is IfElse e place on size a b c r = (
-  flags-at w p sids ok k n is IfElse e place on size 0 a r.first refl,
-  cells-at w p sids ok k n is IfElse e place on size 1 b Factor r.second refl,
-  cells-at w p sids ok k n is IfElse e place on size 2 c Factor r.third refl,
-)
-operands-of w p sids ok k n is Not e place on size a b c r = flags-at w p sids ok k n is Not e place on size 0 a r.first refl
-operands-of w p sids ok k n is f e place on size a b c r = cells-at w p sids ok k n is f e place on size 0 a _ r.first refl
+    placed-at : (j : ℕ) (row : List ℤ) (o : Option Place) → slice_get (point_places f) j ≡ o → IsEntryRow w p sids place on size (slice_get n.inputs j) row → ArePlaced o size row
+    placed-at j row None h r = tt
+    placed-at j row (Some Filter) h r = flags-at j row r h
+    placed-at j row (Some q) h r = cells-at j row q r h
+
+    operands-of : (a b c : List ℤ) → AreEntries w p sids n place on size a b c → AreOperandsOf f a b c size
+    operands-of a b c r = (placed-at 0 a _ refl r.first, placed-at 1 b _ refl r.second, placed-at 2 c _ refl r.third)
 
 pub limited-cell : (x : ℤ) → is_limited x ≡ true → IsCell x
 limited-cell x h = let l : unsigned_abs x ≤ LIMIT = grind (arith, nat_tests) in inr l

@@ -2,9 +2,9 @@ use Rattle.std.proofs.Common.{◌≡◌, ◌≢◌, ◌⊎◌, ◌-◌, length, 
 use Rattle.std.proofs.lemmas.Int.{to_z-of_z}
 use Rattle.pl_spec.specs.Rounding.{MISSING}
 use Rattle.pl_lanes.specs.Heights.{best_of}
+use Rattle.pl_lanes.proofs.Bits.{at-exact}
 use Rattle.pl_running.specs.Spans.{before, first}
 use Rattle.pl_running.specs.Laws.{better}
-use Rattle.pl_running.proofs.Bounds.{at-exact}
 use Rattle.pl_running.proofs.Peaks.{leaves-unlike, best-moves}
 use Rattle.pl_running.proofs.extremes.next_best.Goals as goal
 

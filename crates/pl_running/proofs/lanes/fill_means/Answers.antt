@@ -1,9 +1,9 @@
 use Rattle.std.proofs.Common.{rules, ◌≡◌, ◌+◌, ◌-◌, ◌<◌, ◌≤◌, ◌∙◌, ap, sym, subst, arith, length, length-set, to_z, of_z, w64, All, FitsSigned}
 use Rattle.std.proofs.lemmas.Int.{to_z-of_z}
-use Rattle.pl_pipeline.specs.Formula.{mean}
+use Rattle.pl_pipeline.specs.Formula.{formula, mean}
 use Rattle.pl_spec.specs.Rounding.{IsCell}
 use Rattle.pl_running.specs.Kept.{sums}
-use Rattle.pl_running.proofs.Following.{cells_at, mean_at, means_are, none_given, one_given, span_after}
+use Rattle.pl_running.proofs.Following.{all_given, cells_at, mean_at, none_given, one_given, span_after}
 use Rattle.pl_running.proofs.lanes.fill_means.Goals as goal
 
 pub mean-requires-in-loop-k-clause-cells : goal.mean-requires-in-loop-k-clause-cells
@@ -39,6 +39,7 @@ loop-k-preserved c =
     })
 
 pub returns : goal.returns
+unfolding formula mean_at
 returns c b d =
     let size = length-set c.args.out.now 0 (to_z w64 (of_z w64 c.mean.result)) in
-    means_are c.args.size c.args.a.now b d (length c.args.out.now) c.loop-k.k c.loop-k.out (omega (arith, size, c.loop-k-test.false, c.loop-k.auto.out)) c.loop-k.invariant.means
+    all_given (mean_at c.args.size c.args.a.now) (length c.args.out.now) c.loop-k.k c.loop-k.out (omega (arith, size, c.loop-k-test.false, c.loop-k.auto.out)) c.loop-k.invariant.means

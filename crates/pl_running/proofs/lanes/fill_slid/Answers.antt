@@ -1,10 +1,11 @@
-use Rattle.std.proofs.Common.{rules, ◌≡◌, ◌+◌, ◌-◌, ◌<◌, ◌∙◌, sym, arith, length, length-set, to_z, of_z, w64, FitsSigned}
+use Rattle.std.proofs.Common.{rules, ◌≡◌, ◌+◌, ◌-◌, ◌<◌, ◌≤◌, ◌∙◌, ap, refl, sym, arith, ℕ, List, ℤ, length, length-set, to_z, of_z, w64, FitsSigned}
 use Rattle.std.proofs.lemmas.Int.{to_z-of_z}
 use Rattle.pl_terms.specs.Kinds.{kind_of}
 use Rattle.pl_factors.specs.Kinds.{formula_of}
-use Rattle.pl_running.specs.Kept.{kept_of}
+use Rattle.pl_running.specs.Kept.{Kept, kept_of}
+use Rattle.pl_running.specs.Lanes.{formula_at, window_at}
 use Rattle.pl_running.specs.Spans.{TakesSpans, TakesWindows}
-use Rattle.pl_running.proofs.Following.{holds_of, none_valued, one_valued, roomy_span, same_of, span_after, span_before, spans_at}
+use Rattle.pl_running.proofs.Following.{after_hold, before_hold, holds_of, none_given, one_given, same_of, spans_at}
 use Rattle.pl_running.proofs.lanes.fill_slid.Goals as goal
 
 pub value-requires-clause-windows : goal.value-requires-clause-windows
@@ -16,60 +17,52 @@ loop-k-init c =
     let r : FitsSigned w64 c.value.result = search rules in
     rw (to_z-of_z w64 _ r) (record {
       stands = c.start-running.ensures ∙ same_of (kept_of (kind_of c.args.kind.now)) _ _ _ _ _ _ c.window_at-first.ensures c.window_at-second.ensures c.window_at-third.ensures;
-      values = one_valued (kind_of c.args.kind.now) c.args.size c.args.a.now c.args.b.now c.args.c.now 0 c.args.out.now c.value.result (none_valued _ _ _ _ _ c.args.out.now) c.requires.windows
+      values = one_given (formula_at (kind_of c.args.kind.now) c.args.size c.args.a.now c.args.b.now c.args.c.now) 0 c.args.out.now c.value.result (none_given _ c.args.out.now) c.requires.windows
           (c.value.ensures.value ∙ same_of (formula_of (kind_of c.args.kind.now)) _ _ _ _ _ _ c.window_at-first.ensures c.window_at-second.ensures c.window_at-third.ensures) c.value.ensures.cell;
     })
 
+-- the place has windows, and is not the first
+place : (c : goal.After-running-in-loop-k-1) → (1 ≤ c.loop-k.k) × (c.loop-k.k < length c.args.out.now)
+place c =
+    let size = length-set c.args.out.now 0 (to_z w64 (of_z w64 c.value.result)) in
+    (omega (arith, c.loop-k.auto.k), omega (arith, size, c.loop-k-test.true, c.loop-k.auto.out))
+
 pub next_value-requires-clause-spans : goal.next_value-requires-clause-spans
 next_value-requires-clause-spans c =
-    let size = length-set c.args.out.now 0 (to_z w64 (of_z w64 c.value.result)) in
-    let next : c.loop-k.k - 1 + 1 < length c.args.out.now = omega (arith, size, c.loop-k-test.true, c.loop-k.auto.k, c.loop-k.auto.out) in
+    let at = place c in
     holds_of (TakesSpans (kind_of c.args.kind.now)) _ _ _ _ _ _ c.window_at-a_span.ensures c.window_at-b_span.ensures c.window_at-c_span.ensures
-    (spans_at (kind_of c.args.kind.now) c.args.size (length c.args.out.now) c.args.a.now c.args.b.now c.args.c.now c.requires.lanes c.requires.some c.requires.first c.requires.range (c.loop-k.k - 1) next)
+    (spans_at (kind_of c.args.kind.now) c.args.size (length c.args.out.now) c.args.a.now c.args.b.now c.args.c.now c.requires.lanes c.requires.some c.requires.first c.requires.range (c.loop-k.k - 1)
+    (omega (arith, at.0, at.1)))
 
 pub next_value-requires-clause-windows : goal.next_value-requires-clause-windows
 next_value-requires-clause-windows c =
-    let lanes = c.requires.lanes in
-    let size = length-set c.args.out.now 0 (to_z w64 (of_z w64 c.value.result)) in
-    let next : c.loop-k.k - 1 + 1 < length c.args.out.now = omega (arith, size, c.loop-k-test.true, c.loop-k.auto.k, c.loop-k.auto.out) in
-    let here : c.loop-k.k ≡ c.loop-k.k - 1 + 1 = omega (arith, c.loop-k.auto.k) in
-    let roomy = roomy_span (kind_of c.args.kind.now) c.args.size (length c.args.out.now) c.args.a.now c.args.b.now c.args.c.now lanes in
-    holds_of (TakesWindows (kind_of c.args.kind.now)) _ _ _ _ _ _
-    (span_after c.args.size c.loop-k.k c.loop-k.k here c.args.a.now _ (roomy c.args.a.now lanes.first_long (c.loop-k.k - 1) next) c.window_at-a_span.ensures)
-    (span_after c.args.size c.loop-k.k c.loop-k.k here c.args.b.now _ (roomy c.args.b.now lanes.second_long (c.loop-k.k - 1) next) c.window_at-b_span.ensures)
-    (span_after c.args.size c.loop-k.k c.loop-k.k here c.args.c.now _ (roomy c.args.c.now lanes.third_long (c.loop-k.k - 1) next) c.window_at-c_span.ensures)
-    (lanes.windows c.loop-k.k (omega (arith, next, here)))
+    let at = place c in
+    after_hold (kind_of c.args.kind.now) c.args.size (length c.args.out.now) c.args.a.now c.args.b.now c.args.c.now c.requires.lanes c.loop-k.k at.0 at.1 _ _ _
+    c.window_at-a_span.ensures c.window_at-b_span.ensures c.window_at-c_span.ensures (TakesWindows (kind_of c.args.kind.now)) (c.requires.lanes.windows c.loop-k.k at.1)
 
 pub next_value-requires-clause-stands : goal.next_value-requires-clause-stands
 next_value-requires-clause-stands c =
-    let lanes = c.requires.lanes in
-    let size = length-set c.args.out.now 0 (to_z w64 (of_z w64 c.value.result)) in
-    let next : c.loop-k.k - 1 + 1 < length c.args.out.now = omega (arith, size, c.loop-k-test.true, c.loop-k.auto.k, c.loop-k.auto.out) in
-    let here : c.loop-k.k ≡ c.loop-k.k - 1 + 1 = omega (arith, c.loop-k.auto.k) in
-    let roomy = roomy_span (kind_of c.args.kind.now) c.args.size (length c.args.out.now) c.args.a.now c.args.b.now c.args.c.now lanes in
+    let at = place c in
+    let kept = kept_of (kind_of c.args.kind.now) in
+    let old : ℕ → List ℤ → List ℤ = window_at c.args.size in
     c.loop-k.invariant.stands
-    ∙ sym (same_of (kept_of (kind_of c.args.kind.now)) _ _ _ _ _ _
-    (span_before c.args.size c.loop-k.k c.loop-k.k here c.args.a.now _ (roomy c.args.a.now lanes.first_long (c.loop-k.k - 1) next) c.window_at-a_span.ensures)
-    (span_before c.args.size c.loop-k.k c.loop-k.k here c.args.b.now _ (roomy c.args.b.now lanes.second_long (c.loop-k.k - 1) next) c.window_at-b_span.ensures)
-    (span_before c.args.size c.loop-k.k c.loop-k.k here c.args.c.now _ (roomy c.args.c.now lanes.third_long (c.loop-k.k - 1) next) c.window_at-c_span.ensures))
+    ∙ sym (before_hold (kind_of c.args.kind.now) c.args.size (length c.args.out.now) c.args.a.now c.args.b.now c.args.c.now c.requires.lanes c.loop-k.k at.0 at.1 _ _ _
+    c.window_at-a_span.ensures c.window_at-b_span.ensures c.window_at-c_span.ensures
+    (λ x y z. kept x y z ≡ kept (old (c.loop-k.k - 1) c.args.a.now) (old (c.loop-k.k - 1) c.args.b.now) (old (c.loop-k.k - 1) c.args.c.now)) refl)
 
 pub loop-k-preserved : goal.loop-k-preserved
 loop-k-preserved c =
     let r : FitsSigned w64 c.next_value.result = search rules in
-    let lanes = c.requires.lanes in
+    let kind = kind_of c.args.kind.now in
     let size = length-set c.args.out.now 0 (to_z w64 (of_z w64 c.value.result)) in
-    let next : c.loop-k.k - 1 + 1 < length c.args.out.now = omega (arith, size, c.loop-k-test.true, c.loop-k.auto.k, c.loop-k.auto.out) in
-    let here : c.loop-k.k ≡ c.loop-k.k - 1 + 1 = omega (arith, c.loop-k.auto.k) in
-    let later : c.loop-k.k + 1 - 1 ≡ c.loop-k.k - 1 + 1 = omega (arith, c.loop-k.auto.k) in
-    let roomy = roomy_span (kind_of c.args.kind.now) c.args.size (length c.args.out.now) c.args.a.now c.args.b.now c.args.c.now lanes in
+    let inside : c.loop-k.k < length c.args.out.now = omega (arith, size, c.loop-k-test.true, c.loop-k.auto.out) in
+    let later : c.loop-k.k ≡ c.loop-k.k + 1 - 1 = omega arith in
+    let new = after_hold kind c.args.size (length c.args.out.now) c.args.a.now c.args.b.now c.args.c.now c.requires.lanes c.loop-k.k (omega (arith, c.loop-k.auto.k)) inside _ _ _
+    c.window_at-a_span.ensures c.window_at-b_span.ensures c.window_at-c_span.ensures in
+    let kept : ℕ → Kept = λ j. kept_of kind (window_at c.args.size j c.args.a.now) (window_at c.args.size j c.args.b.now) (window_at c.args.size j c.args.c.now) in
+    let value : ℕ → ℤ = formula_at kind c.args.size c.args.a.now c.args.b.now c.args.c.now in
     rw (to_z-of_z w64 _ r) (record {
-      stands = c.next_value.ensures.stands ∙ same_of (kept_of (kind_of c.args.kind.now)) _ _ _ _ _ _
-          (span_after c.args.size c.loop-k.k (c.loop-k.k + 1 - 1) later c.args.a.now _ (roomy c.args.a.now lanes.first_long (c.loop-k.k - 1) next) c.window_at-a_span.ensures)
-          (span_after c.args.size c.loop-k.k (c.loop-k.k + 1 - 1) later c.args.b.now _ (roomy c.args.b.now lanes.second_long (c.loop-k.k - 1) next) c.window_at-b_span.ensures)
-          (span_after c.args.size c.loop-k.k (c.loop-k.k + 1 - 1) later c.args.c.now _ (roomy c.args.c.now lanes.third_long (c.loop-k.k - 1) next) c.window_at-c_span.ensures);
-      values = one_valued (kind_of c.args.kind.now) c.args.size c.args.a.now c.args.b.now c.args.c.now c.loop-k.k c.loop-k.out c.next_value.result c.loop-k.invariant.values (omega (arith, size, next, here, c.loop-k.auto.out))
-          (c.next_value.ensures.value ∙ same_of (formula_of (kind_of c.args.kind.now)) _ _ _ _ _ _
-          (span_after c.args.size c.loop-k.k c.loop-k.k here c.args.a.now _ (roomy c.args.a.now lanes.first_long (c.loop-k.k - 1) next) c.window_at-a_span.ensures)
-          (span_after c.args.size c.loop-k.k c.loop-k.k here c.args.b.now _ (roomy c.args.b.now lanes.second_long (c.loop-k.k - 1) next) c.window_at-b_span.ensures)
-          (span_after c.args.size c.loop-k.k c.loop-k.k here c.args.c.now _ (roomy c.args.c.now lanes.third_long (c.loop-k.k - 1) next) c.window_at-c_span.ensures)) c.next_value.ensures.cell;
+      stands = c.next_value.ensures.stands ∙ new (λ x y z. kept_of kind x y z ≡ kept c.loop-k.k) refl ∙ ap kept later;
+      values = one_given value c.loop-k.k c.loop-k.out c.next_value.result c.loop-k.invariant.values (omega (arith, size, inside, c.loop-k.auto.out))
+          (c.next_value.ensures.value ∙ new (λ x y z. formula_of kind x y z ≡ value c.loop-k.k) refl) c.next_value.ensures.cell;
     })

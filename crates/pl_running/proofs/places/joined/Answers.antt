@@ -1,11 +1,11 @@
 use Rattle.std.proofs.Common.{◌≡◌, ◌≤◌, ◌<◌, ◌-◌, length, ap, sym, ◌∙◌, FitsSigned, w64, to_z, of_z}
 use Rattle.std.proofs.lemmas.Int.{to_z-of_z}
 use Rattle.pl_lanes.specs.Heights.{rank, best_of}
-use Rattle.pl_lanes.proofs.Bits.{cell-fits}
+use Rattle.pl_lanes.proofs.Bits.{at-cell, at-exact, cell-fits}
 use Rattle.pl_factors.proofs.Casts.{wide}
 use Rattle.pl_factors.specs.Terms.{first_place}
 use Rattle.pl_running.specs.Spans.{before, after, last}
-use Rattle.pl_running.proofs.Bounds.{at-cell, at-exact, before-cells}
+use Rattle.pl_running.proofs.Bounds.{before-cells}
 use Rattle.pl_running.proofs.Peaks.{best-cell, kept-is}
 use Rattle.pl_running.proofs.FirstPlaces.{Leaves, best-enters, best-remains}
 use Rattle.pl_running.proofs.places.joined.Goals as goal

@@ -1,7 +1,8 @@
 use Rattle.std.proofs.Common.{◌≡◌, ◌-◌, length, arith, ap, ◌∙◌}
 use Rattle.pl_lanes.proofs.Cells.{few-present}
+use Rattle.pl_lanes.proofs.Bits.{at-exact}
 use Rattle.pl_running.specs.Spans.{before, first, last, presence}
-use Rattle.pl_running.proofs.Bounds.{at-exact, before-few}
+use Rattle.pl_running.proofs.Bounds.{before-few}
 use Rattle.pl_running.proofs.Sliding.{count-slides}
 use Rattle.pl_running.proofs.sums.next_count.Goals as goal
 

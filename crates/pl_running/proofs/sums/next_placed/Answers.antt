@@ -1,9 +1,10 @@
 use Rattle.std.proofs.Common.{◌-◌, length, rules, arith, ap₂, sym, ◌∙◌, FitsSigned, w64}
 use Rattle.std.specs.Int.{w128}
 use Rattle.std.proofs.lemmas.Int.{to_z-of_z, to_z_pos}
+use Rattle.pl_lanes.proofs.Bits.{at-exact}
 use Rattle.pl_factors.specs.Terms.{product}
 use Rattle.pl_running.specs.Spans.{before}
-use Rattle.pl_running.proofs.Bounds.{moved-is, at-exact, before-cells, before-few, sum-within, placed-within}
+use Rattle.pl_running.proofs.Bounds.{moved-is, before-cells, before-few, sum-within, placed-within}
 use Rattle.pl_running.proofs.Sliding.{placed-slides}
 use Rattle.pl_running.proofs.sums.next_placed.Goals as goal
 

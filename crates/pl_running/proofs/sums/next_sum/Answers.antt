@@ -1,8 +1,9 @@
 use Rattle.std.proofs.Common.{◌-◌, length, rules, arith, ap, sym, ◌∙◌, FitsSigned}
 use Rattle.std.specs.Int.{w128}
 use Rattle.std.proofs.lemmas.Int.{to_z-of_z}
+use Rattle.pl_lanes.proofs.Bits.{at-exact}
 use Rattle.pl_running.specs.Spans.{before, part}
-use Rattle.pl_running.proofs.Bounds.{moved-is, at-exact, before-cells, before-few, sum-within}
+use Rattle.pl_running.proofs.Bounds.{moved-is, before-cells, before-few, sum-within}
 use Rattle.pl_running.proofs.Sliding.{sum-slides}
 use Rattle.pl_running.proofs.sums.next_sum.Goals as goal
 

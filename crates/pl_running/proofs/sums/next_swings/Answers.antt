@@ -1,9 +1,10 @@
 use Rattle.std.proofs.Common.{◌≡◌, ◌-◌, pos, get_or, length, rules, arith, ap, ap₂, sym, ◌∙◌, FitsSigned}
 use Rattle.std.specs.Int.{w128}
 use Rattle.std.proofs.lemmas.Int.{to_z-of_z}
+use Rattle.pl_lanes.proofs.Bits.{at-exact}
 use Rattle.pl_factors.specs.Terms.{swing}
 use Rattle.pl_running.specs.Spans.{before}
-use Rattle.pl_running.proofs.Bounds.{moved-is, at-exact, before-cells, before-few, swings-within}
+use Rattle.pl_running.proofs.Bounds.{moved-is, before-cells, before-few, swings-within}
 use Rattle.pl_running.proofs.Sliding.{swings-slide}
 use Rattle.pl_running.proofs.sums.next_swings.Goals as goal
 
