@@ -1,5 +1,5 @@
 -- The lines of the terms below a number.
-use Rattle.std.proofs.Common.{◌≡◌, ℕ, ◌+◌, Bool, true, false, List, [], ◌∷◌, ◌++◌, length, filter, flat_map, Some, refl, sym, ◌∙◌, ap, slice_get}
+use Rattle.std.proofs.Common.{◌≡◌, ℕ, ◌+◌, Bool, true, false, List, [], ◌∷◌, ◌++◌, append-nil, length, filter, flat_map, Some, refl, sym, ◌∙◌, ap, slice_get}
 use Rattle.std.specs.List.{range_with_len}
 use Rattle.std.proofs.lemmas.List.Elements.{filter-append}
 use Rattle.std.proofs.lemmas.Grind.{flat_map-append}
@@ -17,10 +17,6 @@ module _ (p : Pipeline) (extra : ℕ → ℕ) where
   next : (k : ℕ) → filter (is_used p) (range_with_len 0 (k + 1)) ≡ filter (is_used p) (range_with_len 0 k) ++ filter (is_used p) (k ∷ [])
   next k = ap (filter (is_used p)) (range-next k) ∙ filter-append (is_used p) (range_with_len 0 k) (k ∷ [])
 
-  append-nil : (xs : List ℕ) → xs ++ [] ≡ xs
-  append-nil [] = refl
-  append-nil (x ∷ xs) = ap (λ l. x ∷ l) (append-nil xs)
-
   more : (k : ℕ) → lines_below (k + 1) ≡ lines_below k ++ flat_map (line_at p extra) (filter (is_used p) (k ∷ []))
   more k = ap (flat_map (line_at p extra)) (next k) ∙ flat_map-append (line_at p extra) (filter (is_used p) (range_with_len 0 k)) (filter (is_used p) (k ∷ []))
 
@@ -33,9 +29,6 @@ module _ (p : Pipeline) (extra : ℕ → ℕ) where
 
   pub line-is : (k : ℕ) (n : Node) → is_used p k ≡ true → slice_get p.graph k ≡ Some n → used_line p extra k ≡ term_line k n (extra k) (uses p k)
   line-is k n u e = rw (u, e) refl
-
-  pub no-line : (k : ℕ) → is_used p k ≡ false → used_line p extra k ≡ []
-  no-line k u = rw u refl
 
   pub all-lines : lines_below (length p.graph) ≡ lines_text p extra
   unfolding lines_text

@@ -1,10 +1,11 @@
 -- The text of statements, one after another.
-use Rattle.std.proofs.Common.{◌≡◌, ℕ, zero, suc, ◌+◌, ◌<◌, ◌≤◌, ◌==◌, true, false, List, [], ◌∷◌, ◌++◌, length, drop, get_or, refl, sym, ap, ◌∙◌, arith, append_assoc, append-nil, drop-cons}
+use Rattle.std.proofs.Common.{◌≡◌, ℕ, suc, ◌+◌, ◌<◌, ◌≤◌, true, List, [], ◌∷◌, ◌++◌, length, drop, get_or, refl, sym, ap, ◌∙◌, inl, inr, arith, append_assoc, append-nil, drop-cons}
 use Rattle.std.specs.Prelude.{codes}
 use Rattle.std.proofs.lemmas.Fmt.{decimal_digit}
-use Rattle.std.proofs.lemmas.Bool.Decides.{nat_tests}
 use Rattle.std.proofs.lemmas.List.{drop_all}
+use Rattle.std.specs.Fmt.{decimal}
 use Rattle.pl_grammar.specs.Script.{is_known}
+use Rattle.pl_grammar.proofs.Scripts.{version_cases}
 use Rattle.pl_syntax.specs.Statements.{statement_of, statements_of}
 use Rattle.pl_syntax.specs.Canonical.{statement_text, statements_text, version_text, script_text}
 use Rattle.pl_syntax.specs.declared.script.Statement.{Statement}
@@ -24,15 +25,13 @@ no_line = refl
 pub first_line : (n : ℕ) → is_known n ≡ true → (ds : List ℕ) → (n ≡ 1 → ds ≡ codes "pipeline 1;\n") → (n ≡ 2 → ds ≡ codes "pipeline 2;\n") → (n ≡ 3 → ds ≡ codes "pipeline 3;\n")
     → ds ≡ version_text n
 unfolding version_text
-first_line zero h ds one two three = absurd (let bad : false ≡ true = h in cc)
-first_line (suc zero) h ds one two three = one refl ∙ sym (ap (λ ds. codes "pipeline " ++ (ds ++ codes ";\n")) (decimal_digit 1 (omega arith)))
-first_line (suc (suc zero)) h ds one two three = two refl ∙ sym (ap (λ ds. codes "pipeline " ++ (ds ++ codes ";\n")) (decimal_digit 2 (omega arith)))
-first_line (suc (suc (suc zero))) h ds one two three = three refl ∙ sym (ap (λ ds. codes "pipeline " ++ (ds ++ codes ";\n")) (decimal_digit 3 (omega arith)))
-first_line (suc (suc (suc (suc n)))) h ds one two three =
-    let first : (suc (suc (suc (suc n))) == 1) ≡ false = grind (arith, nat_tests) in
-    let second : (suc (suc (suc (suc n))) == 2) ≡ false = grind (arith, nat_tests) in
-    let third : (suc (suc (suc (suc n))) == 3) ≡ false = grind (arith, nat_tests) in
-    absurd (let bad : false ≡ true = rw (first, second, third) at h in cc)
+first_line n h ds one two three = elim (version_cases n h) [
+  | inl e ↦ at 1 (omega arith) e (one e)
+  | inr f ↦ elim f [ inl e ↦ at 2 (omega arith) e (two e) | inr e ↦ at 3 (omega arith) e (three e) ]
+]
+  where
+    at : (m : ℕ) → m < 10 → n ≡ m → ds ≡ codes "pipeline " ++ (((48 + m) ∷ []) ++ codes ";\n") → ds ≡ codes "pipeline " ++ (decimal n ++ codes ";\n")
+    at m low e k = k ∙ ap (λ xs. codes "pipeline " ++ (xs ++ codes ";\n")) (sym (decimal_digit m low) ∙ ap decimal (sym e))
 
 pub begun_lines : (n : ℕ) (xs ys : List Statement) (made out line : List ℕ) → xs ≡ ys → made ≡ [] → out ≡ made ++ line → line ≡ version_text n → out ++ lines_text xs ≡ script_text n (statements_of ys)
 unfolding script_text

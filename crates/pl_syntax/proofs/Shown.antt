@@ -1,5 +1,5 @@
 -- The canonical text of a script is read as its canonical tokens.
-use Rattle.std.proofs.Common.{◌≡◌, ℕ, zero, suc, ℤ, pos, negsuc, ◌<◌, ◌≤◌, Bool, true, false, cond, leb, List, [], ◌∷◌, ◌++◌, length, Option, Some, None, refl, sym, ap, ◌∙◌, arith, subst, append_assoc, append-nil}
+use Rattle.std.proofs.Common.{◌≡◌, ℕ, ℤ, pos, negsuc, ◌+◌, ◌<◌, ◌≤◌, Bool, true, false, cond, leb, List, [], ◌∷◌, ◌++◌, length, Option, Some, None, refl, sym, ap, ◌∙◌, inl, inr, arith, subst, append_assoc, append-nil}
 use Rattle.std.specs.Prelude.{codes, ◌==◌, nat_le, ◌/◌}
 use Rattle.std.specs.Fmt.{decimal}
 use Rattle.std.specs.Str.Parse.{AllDigits}
@@ -8,7 +8,7 @@ use Rattle.std.proofs.lemmas.Bool.Decides.{nat_tests}
 use Rattle.std.proofs.lemmas.Fmt.{decimal_digit, decimal_is_IsNumeral}
 use Rattle.std.proofs.lemmas.Str.Parse.{digit_from_value}
 use Rattle.std.proofs.lemmas.Bool.{and_parts}
-use Rattle.pl_spec.specs.Rounding.{LIMIT, MILLION}
+use Rattle.pl_spec.specs.Rounding.{LIMIT, MILLION, div_round}
 use Rattle.pl_grammar.specs.declared.Place.{Place}
 use Rattle.pl_grammar.specs.declared.PrefixSign.{PrefixSign}
 use Rattle.pl_grammar.specs.declared.PrefixSign.TheVariants.{Minus, Not}
@@ -19,13 +19,13 @@ use Rattle.pl_grammar.specs.Tree.{Lexeme, mark, Tree, number, text, name, call, 
 use Rattle.pl_grammar.specs.Printed.{here, tree_level, placed, name_tokens, tokens, args_tokens, more_tokens}
 use Rattle.pl_grammar.specs.Script.{Head, LetHead, ColumnHead, ScreenHead, Statement, is_known}
 use Rattle.pl_grammar.specs.Whole.{version_number, tree_passes, args_pass, name_passes, head_passes, head_tokens, statements_tokens, script_tokens, is_sound, are_sound}
-use Rattle.pl_grammar.proofs.Scripts.{parts}
+use Rattle.pl_grammar.proofs.Scripts.{parts, version_cases}
 use Rattle.pl_tokens.specs.Bytes.{Stops}
 use Rattle.pl_spec.specs.Names.{is_digit, starts_word, is_word_byte, is_name}
-use Rattle.pl_tokens.specs.Tokens.{NoDecimals}
+use Rattle.pl_tokens.specs.Tokens.{NoDecimals, number_token}
 use Rattle.pl_tokens.specs.Numerals.{number_text}
 use Rattle.pl_tokens.specs.Sound.{is_number, is_written}
-use Rattle.pl_tokens.proofs.Shows.{Shows, end_shows, pair_shows, word_shows, one_shows, two_shows, three_shows, blank_shows, sign_shows, name_shows, text_shows, number_shows}
+use Rattle.pl_tokens.proofs.Shows.{Shows, end_shows, pair_shows, word_shows, digit_shows, blank_shows, sign_shows, name_shows, text_shows, number_shows}
 use Rattle.pl_syntax.specs.Canonical.{prefix_text, binary_text, placed_text, name_text, comma_text, in_parentheses, tree_text, list_text, head_text, statements_text, version_text, script_text}
 
 -- what may follow an operand: nothing that a name or a number before it would take
@@ -289,18 +289,16 @@ statements_show (s ∷ ss) h =
     (sign_shows 59 (10 ∷ rest) us _ refl (plain_sign (10 ∷ rest)) (blank_shows 10 rest us refl (statements_show ss a.1)))))
 
 number_line : (n : ℕ) → is_known n ≡ true → (rest : List ℕ) (us : List Lexeme) (p : Place) → NoDecimals rest → Shows rest us → Shows (decimal n ++ rest) (mark p (t.Number (version_number n)) ∷ us)
-number_line zero h rest us p s k = absurd (let bad : false ≡ true = h in cc)
-number_line (suc zero) h rest us p s k =
-    subst (λ z. Shows (z ++ rest) (mark p (t.Number (pos 1000000)) ∷ us)) (sym (decimal_digit 1 (omega arith))) (one_shows rest us p s k)
-number_line (suc (suc zero)) h rest us p s k =
-    subst (λ z. Shows (z ++ rest) (mark p (t.Number (pos 2000000)) ∷ us)) (sym (decimal_digit 2 (omega arith))) (two_shows rest us p s k)
-number_line (suc (suc (suc zero))) h rest us p s k =
-    subst (λ z. Shows (z ++ rest) (mark p (t.Number (pos 3000000)) ∷ us)) (sym (decimal_digit 3 (omega arith))) (three_shows rest us p s k)
-number_line (suc (suc (suc (suc n)))) h rest us p s k =
-    let first : (suc (suc (suc (suc n))) == 1) ≡ false = grind (arith, nat_tests) in
-    let second : (suc (suc (suc (suc n))) == 2) ≡ false = grind (arith, nat_tests) in
-    let third : (suc (suc (suc (suc n))) == 3) ≡ false = grind (arith, nat_tests) in
-    absurd (let bad : false ≡ true = rw (first, second, third) at h in cc)
+unfolding div_round
+number_line n h rest us p s k = elim (version_cases n h) [
+  | inl e ↦ at 1 (omega arith) refl refl e
+  | inr f ↦ elim f [ inl e ↦ at 2 (omega arith) refl refl e | inr e ↦ at 3 (omega arith) refl refl e ]
+]
+  where
+    at : (m : ℕ) → m < 10 → is_digit (48 + m) ≡ true → number_token ((48 + m) ∷ []) [] ≡ t.Number (version_number m) → n ≡ m → Shows (decimal n ++ rest) (mark p (t.Number (version_number n)) ∷ us)
+    at m low d v e =
+        subst (λ x. Shows (decimal x ++ rest) (mark p (t.Number (version_number x)) ∷ us)) (sym e)
+        (subst (λ ds. Shows (ds ++ rest) (mark p (t.Number (version_number m)) ∷ us)) (sym (decimal_digit m low)) (digit_shows (48 + m) _ rest us p d v s k))
 
 pub script_shows : (n : ℕ) (ss : List Statement) → is_known n ≡ true → are_sound is_written ss ≡ true → Shows (script_text n ss) (script_tokens n ss)
 unfolding script_tokens script_text version_text

@@ -1,5 +1,5 @@
 -- No token begins where a gap does, and a bad byte is found as one.
-use Rattle.std.proofs.Common.{◌≡◌, ℕ, suc, ◌+◌, ◌<◌, ◌≤◌, Bool, true, false, ◌&&◌, List, [], ◌∷◌, ◌++◌, length, drop, refl, ap, ◌∙◌, arith, length-append}
+use Rattle.std.proofs.Common.{◌≡◌, ℕ, suc, ◌+◌, ◌<◌, ◌≤◌, true, false, ◌&&◌, List, [], ◌∷◌, ◌++◌, length, drop, refl, ap, ◌∙◌, arith, length-append}
 use Rattle.std.specs.Prelude.{◌==◌, nat_le}
 use Rattle.std.proofs.lemmas.Bool.Decides.{nat_tests}
 use Rattle.std.proofs.lemmas.Bool.{or_left, cond-false, cond-true, lt-leb}
@@ -10,7 +10,7 @@ use Rattle.pl_spec.specs.Names.{is_word_byte, is_digit, starts_word}
 use Rattle.pl_tokens.specs.Tokens.{Front, a_word, a_whole, a_decimal, a_text, a_pair, a_sign}
 use Rattle.pl_tokens.specs.Front.{word_front, text_end, sign_front, front}
 use Rattle.pl_tokens.specs.Text.{IsBad, bad_word, bad_text, bad_sign, IsUnquoted}
-use Rattle.pl_tokens.proofs.Longest.{longest, run_length, drop_front}
+use Rattle.pl_tokens.proofs.Longest.{longest, run_length, drop_front, not_both_of}
 
 word_no_gap : (c : ℕ) → starts_word c ≡ true → begins_gap c ≡ false
 word_no_gap c h = grind (arith, nat_tests)
@@ -58,11 +58,7 @@ unquoted n (b ∷ bs) q = cond-false (b == 34) _ _ q
 
 no_pair : (c : ℕ) (rest : List ℕ) → is_sign c ≡ false → (pairs c ≡ true → Stops (λ b. b == 61) rest) → sign_front c rest ≡ Bad 0
 no_pair c [] x y = cond-false (is_sign c) _ _ x
-no_pair c (b ∷ bs) x y = cond-false (pairs c && (b == 61)) _ _ (apart (pairs c) (b == 61) y) ∙ cond-false (is_sign c) _ _ x
-  where
-    apart : (t u : Bool) → (t ≡ true → u ≡ false) → (t && u) ≡ false
-    apart true u g = g refl
-    apart false u g = refl
+no_pair c (b ∷ bs) x y = cond-false (pairs c && (b == 61)) _ _ (not_both_of (pairs c) (b == 61) y) ∙ cond-false (is_sign c) _ _ x
 
 pub bad_only : {bs : List ℕ} {k : ℕ} → IsBad bs k → front bs ≡ Bad k
 unfolding front

@@ -1,12 +1,12 @@
 -- A token's form decides what is found at the front of a text, and what is found there has its form.
-use Rattle.std.proofs.Common.{◌≡◌, ℕ, suc, ◌+◌, ◌<◌, Bool, true, false, cond, ◌&&◌, ◌||◌, List, [], ◌∷◌, ◌++◌, length, drop, refl, sym, ap, ap₂, ◌∙◌, arith, append_assoc, subst, leb-false, leb-true}
+use Rattle.std.proofs.Common.{◌≡◌, ℕ, suc, ◌+◌, Bool, true, false, cond, ◌&&◌, ◌||◌, List, [], ◌∷◌, ◌++◌, length, drop, refl, sym, ap, ap₂, ◌∙◌, arith, append_assoc, subst, leb-false, leb-true}
 use Rattle.std.specs.List.{take_while, list_all}
 use Rattle.std.proofs.lemmas.List.Sums.{take_while-cons}
 use Rattle.std.proofs.lemmas.Bool.Decides.{nat_tests}
 use Rattle.std.proofs.Math.Seq.{drop-append_seam}
 use Rattle.std.specs.Prelude.{◌==◌, nat_le}
 use Rattle.std.specs.Cmp.{first_so, second_so}
-use Rattle.std.proofs.lemmas.Bool.{or_left, cond-false, cond-true}
+use Rattle.std.proofs.lemmas.Bool.{or_left, cond-false, cond-true, eqb-true, le-leb}
 use Rattle.pl_tokens.specs.declared.front.Form.{Form}
 use Rattle.pl_tokens.specs.declared.front.Form.TheVariants.{Word, Number, Text, One, Two}
 use Rattle.pl_tokens.specs.declared.front.Found.{Found}
@@ -22,15 +22,7 @@ pub longest : (p : ℕ → Bool) (xs rest : List ℕ) → list_all p xs ≡ true
 longest p [] [] h s = refl
 longest p [] (b ∷ bs) h s = take_while-cons p b bs ∙ ap (λ t. cond t (b ∷ take_while p bs) []) s
 longest p (x ∷ xs) rest h s =
-    take_while-cons p x (xs ++ rest) ∙ (ap (λ t. cond t (x ∷ take_while p (xs ++ rest)) []) (first_of_all (p x) (list_all p xs) h) ∙ ap (λ z. x ∷ z) (longest p xs rest (rest_of_all (p x) (list_all p xs) h) s))
-  where
-    first_of_all : (a b : Bool) → (a && b) ≡ true → a ≡ true
-    first_of_all true b k = refl
-    first_of_all false b k = cc
-
-    rest_of_all : (a b : Bool) → (a && b) ≡ true → b ≡ true
-    rest_of_all true b k = k
-    rest_of_all false b k = cc
+    take_while-cons p x (xs ++ rest) ∙ (ap (λ t. cond t (x ∷ take_while p (xs ++ rest)) []) (first_so (p x) (list_all p xs) h) ∙ ap (λ z. x ∷ z) (longest p xs rest (second_so (p x) (list_all p xs) h) s))
 
 all_of : (p : ℕ → Bool) (c : ℕ) (cs : List ℕ) → p c ≡ true → list_all p cs ≡ true → list_all p (c ∷ cs) ≡ true
 all_of p c cs h k = ap₂ (λ a b. a && b) h k
@@ -44,9 +36,6 @@ digit_starts_none c h = grind (arith, nat_tests)
 pub drop_front : (xs ys : List ℕ) → drop (length xs) (xs ++ ys) ≡ ys
 drop_front xs ys = drop-append_seam xs ys
 
-byte_is : (b : ℕ) → (b == 46) ≡ true → b ≡ 46
-byte_is b k = grind (arith, nat_tests)
-
 pairs_apart : (c : ℕ) → pairs c ≡ true → (starts_word c ≡ false) × (is_digit c ≡ false) × ((c == 34) ≡ false)
 pairs_apart c h = (grind (arith, nat_tests), grind (arith, nat_tests), grind (arith, nat_tests))
 
@@ -58,7 +47,7 @@ bang_no_sign c h = grind (arith, nat_tests)
 
 whole_only : (n : ℕ) (rest : List ℕ) → NoDecimals rest → fraction_behind n rest ≡ Token (Number n 0)
 whole_only n [] h = refl
-whole_only n (b ∷ bs) h = by_test (b == 46) (λ k. no_digits bs (h.1 (byte_is b k)))
+whole_only n (b ∷ bs) h = by_test (b == 46) (λ k. no_digits bs (h.1 (eqb-true b 46 k)))
   where
     no_digits : (bs : List ℕ) → Stops is_digit bs → length (take_while is_digit bs) ≡ 0
     no_digits [] s = refl
@@ -68,22 +57,24 @@ whole_only n (b ∷ bs) h = by_test (b == 46) (λ k. no_digits bs (h.1 (byte_is 
     by_test true k = ap (λ x. Token (Number n x)) (k refl)
     by_test false k = refl
 
-at_most : (a b : ℕ) → a < b → nat_le (suc a) b ≡ true
-at_most a b h = grind (arith, nat_tests)
+pub stops_at : (rest : List ℕ) → NoDecimals rest → Stops is_digit rest
+stops_at [] n = tt
+stops_at (b ∷ bs) n = n.0
+
+-- where the one excludes the other, they are not both
+pub not_both_of : (t u : Bool) → (t ≡ true → u ≡ false) → (t && u) ≡ false
+not_both_of true u g = g refl
+not_both_of false u g = refl
 
 pub front_only : {xs rest : List ℕ} {f : Form} → Front xs rest f → front (xs ++ rest) ≡ Token f
 unfolding front
 front_only {rest = rest} (a_word c cs h k s few) =
     cond-true (starts_word c) _ _ h ∙ (ap word_front (run_length is_word_byte c cs rest (or_left (starts_word c) (is_digit c) h) k s)
-    ∙ cond-true (nat_le (suc (length cs)) 32) _ _ (at_most (length cs) 32 few))
+    ∙ cond-true (nat_le (suc (length cs)) 32) _ _ (le-leb (suc (length cs)) 32 few))
 front_only {rest = rest} (a_whole c cs h k s) =
     cond-false (starts_word c) _ _ (digit_starts_none c h) ∙ (cond-true (is_digit c) _ _ h
     ∙ (ap (λ n. fraction_behind n (drop n (c ∷ (cs ++ rest)))) (run_length is_digit c cs rest h k (stops_at rest s))
     ∙ (ap (fraction_behind (suc (length cs))) (drop_front (c ∷ cs) rest) ∙ whole_only (suc (length cs)) rest s)))
-  where
-    stops_at : (rest : List ℕ) → NoDecimals rest → Stops is_digit rest
-    stops_at [] n = tt
-    stops_at (b ∷ bs) n = n.0
 front_only {rest = rest} (a_decimal c cs f fs h k h' k' s) =
     let behind : List ℕ = 46 ∷ (f ∷ (fs ++ rest)) in
     let regrouped : (cs ++ (46 ∷ (f ∷ fs))) ++ rest ≡ cs ++ behind = append_assoc cs (46 ∷ (f ∷ fs)) rest in
@@ -107,10 +98,6 @@ front_only {rest = rest} (a_sign c h k) =
     cond-false (starts_word c) _ _ apart.0 ∙ (cond-false (is_digit c) _ _ apart.1 ∙ (cond-false (c == 34) _ _ apart.2
     ∙ one rest k))
   where
-    alone : (t u : Bool) → ((t ≡ true) → u ≡ false) → (t && u) ≡ false
-    alone true u g = g refl
-    alone false u g = refl
-
     no_bang : (t u : Bool) → u ≡ false → (t || u) ≡ t
     no_bang true u g = refl
     no_bang false u g = g
@@ -118,14 +105,8 @@ front_only {rest = rest} (a_sign c h k) =
     one : (rest : List ℕ) → (may_pair c ≡ true → Stops (λ b. b == 61) rest) → sign_front c rest ≡ Token (One c)
     one [] g = cond-true (is_sign c) _ _ h
     one (b ∷ bs) g =
-        cond-false (pairs c && (b == 61)) _ _ (ap (λ t. t && (b == 61)) (no_bang (may_pair c) (c == 33) (bang_no_sign c h)) ∙ alone (may_pair c) (b == 61) g)
+        cond-false (pairs c && (b == 61)) _ _ (ap (λ t. t && (b == 61)) (no_bang (may_pair c) (c == 33) (bang_no_sign c h)) ∙ not_both_of (may_pair c) (b == 61) g)
         ∙ cond-true (is_sign c) _ _ h
-
-quote_is : (b : ℕ) → (b == 34) ≡ true → b ≡ 34
-quote_is b k = grind (arith, nat_tests)
-
-equals_is : (b : ℕ) → (b == 61) ≡ true → b ≡ 61
-equals_is b k = grind (arith, nat_tests)
 
 not_point : (b : ℕ) → b ≡ 46 → (b == 46) ≡ false → ⊥
 not_point b q e = grind (arith, nat_tests)
@@ -198,7 +179,7 @@ fraction_found c cs (b ∷ bs) h k s = by_point (b == 46) refl
         }
 
     by_point : (t : Bool) → (b == 46) ≡ t → FoundAt (c ∷ (cs ++ (b ∷ bs))) (cond t (Token (Number (suc (length cs)) (length (take_while is_digit bs)))) (Token (Number (suc (length cs)) 0)))
-    by_point true e = let r = run_of is_digit bs in subst (λ z. FoundAt (c ∷ (cs ++ (b ∷ bs))) (Token (Number (suc (length cs)) (length z)))) (sym r.taken) (by_run r r.own refl (byte_is b e))
+    by_point true e = let r = run_of is_digit bs in subst (λ z. FoundAt (c ∷ (cs ++ (b ∷ bs))) (Token (Number (suc (length cs)) (length z)))) (sym r.taken) (by_run r r.own refl (eqb-true b 46 e))
     by_point false e = record { own = c ∷ cs; rest = b ∷ bs; whole = refl; form = a_whole c cs h k (s, λ q. absurd (not_point b q e)) }
 
 number_found : (c : ℕ) (bs : List ℕ) → is_digit c ≡ true → FoundAt (c ∷ bs) (fraction_behind (length (take_while is_digit (c ∷ bs))) (drop (length (take_while is_digit (c ∷ bs))) (c ∷ bs)))
@@ -218,7 +199,7 @@ text_found cs (b ∷ bs) k s = by_quote (b == 34) refl
     by_quote true e =
         let two : length cs + 1 + 1 ≡ length cs + 2 = omega arith in
         subst (λ n. TokenAt (34 ∷ (cs ++ (b ∷ bs))) (Text n)) (sym two)
-        (record { own = 34 ∷ (cs ++ (34 ∷ [])); rest = bs; whole = ap (λ z. 34 ∷ (cs ++ (z ∷ bs))) (quote_is b e) ∙ ap (λ z. 34 ∷ z) (sym (append_assoc cs (34 ∷ []) bs)); form = a_text cs k })
+        (record { own = 34 ∷ (cs ++ (34 ∷ [])); rest = bs; whole = ap (λ z. 34 ∷ (cs ++ (z ∷ bs))) (eqb-true b 34 e) ∙ ap (λ z. 34 ∷ z) (sym (append_assoc cs (34 ∷ []) bs)); form = a_text cs k })
     by_quote false e = bad_text cs (b ∷ bs) k s e
 
 sign_found : (c : ℕ) (bs : List ℕ) → begins_gap c ≡ false → starts_word c ≡ false → is_digit c ≡ false → (c == 34) ≡ false → FoundAt (c ∷ bs) (sign_front c bs)
@@ -234,7 +215,7 @@ sign_found c (b ∷ bs) g u v w = by_pair (pairs c && (b == 61)) refl
     by_sign false e q = bad_sign c (b ∷ bs) g u v w e (λ m. not_both (may_pair c) (c == 33) (b == 61) q m)
 
     by_pair : (t : Bool) → (pairs c && (b == 61)) ≡ t → FoundAt (c ∷ (b ∷ bs)) (cond t (Token (Two c)) (cond (is_sign c) (Token (One c)) (Bad 0)))
-    by_pair true e = record { own = c ∷ (61 ∷ []); rest = bs; whole = ap (λ z. c ∷ (z ∷ bs)) (equals_is b (second_so (pairs c) (b == 61) e)); form = a_pair c (first_so (pairs c) (b == 61) e) }
+    by_pair true e = record { own = c ∷ (61 ∷ []); rest = bs; whole = ap (λ z. c ∷ (z ∷ bs)) (eqb-true b 61 (second_so (pairs c) (b == 61) e)); form = a_pair c (first_so (pairs c) (b == 61) e) }
     by_pair false e = by_sign (is_sign c) refl e
 
 pub front_found : (bs : List ℕ) → Stops begins_gap bs → FoundAt bs (front bs)
@@ -246,7 +227,7 @@ front_found (c ∷ bs) gap = by_word (starts_word c) refl
     by_quote true e u v =
         let r = run_of is_text_byte bs in
         let d : drop (length r.own) bs ≡ r.rest = ap (drop (length r.own)) r.whole ∙ drop_front r.own r.rest in
-        subst (λ z. FoundAt (z ∷ bs) (text_end (length (take_while is_text_byte bs) + 1) (drop (length (take_while is_text_byte bs)) bs))) (sym (quote_is c e))
+        subst (λ z. FoundAt (z ∷ bs) (text_end (length (take_while is_text_byte bs) + 1) (drop (length (take_while is_text_byte bs)) bs))) (sym (eqb-true c 34 e))
         (subst (λ z. FoundAt (34 ∷ bs) (text_end (length z + 1) (drop (length z) bs))) (sym r.taken)
         (subst (λ z. FoundAt (34 ∷ bs) (text_end (length r.own + 1) z)) (sym d)
         (subst (λ z. FoundAt (34 ∷ z) (text_end (length r.own + 1) r.rest)) (sym r.whole) (text_found r.own r.rest r.all r.stops))))

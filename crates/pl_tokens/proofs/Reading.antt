@@ -2,9 +2,8 @@
 use Rattle.std.proofs.Common.{◌≡◌, ℕ, zero, suc, ◌+◌, ◌<◌, Bool, true, false, ◌||◌, List, [], ◌∷◌, ◌++◌, length, take, drop, refl, sym, ap, ap₂, ◌∙◌, arith, length-append, subst}
 use Rattle.std.specs.Prelude.{◌==◌}
 use Rattle.std.specs.List.{list_all}
-use Rattle.std.proofs.lemmas.Bool.Decides.{nat_tests}
 use Rattle.std.proofs.Math.Seq.{take-append_seam}
-use Rattle.std.proofs.lemmas.Bool.{or_parts, cond-false, cond-true}
+use Rattle.std.proofs.lemmas.Bool.{or_parts, cond-false, cond-true, eqb-true}
 use Rattle.pl_grammar.specs.declared.Place.{Place}
 use Rattle.pl_grammar.specs.Tree.{Lexeme, mark}
 use Rattle.pl_grammar.specs.Faults.{Tail, AtEnd, AtBad}
@@ -93,14 +92,11 @@ read_within (suc n) p (b ∷ bs) few = by_blank (is_blank b) refl (read_within n
         let r = k (after x.own p) x.rest (rests x.own x.rest x.whole (front_some x.form)) in
         subst (λ z. IsRead p z) (sym x.whole) (record { tokens = mark p (token_in f x.own) ∷ r.tokens; tail = r.tail; reads = a_token x.own x.rest x.form r.reads })
 
-    comment_is : (b == 35) ≡ true → b ≡ 35
-    comment_is e = grind (arith, nat_tests)
-
     by_comment : (t : Bool) → (b == 35) ≡ t → is_blank b ≡ false → ((q : Place) (cs : List ℕ) → length cs < n → IsRead q cs) → IsRead p (b ∷ bs)
     by_comment true e h k =
         let r = run_of no_line_end bs in
         let x = k (after (35 ∷ r.own) p) r.rest (omega (arith, ap length r.whole, length-append r.own r.rest)) in
-        subst (λ z. IsRead p (z ∷ bs)) (sym (comment_is e)) (subst (λ z. IsRead p (35 ∷ z)) (sym r.whole)
+        subst (λ z. IsRead p (z ∷ bs)) (sym (eqb-true b 35 e)) (subst (λ z. IsRead p (35 ∷ z)) (sym r.whole)
         (record { tokens = x.tokens; tail = x.tail; reads = a_comment r.own r.rest r.all r.stops x.reads }))
     by_comment false e h k = of_front (front (b ∷ bs)) (front_found (b ∷ bs) (ap₂ (λ t u. t || u) h e)) k
 

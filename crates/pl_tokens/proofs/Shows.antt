@@ -1,6 +1,6 @@
 -- A text that is written token by token is read as these tokens, at whatever places they come to stand.
 use Rattle.std.proofs.Common.{◌≡◌, ℕ, ℤ, pos, negsuc, suc, ◌+◌, ◌-◌, ◌*◌, ◌/◌, ◌%◌, ◌^◌, ◌<◌, ◌≤◌, Bool, true, false, cond, ◌&&◌, ◌||◌, List, [], ◌∷◌, ◌++◌, length, take, reverse, refl, sym, ap, ap₂, ◌∙◌, arith, subst, append_assoc, append-nil, length-append, ltb-true}
-use Rattle.std.specs.Prelude.{◌==◌, not, nat_lt, nat_le, codes, bytes_eq, unsigned_abs}
+use Rattle.std.specs.Prelude.{◌==◌, not, nat_lt, codes, bytes_eq, unsigned_abs}
 use Rattle.std.specs.List.{list_all}
 use Rattle.std.specs.Fmt.{decimal}
 use Rattle.std.specs.Char.{digit_value}
@@ -13,7 +13,7 @@ use Rattle.std.proofs.lemmas.List.{reverse-append, reverse-reverse, length-rever
 use Rattle.std.proofs.lemmas.List.Folds.{list_all-append}
 use Rattle.std.proofs.lemmas.Nat.{div-add-mod', mod_below, pow-add}
 use Rattle.std.proofs.lemmas.Str.Parse.{digit_from_value}
-use Rattle.std.proofs.lemmas.Bool.{and_parts}
+use Rattle.std.proofs.lemmas.Bool.{and_parts, leb-true, le-ltb}
 use Rattle.pl_spec.specs.Rounding.{LIMIT, MILLION, div_round}
 use Rattle.pl_spec.specs.Dates.{digits}
 use Rattle.pl_spec.specs.Decimals.{point_text}
@@ -28,11 +28,11 @@ use Rattle.pl_tokens.specs.declared.front.Form.{Form}
 use Rattle.pl_tokens.specs.declared.front.Form.TheVariants.{Number}
 use Rattle.pl_tokens.specs.Bytes.{is_text_byte, may_pair, pairs, is_sign, is_blank, Stops}
 use Rattle.pl_spec.specs.Names.{is_digit, starts_word, is_word_byte, is_name}
-use Rattle.pl_tokens.specs.Tokens.{Front, a_word, a_whole, a_decimal, a_text, a_pair, a_sign, NoDecimals, token_in, word_token, one_token, two_token, decimal_token}
+use Rattle.pl_tokens.specs.Tokens.{Front, a_word, a_whole, a_decimal, a_text, a_pair, a_sign, NoDecimals, token_in, word_token, one_token, two_token, decimal_token, number_token}
 use Rattle.pl_tokens.specs.Sound.{is_number}
 use Rattle.pl_tokens.specs.Numerals.{is_zero, trimmed, fraction_of, number_text}
 use Rattle.pl_tokens.specs.Text.{after, Read, at_text_end, a_blank, a_token}
-use Rattle.pl_tokens.proofs.Longest.{run_of}
+use Rattle.pl_tokens.proofs.Longest.{run_of, stops_at}
 use Rattle.pl_tokens.proofs.Numbers.{past, behind}
 
 pub record Reading (q : Place) (bs : List ℕ) (us : List Lexeme) : Type 0 where
@@ -122,9 +122,6 @@ test_digits : (ds : List ℕ) → AllDigits 10 ds → list_all is_digit ds ≡ t
 test_digits [] h = refl
 test_digits (c ∷ cs) h = ap₂ (λ x y. x && y) (test_digit c h.0) (test_digits cs h.1)
 
-within : (n : ℕ) → nat_le n LIMIT ≡ true → n ≤ LIMIT
-within n h = grind (arith, nat_tests)
-
 -- the value of a number's text
 text_value : (n V k l : ℕ) → n ≡ V * 10 ^ k → l + k ≡ 6 → div_round (pos (V * MILLION)) (10 ^ l) ≡ pos n
 text_value n V k l e size =
@@ -141,10 +138,6 @@ record NumberFrontOf (xs ws fs rest : List ℕ) : Type 0 where
   front : Front xs rest form
   token : token_in form xs ≡ decimal_token (record { negative = false; whole = ws; fraction = fs })
 
-no_digit : (rest : List ℕ) → NoDecimals rest → Stops is_digit rest
-no_digit [] h = tt
-no_digit (b ∷ bs) h = h.0
-
 abbrev token_of_parts : List ℕ → List ℕ → Token
 token_of_parts ws fs = decimal_token (record { negative = false; whole = ws; fraction = fs })
 
@@ -158,24 +151,21 @@ number_front (c ∷ cs) [] rest some w f h =
 number_front (c ∷ cs) (f ∷ fs) rest some w g h =
     record {
       form = Number (suc (length cs)) (suc (length fs));
-      front = a_decimal c cs f fs (test_digit c w.0) (test_digits cs w.1) (test_digit f g.0) (test_digits fs g.1) (no_digit rest h);
+      front = a_decimal c cs f fs (test_digit c w.0) (test_digits cs w.1) (test_digit f g.0) (test_digits fs g.1) (stops_at rest h);
       token = ap₂ token_of_parts (take-append_seam (c ∷ cs) (46 ∷ (f ∷ fs))) (behind (c ∷ cs) (f ∷ fs) 46);
     }
 
 small_token : (ws fs : List ℕ) (n : ℕ) → length fs ≤ 6 → n ≤ LIMIT → div_round (pos (digits_value 10 (ws ++ fs) * MILLION)) (10 ^ length fs) ≡ pos n → token_of_parts ws fs ≡ t.Number (pos n)
 small_token ws fs n few low e =
-    let a : nat_lt 18 (length fs) ≡ false = not_below 18 (length fs) (omega (arith, few)) in
-    let b : nat_lt LIMIT n ≡ false = not_below LIMIT n low in
+    let a : nat_lt 18 (length fs) ≡ false = le-ltb 18 (length fs) (omega (arith, few)) in
+    let b : nat_lt LIMIT n ≡ false = le-ltb LIMIT n low in
     ap (λ m. cond (nat_lt 18 (length fs) || nat_lt LIMIT (unsigned_abs m)) t.LargeNumber (t.Number m)) e
     ∙ ap₂ (λ x y. cond (x || y) t.LargeNumber (t.Number (pos n))) a b
-  where
-    not_below : (x y : ℕ) → y ≤ x → nat_lt x y ≡ false
-    not_below x y h = grind (arith, nat_tests)
 
 pub number_shows : (v : ℤ) (rest : List ℕ) (us : List Lexeme) (p : Place) → is_number v ≡ true → NoDecimals rest → Shows rest us → Shows (number_text v ++ rest) (mark p (t.Number v) ∷ us)
 unfolding number_text fraction_of
 number_shows (pos n) rest us p h s k =
-    let small : n ≤ LIMIT = within n h in
+    let small : n ≤ LIMIT = leb-true n LIMIT h in
     let q = n / MILLION in
     let r = n % MILLION in
     let ds = digits 6 r in
@@ -203,15 +193,6 @@ pair_shows c rest us p h k = token_shows (c ∷ (61 ∷ [])) rest _ us p (two_to
 pub word_shows : (c : ℕ) (cs rest : List ℕ) (us : List Lexeme) (p : Place) (x : Token) → starts_word c ≡ true → list_all is_word_byte cs ≡ true → length cs < 32 → Stops is_word_byte rest → word_token (c ∷ cs) ≡ x → Shows rest us → Shows ((c ∷ cs) ++ rest) (mark p x ∷ us)
 word_shows c cs rest us p x h all few s e k = token_shows (c ∷ cs) rest _ us p x (a_word c cs h all s few) e k
 
--- the versions
-pub one_shows : (rest : List ℕ) (us : List Lexeme) (p : Place) → NoDecimals rest → Shows rest us → Shows (49 ∷ rest) (mark p (t.Number (pos 1000000)) ∷ us)
-unfolding div_round
-one_shows rest us p s k = token_shows (49 ∷ []) rest (Number 1 0) us p (t.Number (pos 1000000)) (a_whole 49 [] refl refl s) refl k
-
-pub two_shows : (rest : List ℕ) (us : List Lexeme) (p : Place) → NoDecimals rest → Shows rest us → Shows (50 ∷ rest) (mark p (t.Number (pos 2000000)) ∷ us)
-unfolding div_round
-two_shows rest us p s k = token_shows (50 ∷ []) rest (Number 1 0) us p (t.Number (pos 2000000)) (a_whole 50 [] refl refl s) refl k
-
-pub three_shows : (rest : List ℕ) (us : List Lexeme) (p : Place) → NoDecimals rest → Shows rest us → Shows (51 ∷ rest) (mark p (t.Number (pos 3000000)) ∷ us)
-unfolding div_round
-three_shows rest us p s k = token_shows (51 ∷ []) rest (Number 1 0) us p (t.Number (pos 3000000)) (a_whole 51 [] refl refl s) refl k
+-- a number of one digit
+pub digit_shows : (d : ℕ) (x : Token) (rest : List ℕ) (us : List Lexeme) (p : Place) → is_digit d ≡ true → number_token (d ∷ []) [] ≡ x → NoDecimals rest → Shows rest us → Shows (d ∷ rest) (mark p x ∷ us)
+digit_shows d x rest us p h e s k = token_shows (d ∷ []) rest (Number 1 0) us p x (a_whole d [] h refl s) e k

@@ -2,18 +2,19 @@
 use Rattle.std.proofs.Common.{◌≡◌, ℕ, suc, ◌+◌, ◌<◌, ◌≤◌, Bool, true, false, cond, ◌||◌, List, [], ◌∷◌, ◌++◌, length, take, drop, get_or, refl, sym, ap, ap₂, ◌∙◌, arith, length-append, length-take, length-drop, subst}
 use Rattle.std.specs.Prelude.{◌==◌}
 use Rattle.std.specs.List.{take_while}
-use Rattle.std.proofs.lemmas.Bool.Decides.{nat_tests}
+use Rattle.std.proofs.lemmas.Bool.{eqb-true}
 use Rattle.std.proofs.lemmas.List.{take_more, take-append-drop}
 use Rattle.std.proofs.Math.Seq.{take-append_seam, drop-append_seam}
 use Rattle.pl_grammar.specs.declared.Place.{Place}
 use Rattle.pl_grammar.specs.Tree.{Lexeme, mark}
 use Rattle.pl_grammar.specs.Faults.{Tail, AtEnd}
 use Rattle.pl_tokens.specs.declared.front.Form.{Form}
-use Rattle.pl_tokens.specs.declared.front.Found.TheVariants.{End, Bad, Token}
+use Rattle.pl_tokens.specs.declared.front.Found.{Found}
+use Rattle.pl_tokens.specs.declared.front.Found.TheVariants.{Token}
 use Rattle.pl_tokens.specs.Tokens.{Front, token_in, form_length}
 use Rattle.pl_tokens.specs.Bytes.{Stops, is_blank, no_line_end, begins_gap}
 use Rattle.pl_tokens.specs.Front.{gap_front, front}
-use Rattle.pl_tokens.specs.Text.{after, after_byte, Read, at_text_end, a_blank, a_comment, a_token, IsBad}
+use Rattle.pl_tokens.specs.Text.{after, after_byte, Read, at_text_end, a_blank, a_comment, a_token}
 use Rattle.pl_tokens.specs.Code.{HasRoom}
 use Rattle.pl_tokens.proofs.Longest.{run_of, front_found, FoundAt, TokenAt}
 use Rattle.pl_tokens.proofs.Bad.{front_some}
@@ -23,27 +24,23 @@ pub after-append : (xs ys : List ℕ) (p : Place) → after (xs ++ ys) p ≡ aft
 after-append [] ys p = refl
 after-append (x ∷ xs) ys p = after-append xs ys (after_byte x p)
 
-byte_line : (b : ℕ) (p : Place) → (after_byte b p).line ≤ p.line + 1
-byte_line b p = by_test (b == 10)
+byte_near : (b : ℕ) (p : Place) → ((after_byte b p).line ≤ p.line + 1) × ((after_byte b p).col ≤ p.col + 1)
+byte_near b p = by_test (b == 10)
   where
-    by_test : (t : Bool) → (cond {A = Place} t (record { line = p.line + 1; col = 1 }) (record { line = p.line; col = p.col + 1 })).line ≤ p.line + 1
-    by_test true = omega arith
-    by_test false = omega arith
+    next : Bool → Place
+    next t = cond t (record { line = p.line + 1; col = 1 }) (record { line = p.line; col = p.col + 1 })
 
-byte_col : (b : ℕ) (p : Place) → (after_byte b p).col ≤ p.col + 1
-byte_col b p = by_test (b == 10)
-  where
-    by_test : (t : Bool) → (cond {A = Place} t (record { line = p.line + 1; col = 1 }) (record { line = p.line; col = p.col + 1 })).col ≤ p.col + 1
-    by_test true = omega arith
-    by_test false = omega arith
+    by_test : (t : Bool) → ((next t).line ≤ p.line + 1) × ((next t).col ≤ p.col + 1)
+    by_test true = (omega arith, omega arith)
+    by_test false = (omega arith, omega arith)
 
-pub after_line : (bs : List ℕ) (p : Place) → (after bs p).line ≤ p.line + length bs
-after_line [] p = omega arith
-after_line (b ∷ bs) p = omega (arith, after_line bs (after_byte b p), byte_line b p)
-
-pub after_col : (bs : List ℕ) (p : Place) → (after bs p).col ≤ p.col + length bs
-after_col [] p = omega arith
-after_col (b ∷ bs) p = omega (arith, after_col bs (after_byte b p), byte_col b p)
+-- lines and columns grow by no more than the bytes
+pub after_near : (bs : List ℕ) (p : Place) → ((after bs p).line ≤ p.line + length bs) × ((after bs p).col ≤ p.col + length bs)
+after_near [] p = (omega arith, omega arith)
+after_near (b ∷ bs) p =
+    let rest = after_near bs (after_byte b p) in
+    let one = byte_near b p in
+    (omega (arith, rest.0, one.0), omega (arith, rest.1, one.1))
 
 -- one byte more
 pub after_more : (bs : List ℕ) (i : ℕ) (p : Place) → i < length bs → after (take (i + 1) bs) p ≡ after_byte (get_or bs i 0) (after (take i bs) p)
@@ -52,14 +49,11 @@ after_more bs i p h = ap (λ z. after z p) (take_more bs i 0 h) ∙ after-append
 -- the text goes on with room
 pub room_behind : (p : Place) (bs : List ℕ) (n : ℕ) → HasRoom p bs → n ≤ length bs → HasRoom (after (take n bs) p) (drop n bs)
 room_behind p bs n h k = record {
-  line = omega (arith, after_line (take n bs) p, h.line, length-take n bs, length-drop n bs);
-  col = omega (arith, after_col (take n bs) p, h.col, length-take n bs, length-drop n bs);
+  line = omega (arith, (after_near (take n bs) p).0, h.line, length-take n bs, length-drop n bs);
+  col = omega (arith, (after_near (take n bs) p).1, h.col, length-take n bs, length-drop n bs);
 }
 
 -- gaps
-
-comment_is : (b : ℕ) → (b == 35) ≡ true → b ≡ 35
-comment_is b e = grind (arith, nat_tests)
 
 pub record Gap (p : Place) (bs : List ℕ) (n : ℕ) : Type 0 where
   pub within : n ≤ length bs
@@ -75,7 +69,7 @@ gap p (b ∷ bs) = by_blank (is_blank b) refl
         let r = run_of no_line_end bs in
         let cs = r.own in
         subst (λ z. Gap p (b ∷ bs) (length z + 1)) (sym r.taken)
-        (subst (λ z. Gap p (z ∷ bs) (length cs + 1)) (sym (comment_is b e)) (subst (λ z. Gap p (35 ∷ z) (length cs + 1)) (sym r.whole)
+        (subst (λ z. Gap p (z ∷ bs) (length cs + 1)) (sym (eqb-true b 35 e)) (subst (λ z. Gap p (35 ∷ z) (length cs + 1)) (sym r.whole)
         (record {
           within = omega (arith, length-append cs r.rest);
           reads = λ some ts tail x.
@@ -105,9 +99,12 @@ pub record IsToken (bs : List ℕ) (f : Form) : Type 0 where
   pub some : 0 < form_length f
   pub front : Front (take (form_length f) bs) (drop (form_length f) bs) f
 
+pub found : (bs : List ℕ) (f : Found) → Stops begins_gap bs → f ≡ front bs → FoundAt bs f
+found bs f tight e = subst (λ z. FoundAt bs z) (sym e) (front_found bs tight)
+
 pub token_found : (bs : List ℕ) (f : Form) → Stops begins_gap bs → Token f ≡ front bs → IsToken bs f
 token_found bs f tight e =
-    let r : TokenAt bs f = subst (λ z. FoundAt bs z) (sym e) (front_found bs tight) in
+    let r : TokenAt bs f = found bs (Token f) tight e in
     let n : form_length f ≡ length r.own = form_whole r.form in
     let own : take (form_length f) bs ≡ r.own = ap₂ take n r.whole ∙ take-append_seam r.own r.rest in
     let rest : drop (form_length f) bs ≡ r.rest = ap₂ drop n r.whole ∙ drop-append_seam r.own r.rest in
@@ -116,12 +113,6 @@ token_found bs f tight e =
       some = omega (arith, n, front_some r.form);
       front = subst (λ z. Front z (drop (form_length f) bs) f) (sym own) (subst (λ z. Front r.own z f) (sym rest) r.form);
     }
-
-pub bad_found : (bs : List ℕ) (k : ℕ) → Stops begins_gap bs → Bad k ≡ front bs → IsBad bs k
-bad_found bs k tight e = subst (λ z. FoundAt bs z) (sym e) (front_found bs tight)
-
-pub end_found : (bs : List ℕ) → Stops begins_gap bs → End ≡ front bs → bs ≡ []
-end_found bs tight e = subst (λ z. FoundAt bs z) (sym e) (front_found bs tight)
 
 pub token_reads : (p : Place) (bs : List ℕ) (f : Form) → IsToken bs f → (ts : List Lexeme) (tail : Tail) → Read (after (take (form_length f) bs) p) (drop (form_length f) bs) ts tail → Read p bs (mark p (token_in f (take (form_length f) bs)) ∷ ts) tail
 token_reads p bs f h ts tail x =

@@ -5,11 +5,12 @@ use Rattle.pl_tokens.specs.Text.{after, Read, at_bad_byte}
 use Rattle.pl_tokens.specs.Tokens.{Front, form_length, token_in}
 use Rattle.pl_tokens.specs.Code.{token_of}
 use Rattle.pl_tokens.proofs.Bad.{bad_within}
-use Rattle.pl_tokens.proofs.Steps.{token_found, bad_found, end_found, token_reads, end_reads}
+use Rattle.pl_tokens.specs.declared.front.Found.TheVariants.{Bad, End}
+use Rattle.pl_tokens.proofs.Steps.{found, token_found, token_reads, end_reads}
 use Rattle.pl_tokens.proofs.text.Text.next.Goals as goal
 
 pub skip-requires-clause-within : goal.skip-requires-clause-within
-skip-requires-clause-within c = (bad_within (bad_found c.skip_gap.new.self.bytes.now c.in-Bad.index c.skip_gap.ensures.tight c.in-Bad.ensures)).1
+skip-requires-clause-within c = (bad_within (found c.skip_gap.new.self.bytes.now (Bad c.in-Bad.index) c.skip_gap.ensures.tight c.in-Bad.ensures)).1
 
 pub length_of-count-requires : goal.length_of-count-requires
 length_of-count-requires c =
@@ -35,13 +36,13 @@ skip-requires-in-Token-clause-within c =
     omega (arith, here.within, c.length_of-count.ensures)
 
 pub returns-in-End : goal.returns-in-End
-returns-in-End c = c.skip_gap.ensures.reads _ _ (end_reads c.skip_gap.new.self.place _ (end_found c.skip_gap.new.self.bytes.now c.skip_gap.ensures.tight c.in-End.ensures))
+returns-in-End c = c.skip_gap.ensures.reads _ _ (end_reads c.skip_gap.new.self.place _ (found c.skip_gap.new.self.bytes.now End c.skip_gap.ensures.tight c.in-End.ensures))
 
 pub returns-in-Bad : goal.returns-in-Bad
 returns-in-Bad c =
     let p = c.skip_gap.new.self.place in
     let bs = c.skip_gap.new.self.bytes.now in
-    let bad = bad_found bs c.in-Bad.index c.skip_gap.ensures.tight c.in-Bad.ensures in
+    let bad = found bs (Bad c.in-Bad.index) c.skip_gap.ensures.tight c.in-Bad.ensures in
     c.skip_gap.ensures.reads [] (AtBad c.skip.new.self.place) (subst (λ z. Read p bs [] (AtBad z)) (sym c.skip.ensures.place) (at_bad_byte c.in-Bad.index bad))
 
 pub returns-in_ok-token-in-Token : goal.returns-in_ok-token-in-Token
