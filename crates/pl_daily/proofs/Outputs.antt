@@ -1,5 +1,5 @@
 -- Outputs are used.
-use Rattle.std.proofs.Common.{◌≡◌, ℕ, ◌<◌, true, length, map, Some, option_map, option_to_list, slice_get, refl, sym, ◌∙◌, ap, arith}
+use Rattle.std.proofs.Common.{◌≡◌, ℕ, ◌<◌, true, length, map, Some, option_map, option_to_list, slice_get, sym, ◌∙◌, ap, arith}
 use Rattle.std.proofs.lemmas.List.{length-map}
 use Rattle.std.proofs.lemmas.Option.{slice_get_within}
 use Rattle.circular_buffer.proofs.Places.{slice_get-append_left, slice_get-append_right}

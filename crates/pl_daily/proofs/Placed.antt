@@ -1,8 +1,6 @@
 -- A used term on its day has what it reads.
-use Rattle.std.proofs.Common.{◌≡◌, ℕ, ◌<◌, ◌≤◌, true, ℤ, pos, ◌-ℤ◌, List, [], ◌∷◌, length, get_or, Some, slice_get, refl, sym, ◌∙◌, ap, arith, subst, All, Bor}
-use Rattle.std.proofs.lemmas.Int.{ints}
+use Rattle.std.proofs.Common.{◌≡◌, ℕ, ◌<◌, ◌≤◌, true, ℤ, pos, List, [], ◌∷◌, length, get_or, Some, slice_get, refl, sym, ◌∙◌, ap, arith, subst, All, Bor}
 use Rattle.std.proofs.lemmas.List.{get_or_default}
-use Rattle.std.proofs.lemmas.Option.{slice_get_within}
 use Rattle.pl_spec.specs.declared.Column.{Column}
 use Rattle.pl_spec.specs.declared.Frequency.{Frequency}
 use Rattle.pl_pipeline.specs.Kind.Kind.{Downsample}
@@ -13,15 +11,14 @@ use Rattle.pl_pipeline.specs.Term.{Node}
 use Rattle.pl_pipeline.specs.Term.Input.{BarColumn, TermInput}
 use Rattle.pl_spec.specs.Window.{bar_window}
 use Rattle.pl_spec.specs.World.{World}
-use Rattle.pl_pipeline.specs.Graph.{Used, contains, mentions_at}
 use Rattle.pl_pipeline.specs.Lows.{Reads}
-use Rattle.pl_laws.proofs.Uses.{used_terms-sound, used_terms-complete, lower}
+use Rattle.pl_laws.proofs.Uses.{lower}
 use Rattle.pl_assets.specs.Labels.{AreLabels}
 use Rattle.pl_terms.specs.declared.node.Node as code
 use Rattle.pl_terms.specs.declared.node.TermId.{TermId}
 use Rattle.pl_terms.specs.Checked.{IsChecked}
 use Rattle.pl_terms.specs.Nodes.{node_of}
-use Rattle.pl_terms.specs.Uses.{is_used, outputs}
+use Rattle.pl_terms.specs.Uses.{is_used}
 use Rattle.pl_terms.specs.Sorts.{is_windowed}
 use Rattle.pl_planner.proofs.Pipelines.{is-pipeline}
 use Rattle.pl_values.specs.Arrays.{cell_of, Fills}

@@ -1,5 +1,6 @@
 -- An array's cells are the list of the definitions.
-use Rattle.std.proofs.Common.{◌≡◌, ℕ, zero, suc, ◌+◌, ◌-◌, ◌*◌, ◌<◌, ◌≤◌, ℤ, pos, List, [], ◌∷◌, ◌++◌, length, map, take, drop, get_or, flat_map, refl, sym, ◌∙◌, ap, arith}
+use Rattle.std.proofs.Common.{◌≡◌, ℕ, suc, ◌+◌, ◌-◌, ◌*◌, ◌<◌, ◌≤◌, ℤ, pos, List, [], ◌∷◌, ◌++◌, length, map, take, drop, get_or, flat_map, refl, sym, ◌∙◌, ap, arith}
+use Rattle.std.proofs.Math.Seq.{take-add}
 use Rattle.std.specs.List.{range_with_len}
 use Rattle.std.proofs.lemmas.List.{ext_get_or, get_or-take, get_or-drop, length-take-le, length-drop, length-map}
 use Rattle.std.proofs.lemmas.List.FromFn.{get_or-map-range_with_len, length-map-range_with_len}
@@ -7,12 +8,6 @@ use Rattle.pl_spec.specs.Parts.{sid_at}
 use Rattle.pl_pipeline.specs.Table.{array_of, in_array, value_of}
 use Rattle.pl_values.specs.Arrays.{cell_of}
 use Rattle.pl_exec.specs.Tasks.{Task, IsArray, assets_in, count_in, low_in, sids_in}
-
-take-split : (n m : ℕ) (xs : List ℤ) → take (n + m) xs ≡ take n xs ++ take m (drop n xs)
-take-split zero m xs = let e : 0 + m ≡ m = omega arith in ap (λ k. take k xs) e
-take-split (suc n) zero [] = let e : suc n + 0 ≡ suc n = omega arith in ap (λ k. take k []) e
-take-split (suc n) (suc m) [] = let e : suc n + suc m ≡ suc (n + suc m) = omega arith in ap (λ k. take k []) e
-take-split (suc n) m (x ∷ xs) = let e : suc n + m ≡ suc (n + m) = omega arith in ap (λ k. take k (x ∷ xs)) e ∙ ap (λ l. x ∷ l) (take-split n m xs)
 
 module _ (f : ℕ → ℕ → ℤ) (low count : ℕ) where
   pub spans : (sids : List ℕ) (cells : List ℤ) → length sids * count ≤ length cells
@@ -28,7 +23,7 @@ module _ (f : ℕ → ℕ → ℤ) (low count : ℕ) where
       ∙ sym (get_or-map-range_with_len (f a) low count j (low + j) (pos 0) l refl)) in
       let back = spans sids (drop count cells) (omega arith)
       (λ i j h l. get_or-drop count cells (i * count + j) (pos 0) ∙ (let z : count + (i * count + j) ≡ suc i * count + j = omega arith in ap (λ k. get_or cells k (pos 0)) z) ∙ each (suc i) j (omega arith) l) in
-      ap (λ k. take k cells) e ∙ take-split count (length sids * count) cells ∙ ap (λ l. l ++ take (length sids * count) (drop count cells)) front ∙ ap (λ l. map (f a) (range_with_len low count) ++ l) back
+      ap (λ k. take k cells) e ∙ take-add count (length sids * count) cells ∙ ap (λ l. l ++ take (length sids * count) (drop count cells)) front ∙ ap (λ l. map (f a) (range_with_len low count) ++ l) back
 
 pub array_is : (t : Task) (k : ℕ) (cells : List ℤ) → IsArray t k cells → take (assets_in t * count_in t k) cells ≡ array_of t.world t.pipeline (sids_in t) (low_in t k) t.to k
 unfolding cell_of

@@ -1,5 +1,5 @@
 -- The used terms as a choice among all numbers, what they hold at once, and their sums.
-use Rattle.std.proofs.Common.{◌≡◌, ℕ, suc, ◌+◌, ◌<◌, Bool, true, false, ◌&&◌, if◌then◌else◌, max, nat_le, List, [], ◌∷◌, length, map, fold, filter, sum_by, Some, slice_get, refl, sym, ◌∙◌, ap, arith}
+use Rattle.std.proofs.Common.{◌≡◌, ℕ, suc, ◌+◌, ◌<◌, Bool, true, false, ◌&&◌, if◌then◌else◌, max, nat_le, List, [], ◌∷◌, length, map, fold, filter, sum_by, refl, sym, ◌∙◌, ap, arith}
 use Rattle.std.specs.List.{range_with_len, count_by}
 use Rattle.std.proofs.lemmas.List.Sums.{sum_by-append, sum_by-cons}
 use Rattle.pl_pipeline.specs.Term.{Graph}

@@ -1,9 +1,10 @@
 -- The columns of a chunk, and their sids.
-use Rattle.std.proofs.Common.{◌≡◌, ℕ, zero, suc, ◌<◌, ◌≤◌, List, [], ◌∷◌, length, map, get_or, Some, slice_get, refl, sym, ◌∙◌, ap, subst, arith, All, AllPairs, sum_by, max, fold}
+use Rattle.std.proofs.Common.{◌≡◌, ℕ, zero, suc, ◌<◌, ◌≤◌, List, [], ◌∷◌, length, map, get_or, sym, ◌∙◌, ap, subst, arith, All, AllPairs, sum_by, max, fold}
 use Rattle.std.specs.List.{range_with_len}
 use Rattle.std.proofs.lemmas.List.{length-map, get_or_default}
 use Rattle.pl_spec.specs.declared.AssetRow.{AssetRow}
 use Rattle.pl_spec.specs.Parts.{sid_at}
+use Rattle.pl_pipeline.proofs.Unfolds.{stands}
 use Rattle.pl_pipeline.specs.Graph.{bound, contains}
 use Rattle.pl_spec.proofs.Columns.{sid_at-row}
 use Rattle.pl_terms.specs.Uses.{outputs}
@@ -26,11 +27,6 @@ pub few_cols : (xs : List ℕ) (n : ℕ) → AllPairs (λ a b. a < b) xs → All
 few_cols [] n up inside = omega arith
 few_cols (x ∷ xs) n up inside = let a = at_least (x ∷ xs) up (length xs) (omega arith) in let b : get_or (x ∷ xs) (length xs) 0 < n = inside (length xs) 0 (omega arith) in omega (arith, a, b)
 
-some_at : (assets : List AssetRow) (i : ℕ) → i < length assets → (a : AssetRow) × (slice_get assets i ≡ Some a)
-some_at [] i h = absurd (omega arith)
-some_at (a ∷ others) zero h = (a, refl)
-some_at (a ∷ others) (suc i) h = some_at others i (omega arith)
-
 pub sids_up : (assets : List AssetRow) → AllPairs (λ a b. a.sid < b.sid) assets → (cols : List ℕ) → AllPairs (λ a b. a < b) cols → All (λ c. c < length assets) cols → AllPairs (λ a b. a < b) (map (sid_at assets) cols)
 sids_up assets rise cols up inside i j d l h =
     let n : length (map (sid_at assets) cols) ≡ length cols = length-map cols (sid_at assets) in
@@ -39,7 +35,7 @@ sids_up assets rise cols up inside i j d l h =
     let ci : get_or cols i 0 < length assets = inside i 0 ih in
     let cj : get_or cols j 0 < length assets = inside j 0 jh in
     let c : get_or cols i 0 < get_or cols j 0 = up i j 0 l jh in
-    let a = some_at assets (get_or cols j 0) cj in
+    let a = stands assets (get_or cols j 0) cj in
     let s : (get_or assets (get_or cols i 0) a.0).sid < (get_or assets (get_or cols j 0) a.0).sid = rise (get_or cols i 0) (get_or cols j 0) a.0 c cj in
     let x : get_or (map (sid_at assets) cols) i d ≡ (get_or assets (get_or cols i 0) a.0).sid = get_or_default (map (sid_at assets) cols) i d 0 (omega arith) ∙ sid_of_place assets cols i ih ∙ sid_at-row assets (get_or cols i 0) a.0 ci in
     let y : get_or (map (sid_at assets) cols) j d ≡ (get_or assets (get_or cols j 0) a.0).sid = get_or_default (map (sid_at assets) cols) j d 0 h ∙ sid_of_place assets cols j jh ∙ sid_at-row assets (get_or cols j 0) a.0 cj in

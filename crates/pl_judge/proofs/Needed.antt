@@ -3,8 +3,7 @@ use Rattle.std.proofs.Common.{◌≡◌, ◌⊎◌, inl, inr, ℕ, zero, suc, �
 use Rattle.std.proofs.lemmas.Bool.{or_cases, or_left, or_right, eqb-true, eq-eqb, true≢false, cases_lt}
 use Rattle.std.proofs.lemmas.Option.{slice_get_past}
 use Rattle.pl_spec.specs.Window.{before}
-use Rattle.pl_pipeline.specs.Term.{Input, Node, Graph, MentionsBelow, IsGraph}
-use Rattle.pl_pipeline.specs.Term.Input.{BarColumn, TermInput}
+use Rattle.pl_pipeline.specs.Term.{Node, Graph, IsGraph}
 use Rattle.pl_pipeline.specs.Graph.{contains, input_number, reads_at}
 use Rattle.pl_pipeline.specs.Lows.{Reads, Needs}
 use Rattle.pl_pipeline.proofs.Contained.{input-in, option-in, in-front as among-first, in-back}

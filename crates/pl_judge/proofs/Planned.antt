@@ -1,16 +1,15 @@
 -- A plan, or why there is none, by the definitions.
-use Rattle.std.proofs.Common.{◌≡◌, inl, inr, ℕ, zero, suc, ◌+◌, ◌<◌, ◌≤◌, ◌-◌, true, false, ℤ, pos, ◌-ℤ◌, ◌≤ℤ◌, List, [], ◌∷◌, length, map, get_or, slice_get, ◌==◌, Some, refl, sym, ◌∙◌, ap, subst, arith}
+use Rattle.std.proofs.Common.{◌≡◌, inl, inr, ℕ, zero, suc, ◌+◌, ◌<◌, ◌≤◌, ◌-◌, true, false, ℤ, pos, ◌-ℤ◌, ◌≤ℤ◌, List, [], ◌∷◌, map, get_or, refl, sym, ◌∙◌, ap, subst, arith}
 use Rattle.std.specs.List.{list_any, range_with_len}
 use Rattle.std.specs.Int.{int_min, int_gap}
 use Rattle.std.specs.Int.RustNames.{int_lt}
-use Rattle.std.proofs.lemmas.Bool.{true≢false}
 use Rattle.std.proofs.lemmas.Bool.Decides.{nat_tests}
 use Rattle.std.proofs.lemmas.Int.{ints}
 use Rattle.std.proofs.lemmas.List.Folds.{list_any_at}
 use Rattle.std.proofs.lemmas.List.FromFn.{get_or-range_with_len, length-range_with_len}
 use Rattle.std.specs.Int.Signed.{≤ℤ_refl}
 use Rattle.pl_spec.specs.Limits.{most_extra_rows}
-use Rattle.pl_pipeline.specs.Graph.{contains, least_of, Used}
+use Rattle.pl_pipeline.specs.Graph.{least_of, Used}
 use Rattle.pl_pipeline.specs.Lows.{Needs, IsLow}
 use Rattle.pl_pipeline.specs.Table.{Pipeline}
 use Rattle.pl_spec.proofs.Signed.{le-both}

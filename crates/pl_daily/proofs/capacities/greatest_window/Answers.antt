@@ -1,4 +1,4 @@
-use Rattle.std.proofs.Common.{rules, ◌∙◌, ap, max, fold, map, ◌≡◌, ◌≤◌, length, sym, arith}
+use Rattle.std.proofs.Common.{rules, ◌∙◌, ap, max, fold, map, ◌≡◌, ◌≤◌, length, arith}
 use Rattle.std.specs.List.{range_with_len}
 use Rattle.pl_terms.specs.Checked.{pipeline_of}
 use Rattle.pl_terms.specs.Nodes.{input_of}
