@@ -1,6 +1,6 @@
 -- How a table is found that sqlite_schema lists.
-use Rattle.std.proofs.Common.{◌≡◌, ◌+◌, ◌∙◌, inl, inr, ℕ, zero, suc, List, [], ◌∷◌, slice_get, true, false, cond, Some, Ok, IsTrue, refl, sym, ap, subst, arith, pos}
-use Rattle.std.specs.List.{position_from, filter, AllByRecursion, AllZip}
+use Rattle.std.proofs.Common.{◌≡◌, ◌+◌, ◌∙◌, inl, inr, ℕ, zero, suc, List, [], ◌∷◌, slice_get, true, false, Some, Ok, IsTrue, refl, sym, ap, subst, arith, pos}
+use Rattle.std.specs.List.{position_from, AllZip}
 use Rattle.sqlite.specs.Table.{Table as Stored}
 use Rattle.sqlite.specs.State.{State, IsLive}
 use Rattle.sqlite_value.specs.Order.{Row}
@@ -11,18 +11,12 @@ use Rattle.sqlite_rules.specs.Lists.{Has}
 use Rattle.sqlite_schema.specs.Names.{same_name}
 use Rattle.sqlite.specs.Compile.{table_defined_by}
 use Rattle.sqlite_catalog.specs.Listing.{IsTableRow, is_table_row}
+use Rattle.sqlite_rules.proofs.ListLemmas.{has_kept}
+use Rattle.sqlite_trees.proofs.ListLemmas.{all-slice_get}
 use Rattle.pl_outside.specs.declared.keeper.Table.{Table}
 use Rattle.pl_adjust_sql.specs.Tables.{name_of, IsFound}
 use Rattle.pl_adjust_sql.specs.Created.{create_statement_of, created_table, created_places, IsListed}
 use Rattle.pl_adjust_sql.proofs.Creating.{creation_of, has_its_name, are_placed}
-
-has_filtered : (objects : List Row) (row : Row) → Has objects row → is_table_row row ≡ true → Has (filter is_table_row objects) row
-has_filtered [] row has is = has
-has_filtered (o ∷ objects) row (inl same) is = let first : is_table_row o ≡ true = subst (λ (r : Row). is_table_row r ≡ true) same is in rw first (inl same)
-has_filtered (o ∷ objects) row (inr later) is = elim (is_table_row o) as (λ b. Has (cond b (o ∷ filter is_table_row objects) (filter is_table_row objects)) row) [
-  | true ↦ inr (has_filtered objects row later is)
-  | false ↦ has_filtered objects row later is
-]
 
 zipped : (rows : List Row) (tables : List Stored) → AllZip IsTableRow rows tables → (row : Row) → Has rows row → (i : ℕ) × (t : Stored) × (slice_get tables i ≡ Some t) × IsTableRow row t
 zipped [] tables all row has = absurd has
@@ -34,11 +28,6 @@ zipped (r ∷ rows) (t ∷ tables) all row (inr later) = let at = zipped rows ta
 abbrev Apart : Stored → Stored → Type 0
 Apart s t = same_name s.name t.name ≡ false
 
-pub each_at : {X : Type 0} (P : X → Type 0) (xs : List X) (i : ℕ) (x : X) → slice_get xs i ≡ Some x → AllByRecursion P xs → P x
-each_at P [] i x at all = absurd cc
-each_at P (y ∷ xs) zero x at all = let same : y ≡ x = cc in subst P same all.0
-each_at P (y ∷ xs) (suc i) x at all = each_at P xs i x at all.1
-
 named_at : (name : List ℕ) → same_name name name ≡ true → (tables : List Stored) (i : ℕ) (t : Stored) (from : ℕ) → slice_get tables i ≡ Some t → t.name ≡ name → IsAscending Apart tables
     → position_from (λ (x : Stored). same_name x.name name) from tables ≡ Some (from + i)
 named_at name itself [] i t from at is apart = absurd cc
@@ -48,7 +37,7 @@ named_at name itself (x ∷ tables) zero t from at is apart =
     let here : from ≡ from + 0 = omega arith in
     rw yes' (ap Some here)
 named_at name itself (x ∷ tables) (suc i) t from at is apart =
-    let no' : same_name x.name name ≡ false = subst (λ n. same_name x.name n ≡ false) is (each_at (Apart x) tables i t at apart.0) in
+    let no' : same_name x.name name ≡ false = subst (λ n. same_name x.name n ≡ false) is (all-slice_get (Apart x) tables i t at apart.0) in
     let there : from + 1 + i ≡ from + suc i = omega arith in
     rw no' (named_at name itself tables i t (from + 1) at is apart.1 ∙ ap Some there)
 
@@ -56,7 +45,7 @@ pub listed_is_found : (table : Table) (s : State) → IsLive s → IsTrue s.is_o
     → (tree : ℕ) × (rowid row ≡ Int (pos (tree + 1))) × IsFound s.now.schema table (created_table table tree) created_places
 listed_is_found table s live open' row has listed =
     let lists = ((live open').0).lists.listed in
-    let at = zipped _ s.now.schema.tables lists.tables row (has_filtered (s.now.trees catalog_tree) row has listed.kind) in
+    let at = zipped _ s.now.schema.tables lists.tables row (has_kept is_table_row (s.now.trees catalog_tree) row has listed.kind) in
     let t = at.1 in
     let is = at.3 in
     let text : is.sql ≡ create_statement_of table = (let one = sym is.sql_is ∙ listed.text in cc) in

@@ -9,14 +9,14 @@ use Rattle.sqlite_trees.specs.Objects.{catalog_tree, IsListed}
 use Rattle.sqlite_trees.specs.View.{View, IsOrdered, IsShaped}
 use Rattle.sqlite_catalog.specs.Listing.{IsSound}
 use Rattle.sqlite_catalog.proofs.LayoutLemmas.{laid_out, objects_rise}
-use Rattle.pl_adjust_sql.proofs.Listing.{each_at}
+use Rattle.sqlite_trees.proofs.ListLemmas.{all-slice_get}
 
 -- as the store keeps them while the transaction isn't broken
 pub rows_rise : (v : View) (schema : Schema) → IsSound schema v.trees → IsListed (v.trees catalog_tree) v.shape v.reals → IsOrdered v.shape v.trees
     → (at : ℕ) (t : Stored) → slice_get schema.tables at ≡ Some t → IsTable (v.trees t.tree)
 rows_rise v schema sound listed ordered at t is =
     let laid = laid_out listed (objects_rise v listed ordered) sound.lists.listed in
-    let shaped = each_at (λ (x : Stored). v.shape x.tree ≡ shape.Table) schema.tables at t is laid.tables in
+    let shaped = all-slice_get (λ (x : Stored). v.shape x.tree ≡ shape.Table) schema.tables at t is laid.tables in
     (subst (λ (s : Shape). IsShaped s (v.trees t.tree)) shaped (ordered t.tree)).0
 
 -- a store that isn't broken is open

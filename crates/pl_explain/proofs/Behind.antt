@@ -1,8 +1,10 @@
 -- Facts that are put after others, and what may stand in a derivation.
-use Rattle.std.proofs.Common.{◌≡◌, ℕ, ◌+◌, ◌-◌, ◌<◌, ◌≤◌, Bool, true, false, cond, ℤ, pos, ◌<ℤ◌, AllPairs, List, [], ◌∷◌, ◌++◌, length, map, take, filter, flat_map, Option, Some, None, option_map, slice_get, get_or, refl, sym, ◌∙◌, ap, subst, arith, append_assoc, append-nil}
+use Rattle.std.proofs.Common.{◌≡◌, ℕ, ◌+◌, ◌-◌, ◌<◌, ◌≤◌, Bool, true, false, cond, ℤ, pos, ◌<ℤ◌, AllPairs, List, [], ◌∷◌, ◌++◌, length, map, take, filter, flat_map, Option, Some, None, option_map, slice_get, get_or, sym, ◌∙◌, ap, subst, arith, append_assoc, append-nil}
 use Rattle.std.specs.List.{range_with_len}
 use Rattle.std.proofs.lemmas.Int.{ints}
 use Rattle.std.proofs.lemmas.Bool.{and_parts}
+use Rattle.std.proofs.lemmas.Grind.{flat_map-append}
+use Rattle.std.proofs.lemmas.List.Elements.{filter-append}
 use Rattle.std.proofs.lemmas.List.{take_more, take_all, map-append}
 use Rattle.std.proofs.lemmas.List.FromFn.{map-range_with_len_more}
 use Rattle.std.proofs.lemmas.Option.{slice_get_within}
@@ -82,27 +84,14 @@ module _ (g : ℕ → List Fact) (q : ℕ → Bool) (assets : List AssetRow) whe
   abbrev pub entries_of : List AssetRow → List Fact
   entries_of rows = flat_map g (filter q (map (λ a. a.sid) rows))
 
-  flat-more : (xs ys : List ℕ) → flat_map g (xs ++ ys) ≡ flat_map g xs ++ flat_map g ys
-  flat-more [] ys = refl
-  flat-more (x ∷ xs) ys = ap (λ l. g x ++ l) (flat-more xs ys) ∙ sym (append_assoc (g x) (flat_map g xs) (flat_map g ys))
-
-  filter-more : (xs : List ℕ) (y : ℕ) → filter q (xs ++ y ∷ []) ≡ filter q xs ++ cond (q y) (y ∷ []) []
-  filter-more [] y = refl
-  filter-more (x ∷ xs) y = here (q x) (filter-more xs y)
-    where
-      here : (b : Bool) → filter q (xs ++ y ∷ []) ≡ filter q xs ++ cond (q y) (y ∷ []) []
-          → cond b (x ∷ filter q (xs ++ y ∷ [])) (filter q (xs ++ y ∷ [])) ≡ cond b (x ∷ filter q xs) (filter q xs) ++ cond (q y) (y ∷ []) []
-      here true rest = ap (λ l. x ∷ l) rest
-      here false rest = rest
-
   module _ (i : ℕ) (inside : i < length assets) where
     taken : entries_of (take (i + 1) assets) ≡ entries_of (take i assets) ++ flat_map g (cond (q (sid_at assets i)) (sid_at assets i ∷ []) [])
     taken =
         ap entries_of (take_more assets i no_asset inside)
         ∙ ap (λ l. flat_map g (filter q l)) (map-append (λ (a : AssetRow). a.sid) (take i assets) (get_or assets i no_asset ∷ []))
         ∙ ap (λ a. flat_map g (filter q (map (λ (a : AssetRow). a.sid) (take i assets) ++ a ∷ []))) (sym (sid-there assets i inside))
-        ∙ ap (flat_map g) (filter-more (map (λ (a : AssetRow). a.sid) (take i assets)) (sid_at assets i))
-        ∙ flat-more (filter q (map (λ (a : AssetRow). a.sid) (take i assets))) (cond (q (sid_at assets i)) (sid_at assets i ∷ []) [])
+        ∙ ap (flat_map g) (filter-append q (map (λ (a : AssetRow). a.sid) (take i assets)) (sid_at assets i ∷ []))
+        ∙ flat_map-append g (filter q (map (λ (a : AssetRow). a.sid) (take i assets))) (cond (q (sid_at assets i)) (sid_at assets i ∷ []) [])
 
     -- of an asset that does not exist there is nothing
     pub entry-none : q (sid_at assets i) ≡ false → entries_of (take (i + 1) assets) ≡ entries_of (take i assets)

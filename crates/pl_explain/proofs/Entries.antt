@@ -1,7 +1,8 @@
 -- What a cross-section rests on: its mask, its group and its input, each for all assets that exist.
 use Rattle.std.proofs.Common.{◌≡◌, ℕ, zero, suc, ◌+◌, ◌<◌, Bool, true, false, ◌&&◌, if◌then◌else◌, cond, ℤ, All, List, [], ◌∷◌, ◌++◌, map, flat_map, filter, length, Option, Some, None, option_map, slice_get, IfSome, pos, refl, sym, ◌∙◌, ap, arith, inl, inr}
 use Rattle.std.specs.List.{list_all}
-use Rattle.std.proofs.lemmas.Bool.{cases_lt}
+use Rattle.std.proofs.Math.Bool.{and-true}
+use Rattle.std.proofs.lemmas.Bool.{cases_lt, and_from, and_left, and_right}
 use Rattle.std.proofs.lemmas.List.Folds.{list_all-append}
 use Rattle.pl_spec.specs.declared.AssetRow.{AssetRow}
 use Rattle.pl_spec.specs.Parts.{sid_at}
@@ -81,26 +82,14 @@ module _ (stated : FactNumbers) (n : Node) (d : ℤ) (bs : List ℕ) where
   pub entries-stated : has_all stated masks ≡ true → has_all stated groups ≡ true → has_all stated inputs ≡ true → has_all stated (flat_map (entry_facts n d) bs) ≡ true
   entries-stated x y z = whole ∙ rw (x, y, z) refl
 
-  lack : (a b c : Bool) → (a ≡ false) → (a && b && c) ≡ false
-  lack a b c e = rw e refl
-
-  lack-second : (a b c : Bool) → (b ≡ false) → (a && b && c) ≡ false
-  lack-second true b c e = rw e refl
-  lack-second false b c e = refl
-
-  lack-third : (a b c : Bool) → (c ≡ false) → (a && b && c) ≡ false
-  lack-third true true c e = e
-  lack-third true false c e = refl
-  lack-third false b c e = refl
-
   pub masks-lack : has_all stated masks ≡ false → has_all stated (flat_map (entry_facts n d) bs) ≡ false
-  masks-lack x = whole ∙ lack (has_all stated masks) (has_all stated groups) (has_all stated inputs) x
+  masks-lack x = whole ∙ and_left (has_all stated masks && has_all stated groups) (has_all stated inputs) (and_left (has_all stated masks) (has_all stated groups) x)
 
   pub groups-lack : has_all stated groups ≡ false → has_all stated (flat_map (entry_facts n d) bs) ≡ false
-  groups-lack x = whole ∙ lack-second (has_all stated masks) (has_all stated groups) (has_all stated inputs) x
+  groups-lack x = whole ∙ and_left (has_all stated masks && has_all stated groups) (has_all stated inputs) (and_right (has_all stated masks) (has_all stated groups) x)
 
   pub inputs-lack : has_all stated inputs ≡ false → has_all stated (flat_map (entry_facts n d) bs) ≡ false
-  inputs-lack x = whole ∙ lack-third (has_all stated masks) (has_all stated groups) (has_all stated inputs) x
+  inputs-lack x = whole ∙ and_right (has_all stated masks && has_all stated groups) (has_all stated inputs) x
 
 -- ---- for the assets that exist, place by place
 
@@ -113,27 +102,15 @@ module _ (stated : FactNumbers) (q : ℕ → Bool) (f : ℕ → Fact) where
   sids assets = map (λ a. a.sid) assets
 
   one : (b : Bool) (x : Fact) (xs : List Fact) → has_all stated (if b then x ∷ [] else []) ≡ true → has_all stated xs ≡ true → has_all stated (cond b (x ∷ xs) xs) ≡ true
-  one true x xs h i = both (has stated x) (has_all stated xs) h i
-    where
-      both : (a c : Bool) → (a && true) ≡ true → c ≡ true → (a && c) ≡ true
-      both true c h i = i
-      both false c h i = h
+  one true x xs h i = and_from (has stated x) (has_all stated xs) (sym (and-true (has stated x)) ∙ h) i
   one false x xs h i = i
 
   own : (b : Bool) (x : Fact) (xs : List Fact) → has_all stated (if b then x ∷ [] else []) ≡ false → has_all stated (cond b (x ∷ xs) xs) ≡ false
-  own true x xs h = fails (has stated x) (has_all stated xs) h
-    where
-      fails : (a c : Bool) → (a && true) ≡ false → (a && c) ≡ false
-      fails true c h = absurd (let bad : true ≡ false = h in cc)
-      fails false c h = refl
+  own true x xs h = and_left (has stated x) (has_all stated xs) (sym (and-true (has stated x)) ∙ h)
   own false x xs h = absurd (let bad : true ≡ false = h in cc)
 
   other : (b : Bool) (x : Fact) (xs : List Fact) → has_all stated xs ≡ false → has_all stated (cond b (x ∷ xs) xs) ≡ false
-  other true x xs h = fails (has stated x) (has_all stated xs) h
-    where
-      fails : (a c : Bool) → c ≡ false → (a && c) ≡ false
-      fails true c h = h
-      fails false c h = refl
+  other true x xs h = and_right (has stated x) (has_all stated xs) h
   other false x xs h = h
 
   kept-first : (b : Bool) (a : ℕ) (bs : List ℕ) → map f (cond b (a ∷ bs) bs) ≡ cond b (f a ∷ map f bs) (map f bs)

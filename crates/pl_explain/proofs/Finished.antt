@@ -1,9 +1,10 @@
 -- What the functions of a walk leave, from what those that they call leave.
-use Rattle.std.proofs.Common.{◌≡◌, ℕ, zero, suc, ◌+◌, ◌<◌, ◌≤◌, ◌==◌, Bool, true, false, ℤ, pos, ◌≤ℤ◌, All, List, [], ◌∷◌, ◌++◌, length, map, take, drop, append-nil, get_or, Option, Some, None, option_map, unwrap_or, slice_get, Result, Ok, Err, refl, sym, ◌∙◌, ap, subst, arith, IsErrAnd}
+use Rattle.std.proofs.Common.{◌≡◌, ℕ, suc, ◌+◌, ◌<◌, ◌≤◌, ◌==◌, Bool, true, false, ℤ, pos, ◌≤ℤ◌, All, List, [], ◌∷◌, ◌++◌, length, map, take, drop, append-nil, get_or, Option, Some, None, option_map, unwrap_or, slice_get, Result, Ok, Err, refl, sym, ◌∙◌, ap, subst, arith, IsErrAnd}
 use Rattle.std.specs.List.{list_any}
 use Rattle.std.specs.Int.RustNames.{int_lt}
 use Rattle.std.proofs.lemmas.Int.{ints}
-use Rattle.std.proofs.lemmas.Bool.{and_parts, and_from, or_left, or_right, eq-eqb}
+use Rattle.std.proofs.lemmas.Bool.{and_parts, and_from, eq-eqb}
+use Rattle.std.proofs.lemmas.List.Folds.{list_any_at}
 use Rattle.std.proofs.lemmas.List.{take_more, take-append-drop, map-append}
 use Rattle.std.proofs.lemmas.Option.{slice_get_within, slice_get-get_or, get_or_from_slice_get, same_Some}
 use Rattle.pl_spec.specs.Limits.{most_lines}
@@ -26,6 +27,7 @@ use Rattle.pl_derivation.specs.declared.line.Line.{Line}
 use Rattle.pl_derivation.specs.Listed.{line_of}
 use Rattle.pl_derivation.specs.Lines.Line.{SeenLine, ValueLine}
 use Rattle.pl_derivation.specs.Texts.{AreCells, AreWritable, IsWritable}
+use Rattle.pl_spec.proofs.Columns.{no_asset, sid-there}
 use Rattle.pl_spec.proofs.Each.{Each, each_front, each_back, each_of_map, each_at}
 use Rattle.pl_derivation.specs.Facts.{Fact, known_day, number_in, number_facts, premises}
 use Rattle.pl_derivation.specs.Facts.Fact.{Seen, TermValue}
@@ -237,9 +239,8 @@ module _ {w : World} {c : Parts} {old : Walk} (from : HoldsSoFar w c old) (t : �
 -- ---- the value that is asked for
 
 sid-known : (assets : List AssetRow) (col : ℕ) → col < length assets → list_any (λ (x : AssetRow). x.sid == sid_at assets col) assets ≡ true
-sid-known [] col l = absurd (omega (arith, l))
-sid-known (x ∷ xs) zero l = or_left (x.sid == x.sid) (list_any (λ (y : AssetRow). y.sid == x.sid) xs) (eq-eqb x.sid x.sid refl)
-sid-known (x ∷ xs) (suc i) l = or_right (x.sid == sid_at xs i) (list_any (λ (y : AssetRow). y.sid == sid_at xs i) xs) (sid-known xs i (omega (arith, l)))
+sid-known assets col l =
+    list_any_at (λ (x : AssetRow). x.sid == sid_at assets col) assets col no_asset l (eq-eqb (get_or assets col no_asset).sid (sid_at assets col) (sym (sid-there assets col l)))
 
 module _ (w : World) (c : Parts) (t col d : ℕ) (used : is_used (pipeline_of c) t ≡ true) (place : col < length w.assets.now) (session : d < length w.sessions.now)
     (reached : pos 0 ≤ℤ reach w.sessions.now (term_at (graph_of c.graph) t) (pos d)) where

@@ -1,5 +1,6 @@
 -- What is given where facts are stated.
 use Rattle.std.proofs.Common.{◌≡◌, Bool, true, false, ◌&&◌, if◌then◌else◌, ℤ, List, [], ◌∷◌, ◌++◌, Option, Some, None, option_map, IfSome, IfNone, refl, sym, ◌∙◌, ap, subst}
+use Rattle.std.proofs.lemmas.Bool.{and_from, and_left, and_right}
 use Rattle.std.proofs.lemmas.List.Folds.{list_all-append}
 use Rattle.std.proofs.lemmas.Option.{same_Some}
 use Rattle.pl_spec.specs.Rounding.{IsCell}
@@ -75,24 +76,14 @@ module _ (stated : FactNumbers) where
 
   -- ---- lists of facts in a row
 
-  and-false-left : (a b : Bool) → a ≡ false → (a && b) ≡ false
-  and-false-left a b e = rw e refl
-
-  and-false-right : (a b : Bool) → b ≡ false → (a && b) ≡ false
-  and-false-right true b e = e
-  and-false-right false b e = refl
-
-  and-both : (a b : Bool) → a ≡ true → b ≡ true → (a && b) ≡ true
-  and-both a b e f = rw (e, f) refl
-
   pub both-stated : (xs ys : List Fact) → has_all stated xs ≡ true → has_all stated ys ≡ true → has_all stated (xs ++ ys) ≡ true
-  both-stated xs ys h i = list_all-append (has stated) xs ys ∙ and-both (has_all stated xs) (has_all stated ys) h i
+  both-stated xs ys h i = list_all-append (has stated) xs ys ∙ and_from (has_all stated xs) (has_all stated ys) h i
 
   pub front-lacks : (xs ys : List Fact) → has_all stated xs ≡ false → has_all stated (xs ++ ys) ≡ false
-  front-lacks xs ys h = list_all-append (has stated) xs ys ∙ and-false-left (has_all stated xs) (has_all stated ys) h
+  front-lacks xs ys h = list_all-append (has stated) xs ys ∙ and_left (has_all stated xs) (has_all stated ys) h
 
   pub back-lacks : (xs ys : List Fact) → has_all stated ys ≡ false → has_all stated (xs ++ ys) ≡ false
-  back-lacks xs ys h = list_all-append (has stated) xs ys ∙ and-false-right (has_all stated xs) (has_all stated ys) h
+  back-lacks xs ys h = list_all-append (has stated) xs ys ∙ and_right (has_all stated xs) (has_all stated ys) h
 
   -- after facts that are stated, what is given rests on the others
   pub given-behind : {X : Type 0} (xs ys : List Fact) (v : X) → has_all stated xs ≡ true → given stated ys v ≡ given stated (xs ++ ys) v

@@ -16,7 +16,7 @@ use Rattle.pl_derivation.specs.Facts.{Fact, same_fact, number_in, premises}
 use Rattle.pl_derivation.specs.Facts.Fact.{Seen, TermValue}
 use Rattle.pl_derivation.specs.Right.{fact_of, is_stated, is_about, is_fitting, is_right, first_wrong}
 use Rattle.pl_derivation.specs.Laws.{states_world}
-use Rattle.pl_derivation.proofs.Truths.{same_is, is_same}
+use Rattle.pl_derivation.proofs.Truths.{same_is, same_turned}
 use Rattle.pl_derivation.proofs.Standing.{right_is, repeat_is}
 use Rattle.pl_terms.specs.Checked.{Parts, pipeline_of}
 use Rattle.pl_world.specs.declared.world.World.{World}
@@ -61,18 +61,9 @@ stated-behind w old new lines l same more f =
 
 -- ---- telling
 
-same-turned : (f g : Fact) → same_fact f g ≡ same_fact g f
-same-turned f g = here (same_fact f g) (same_fact g f) refl refl
-  where
-    here : (b c : Bool) → same_fact f g ≡ b → same_fact g f ≡ c → b ≡ c
-    here true true e h = refl
-    here false false e h = refl
-    here true false e h = let same : f ≡ g = same_is f g e in absurd (true≢false (sym (is_same g) ∙ ap (same_fact g) (sym same) ∙ h))
-    here false true e h = let same : g ≡ f = same_is g f h in absurd (true≢false (sym (is_same f) ∙ ap (same_fact f) (sym same) ∙ e))
-
 module _ (f : Fact) (x : ℤ) (old new : FactNumbers) (states : IsInsertionOf f x old new) where
   pub has-more : (g : Fact) → has new g ≡ (has old g || same_fact g f)
-  has-more g = ap is_some (states g) ∙ ap (λ b. is_some (if b then Some x else look old g)) (same-turned f g) ∙ here (same_fact g f)
+  has-more g = ap is_some (states g) ∙ ap (λ b. is_some (if b then Some x else look old g)) (same_turned f g) ∙ here (same_fact g f)
     where
       here : (b : Bool) → is_some (if b then Some x else look old g) ≡ (is_some (look old g) || b)
       here true = sym (or-true (is_some (look old g)))
@@ -119,17 +110,9 @@ states-again w stated l f e h g = here (same_fact g f) refl
     about true i = rw (e, i) refl
     about false i = rw (e, i) refl
 
-    front : (b c : Bool) → b ≡ true → b ≡ (b || c)
-    front true c i = refl
-    front false c i = absurd (true≢false (sym i))
-
-    alone : (b c : Bool) → c ≡ false → b ≡ (b || c)
-    alone true c i = refl
-    alone false c i = sym i
-
     here : (b : Bool) → same_fact g f ≡ b → has stated g ≡ (has stated g || list_any (same_fact g) (option_to_list (fact_of w l)))
-    here true i = front (has stated g) _ (ap (has stated) (same_is g f i) ∙ h)
-    here false i = alone (has stated g) _ (about false i)
+    here true i = let stands = ap (has stated) (same_is g f i) ∙ h in stands ∙ sym (or_left (has stated g) _ stands)
+    here false i = sym (ap (λ b. has stated g || b) (about false i) ∙ or-false (has stated g))
 
 -- other rows that are kept
 pub other-rows : (w : World) (c : Parts) (stated : FactNumbers) (old new : Rows) → IsTable w c stated old → KeepsRows w c stated new → IsTable w c stated new

@@ -6,6 +6,7 @@ use Rattle.pl_spec.specs.Rounding.{IsCell}
 use Rattle.pl_terms.specs.Checked.{Parts, pipeline_of}
 use Rattle.pl_world.specs.declared.world.World.{World}
 use Rattle.pl_world.specs.Worlds.{world_of}
+use Rattle.pl_spec.proofs.Each.{each_both}
 use Rattle.pl_derivation.specs.declared.line.Line.{Line}
 use Rattle.pl_derivation.specs.Listed.{line_of}
 use Rattle.pl_derivation.specs.Texts.{AreWritable, IsWritable}
@@ -19,7 +20,7 @@ use Rattle.pl_explain.specs.declared.walk.Walk.{Walk}
 use Rattle.pl_explain.specs.Judging.{IsTable}
 use Rattle.pl_explain.specs.Walking.{HasWalked, HoldsSoFar, Finishes, IsTooLong}
 use Rattle.pl_explain.proofs.Judging.{table-more}
-use Rattle.pl_explain.proofs.Walks.{writable-more, walk-more}
+use Rattle.pl_explain.proofs.Walks.{walk-more}
 
 module _ (w : World) (c : Parts) where
   -- a walk that has put down one fact more stands
@@ -33,7 +34,7 @@ module _ (w : World) (c : Parts) where
     facts = fold (finish (world_of w) (pipeline_of c) (suc most)) from.facts (f ∷ []);
     walked = walk-more w c most f old fresh mid new line x states put is first from.facts from.walked (suc most) (omega arith);
     table = table-more f x mid.stated new.stated states w c new.rows table value cell fits;
-    writable = subst AreWritable (sym (ap (map line_of) put ∙ map-append line_of mid.lines.items (line ∷ []))) (writable-more (map line_of mid.lines.items) (line_of line) stands.writable text);
+    writable = subst AreWritable (sym (ap (map line_of) put ∙ map-append line_of mid.lines.items (line ∷ []))) (each_both IsWritable (map line_of mid.lines.items) (line_of line ∷ []) stands.writable (text, tt));
     few = few;
   }
 

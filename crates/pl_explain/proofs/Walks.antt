@@ -1,8 +1,9 @@
 -- Walks, one after the other.
 use Rattle.std.proofs.Common.{◌≡◌, ℕ, zero, suc, ◌+◌, ◌<◌, ◌≤◌, Bool, true, false, ◌||◌, if◌then◌else◌, ℤ, List, [], ◌∷◌, ◌++◌, length, length-append, map, fold, refl, sym, ◌∙◌, ap, subst, arith}
 use Rattle.std.specs.List.{list_all}
+use Rattle.std.proofs.Math.Path.{fun_ext}
 use Rattle.std.proofs.Math.Bool.{or-false}
-use Rattle.std.proofs.lemmas.Bool.{and_from, and_parts, or_left, or_right}
+use Rattle.std.proofs.lemmas.Bool.{and_from, and_parts, or_left}
 use Rattle.std.proofs.lemmas.List.{map-append, length-map}
 use Rattle.std.proofs.lemmas.List.Folds.{list_any-append}
 use Rattle.std.proofs.lemmas.List.Sums.{fold-append}
@@ -12,21 +13,16 @@ use Rattle.pl_world.specs.declared.world.World.{World}
 use Rattle.pl_world.specs.Worlds.{world_of}
 use Rattle.pl_derivation.specs.declared.line.Line.{Line}
 use Rattle.pl_derivation.specs.Listed.{line_of}
-use Rattle.pl_derivation.specs.Texts.{AreWritable, IsWritable}
 use Rattle.pl_derivation.specs.Facts.{Fact, same_fact, number_in, premises}
 use Rattle.pl_derivation.specs.Walks.{is_in, finish, line_for}
 use Rattle.pl_derivation.proofs.Growing.{grow}
-use Rattle.pl_derivation.proofs.Truths.{is_same}
+use Rattle.pl_derivation.proofs.Walking.{in_last}
 use Rattle.pl_explain.specs.declared.fact_numbers.FactNumbers.{FactNumbers}
 use Rattle.pl_explain.specs.Looking.{IsInsertionOf}
 use Rattle.pl_explain.specs.Given.{has, has_all}
 use Rattle.pl_explain.specs.declared.walk.Walk.{Walk}
 use Rattle.pl_explain.specs.Walking.{HasWalked, HoldsSoFar, Finishes, IsTooLong}
 use Rattle.pl_explain.proofs.Judging.{has-more}
-
-pub writable-more : (ls : List _) (l : _) → AreWritable ls → IsWritable l → AreWritable (ls ++ l ∷ [])
-writable-more [] l h i = (i, tt)
-writable-more (x ∷ ls) l h i = (h.0, writable-more ls l h.1 i)
 
 module _ (w : World) (c : Parts) where
   abbrev walked_by : ℕ → List Fact → List Fact → List Fact
@@ -55,15 +51,12 @@ module _ (w : World) (c : Parts) where
   stays-all depth (f ∷ fs) done g e = stays-all depth fs (finish (world_of w) (pipeline_of c) depth done f) g (stays depth done f g e)
 
   -- a fact that is walked to is finished
-  last-in : (done : List Fact) (f : Fact) → is_in (done ++ f ∷ []) f ≡ true
-  last-in done f = list_any-append (same_fact f) done (f ∷ []) ∙ or_right (is_in done f) (is_in (f ∷ []) f) (or_left (same_fact f f) false (is_same f))
-
   finished-in : (depth : ℕ) (done : List Fact) (f : Fact) → is_in (finish (world_of w) (pipeline_of c) (suc depth) done f) f ≡ true
   finished-in depth done f = here (is_in done f) refl
     where
       here : (b : Bool) → is_in done f ≡ b → is_in (if b then done else walked_by depth done (own f) ++ f ∷ []) f ≡ true
       here true e = e
-      here false e = last-in (walked_by depth done (own f)) f
+      here false e = in_last (walked_by depth done (own f)) f
 
   all-in : (depth : ℕ) (fs done : List Fact) → list_all (is_in (walked_by (suc depth) done fs)) fs ≡ true
   all-in depth [] done = refl
@@ -84,8 +77,7 @@ module _ (w : World) (c : Parts) where
       ap (λ l. walked_by depth l fs) (one-again depth done f both.0) ∙ all-again depth fs done both.1
 
   same-stated : (stated : FactNumbers) (facts fs : List Fact) → ((f : Fact) → has stated f ≡ is_in facts f) → has_all stated fs ≡ list_all (is_in facts) fs
-  same-stated stated facts [] h = refl
-  same-stated stated facts (f ∷ fs) h = let first = h f in let rest = same-stated stated facts fs h in rw (first, rest) refl
+  same-stated stated facts fs h = ap (λ test. list_all test fs) (fun_ext h)
 
   module _ (most : ℕ) where
     pub walk-none : (old : Walk) → Finishes w c most old old []

@@ -4,7 +4,8 @@ use Rattle.pl_derivation.specs.Right.{is_stated}
 use Rattle.pl_derivation.proofs.Truths.{sound}
 use Rattle.pl_derivation.specs.Listed.{line_of}
 use Rattle.pl_world.specs.Worlds.{world_of}
-use Rattle.pl_explain.proofs.Passing.{pass, stop, whole, taken-more}
+use Rattle.pl_derivation.proofs.Printing.{lines_more}
+use Rattle.pl_explain.proofs.Passing.{pass, stop, whole}
 use Rattle.pl_explain.proofs.Judging.{judged-right, stated-behind}
 use Rattle.pl_explain.proofs.judge.first_wrong.Goals as goal
 
@@ -30,7 +31,7 @@ loop-i-preserved g c =
     let more = c.in_ok-is_right.ensures.stated c.if-not-branch.false in
     record {
       none = pass (world_of w) (pipeline_of p) lines i l c.line-line.ensures.line so_far.none (sym judged ∙ sym c.in_ok-is_right.ensures.exact ∙ c.if-not-branch.false);
-      stated = λ f. stated-behind (world_of w) c.loop-i.stated c.is_right.new.stated (take i lines) l so_far.stated more f ∙ ap (λ ls. is_stated (world_of w) ls f) (sym (taken-more (world_of w) (pipeline_of p) lines i l c.line-line.ensures.line));
+      stated = λ f. stated-behind (world_of w) c.loop-i.stated c.is_right.new.stated (take i lines) l so_far.stated more f ∙ ap (λ ls. is_stated (world_of w) ls f) (sym (lines_more lines i l c.line-line.ensures.line));
       table = c.in_ok-is_right.ensures.table;
     }
 
