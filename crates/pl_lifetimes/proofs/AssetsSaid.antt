@@ -6,11 +6,11 @@ use Rattle.std.specs.Int.RustNames.{int_lt}
 use Rattle.std.specs.Bool.{Decides}
 use Rattle.std.proofs.lemmas.Int.{ints}
 use Rattle.std.proofs.lemmas.Bool.Decides.{nat_tests}
-use Rattle.pl_records.specs.Reading.{Record, Fault, field, ◌>>=◌, rows_under, AreRowsUnder, Judges}
+use Rattle.pl_records.specs.Reading.{Record, Fault, field, ◌>>=◌, AreRowsUnder, Judges}
 use Rattle.pl_records.specs.RuleTable.{IsFirstBroken}
 use Rattle.pl_records.specs.Sorted.{sorted_by}
 use Rattle.pl_spec.specs.declared.AssetRow.{AssetRow}
-use Rattle.pl_records.proofs.Readings.{made-fault, under-are, under-fault}
+use Rattle.pl_records.proofs.Readings.{made-fault, under-are}
 use Rattle.pl_records.proofs.RuleTables.{any-tells, lacks-tells, has-tells, Judges-table}
 use Rattle.pl_records.proofs.Sorts.{sorted-are}
 use Rattle.pl_spec.proofs.DatesRead.{date_in-IsDate}
@@ -73,11 +73,4 @@ assets-are records assets = (there, back)
 
 pub assets-fault : (records : List Record) (fault : Fault Rule) → (assets_of records ≡ Err fault) ↔ IsAssetsFault records fault
 unfolding assets_of rows_in
-assets-fault records fault =
-    (λ e. under.0 (told.0 e), λ h. told.1 (under.1 h))
-  where
-    told : ((rows_in records >>= λ rows. Ok (sorted_by sid_of rows)) ≡ Err fault) ↔ (rows_in records ≡ Err fault)
-    told = made-fault (sorted_by sid_of) (rows_in records) fault
-
-    under : (rows_under header rules.BadHeader asset_or_rule records ≡ Err fault) ↔ IsAssetsFault records fault
-    under = under-fault header rules.BadHeader IsAsset (λ before r. IsFirstBroken rules.rules (Breaks before r)) asset_or_rule assets_judged records fault
+assets-fault = made-fault header rules.BadHeader IsAsset (λ before r. IsFirstBroken rules.rules (Breaks before r)) asset_or_rule assets_judged (sorted_by sid_of)

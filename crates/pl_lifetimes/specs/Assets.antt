@@ -1,5 +1,5 @@
 -- The assets of the records of an assets file, and the first rule that a record breaks.
-use Rattle.std.specs.Prelude.{◌≡◌, ℕ, ◌==◌, ◌<◌, ◌≤◌, ◌^◌, nat_le, Bool, false, if◌then◌else◌, codes, List, [], ◌∷◌, length, All, AllPairs, Option, None, Some, option_map, option_and_then, slice_get, Result, Ok}
+use Rattle.std.specs.Prelude.{◌≡◌, ℕ, ◌==◌, ◌<◌, ◌≤◌, ◌^◌, nat_le, Bool, false, if◌then◌else◌, codes, List, [], ◌∷◌, length, All, AllPairs, Option, None, Some, option_map, option_and_then, position, slice_get, Result, Ok}
 use Rattle.std.specs.List.{list_any}
 use Rattle.std.specs.Int.RustNames.{int_lt}
 use Rattle.std.specs.Option.{ok_or}
@@ -58,6 +58,22 @@ pub record AreAssets (rows : List AssetRow) : Type 0 where
   pub few : length rows ≤ most_assets
   pub small : All (λ a. a.sid < 2 ^ 32) rows
 
+-- the column of the asset that has the sid
+abbrev pub col_in : List AssetRow → ℕ → Option ℕ
+col_in assets sid = position (λ a. sid_of a == sid) assets
+
+-- the row of a record in the column of its asset
+abbrev pub placed : {Said Row : Type 0} → (Record → Option Said) → (Said → ℕ) → (Said → ℕ → Row) → List AssetRow → Record → Option Row
+placed said_in sid in_column assets r = option_and_then (λ x. option_map (in_column x) (col_in assets (sid x))) (said_in r)
+
 -- the asset in the column has the sid
 abbrev pub HasSid : List AssetRow → ℕ → ℕ → Type 0
 HasSid assets col sid = option_map sid_of (slice_get assets col) ≡ Some sid
+
+-- the row is what the record says, in the column of its asset
+pub record IsPlaced {Said Row : Type 0} (IsRecord : Record → Said → Type 0) (sid : Said → ℕ) (in_column : Said → ℕ → Row) (assets : List AssetRow) (r : Record) (row : Row) : Type 0 where
+  pub said : Said
+  pub written : IsRecord r said
+  pub col : ℕ
+  pub asset : HasSid assets col (sid said)
+  pub same : in_column said col ≡ row

@@ -2,12 +2,12 @@
 //! them by ascending sid, from 0.
 #![tactic(auto)]
 
-ghost use Rattle.std.specs.Prelude.{◌≡◌, ◌<◌, ◌≤◌, ◌^◌, ◌==◌, All, length, slice_get, position, Some, IfOk, IfSome, option_map};
+ghost use Rattle.std.specs.Prelude.{◌≡◌, ◌<◌, ◌≤◌, ◌^◌, All, length, slice_get, Some, IfOk, IfSome, option_map};
 ghost use Rattle.pl_spec.specs.Limits.{most_assets};
 ghost use Rattle.pl_records.specs.Reading.{Answers};
 ghost use Rattle.pl_spec.specs.World.{lives_on};
 ghost use Rattle.pl_records.specs.Records.{csv_records};
-ghost use Rattle.pl_lifetimes.specs.Assets.{AreAssets, assets_of, sid_of};
+ghost use Rattle.pl_lifetimes.specs.Assets.{AreAssets, assets_of, col_in, sid_of};
 ghost use Rattle.pl_lifetimes.specs.Faults.{fault_of};
 
 mod error;
@@ -93,9 +93,18 @@ impl Assets {
     pub fn col_of(&self, sid: u32) -> Option<usize>
         ensures within { IfSome result (λ i. i < length self.now) }
         ensures few { IfSome result (λ i. i < most_assets) }
-        ensures exact { result ≡ position (λ a. sid_of a == sid) self.now }
+        ensures exact { result ≡ col_in self.now sid }
     {
         search::col_of(&self.rows, sid)
+    }
+
+    /// The same. The asset in the column `near` and the one after it are looked at before it is searched for.
+    pub fn col_near(&self, near: u32, sid: u32) -> Option<usize>
+        ensures within { IfSome result (λ i. i < length self.now) }
+        ensures few { IfSome result (λ i. i < most_assets) }
+        ensures exact { result ≡ col_in self.now sid }
+    {
+        search::col_near(&self.rows, near, sid)
     }
 
     /// Whether the asset in a column exists on a day, counted from 1970-01-01: later than its start, and up

@@ -1,8 +1,8 @@
 //! Where a sid is among the assets, and when an asset exists.
 
-ghost use Rattle.std.specs.Prelude.{◌≡◌, ◌<◌, ◌==◌, length, position, IfSome};
+ghost use Rattle.std.specs.Prelude.{◌≡◌, ◌<◌, length, IfSome};
 ghost use Rattle.pl_spec.specs.World.{lives_on};
-ghost use Rattle.pl_lifetimes.specs.Assets.{AreAssets, sid_of};
+ghost use Rattle.pl_lifetimes.specs.Assets.{AreAssets, col_in};
 
 use pl_spec::AssetRow;
 
@@ -10,7 +10,7 @@ use pl_spec::AssetRow;
 pub(crate) fn col_of(rows: &[AssetRow], sid: u32) -> Option<usize>
     requires { AreAssets rows.now }
     ensures within { IfSome result (λ i. i < length rows.now) }
-    ensures exact { result ≡ position (λ a. sid_of a == sid) rows.now }
+    ensures exact { result ≡ col_in rows.now sid }
 {
     let i = rows.partition_point(|row| row.sid < sid);
     if i < rows.len() && rows[i].sid == sid {
@@ -18,6 +18,23 @@ pub(crate) fn col_of(rows: &[AssetRow], sid: u32) -> Option<usize>
     } else {
         None
     }
+}
+
+// The same. The asset at a place and the one after it are looked at before it is searched for.
+pub(crate) fn col_near(rows: &[AssetRow], near: u32, sid: u32) -> Option<usize>
+    requires { AreAssets rows.now }
+    ensures within { IfSome result (λ i. i < length rows.now) }
+    ensures exact { result ≡ col_in rows.now sid }
+{
+    let same = near as usize;
+    let next = same + 1;
+    if same < rows.len() && rows[same].sid == sid {
+        return Some(same);
+    }
+    if next < rows.len() && rows[next].sid == sid {
+        return Some(next);
+    }
+    col_of(rows, sid)
 }
 
 // Whether the asset exists on the day.

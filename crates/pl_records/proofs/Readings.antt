@@ -10,7 +10,7 @@ use Rattle.std.proofs.lemmas.List.{take-append-le, append-nil, take_all}
 use Rattle.std.proofs.lemmas.Option.{slice_get_within}
 use Rattle.std.proofs.Math.Seq.{take-append_seam}
 use Rattle.pl_records.proofs.RuleTables.{not_true}
-use Rattle.pl_records.specs.Reading.{rows_under, has_header, Record, field, Fault, ◌>>=◌, at_line, rows_behind, rows_of, AreRows, IsFirstFault, Judges, AreRowsUnder, IsFaultUnder}
+use Rattle.pl_records.specs.Reading.{rows_under, has_header, Record, field, Fault, ◌>>=◌, at_line, rows_behind, rows_of, AreRows, IsFirstFault, Judges, AreRowsUnder, IsMadeUnder, IsFaultUnder}
 
 pub rows-stop : {Row R : Type 0} (first : ℕ) (says : List Row → Record → Result Row R) (before : List Row) (r : Record) (rs : List Record) (rule : R)
     → says before r ≡ Err rule → rows_behind first says before (r ∷ rs) ≡ Err (record { rule = rule; line = first + length before })
@@ -272,9 +272,9 @@ pub made-of : {A B E : Type 0} (f : A → B) (reading : Result A E) (y : B) → 
 made-of f (Ok x) y e = (x, refl, (let same : Ok (f x) ≡ Ok y = e in cc))
 made-of f (Err g) y e = absurd (let bad : Err g ≡ Ok y = e in cc)
 
-pub made-fault : {A B E : Type 0} (f : A → B) (reading : Result A E) (g : E) → ((reading >>= λ x. Ok (f x)) ≡ Err g) ↔ (reading ≡ Err g)
-made-fault f (Ok x) g = (λ e. absurd (let bad : Ok (f x) ≡ Err g = e in cc), λ e. absurd (let bad : Ok x ≡ Err g = e in cc))
-made-fault f (Err h) g = (λ e. (let same : Err h ≡ Err g = e in let it : h ≡ g = cc in ap Err it), λ e. (let same : Err h ≡ Err g = e in let it : h ≡ g = cc in ap Err it))
+same-fault : {A B E : Type 0} (f : A → B) (reading : Result A E) (g : E) → ((reading >>= λ x. Ok (f x)) ≡ Err g) ↔ (reading ≡ Err g)
+same-fault f (Ok x) g = (λ e. absurd (let bad : Ok (f x) ≡ Err g = e in cc), λ e. absurd (let bad : Ok x ≡ Err g = e in cc))
+same-fault f (Err h) g = (λ e. (let same : Err h ≡ Err g = e in let it : h ≡ g = cc in ap Err it), λ e. (let same : Err h ≡ Err g = e in let it : h ≡ g = cc in ap Err it))
 
 -- ---- the exits of a judgement
 
@@ -293,39 +293,52 @@ header-found names records behind e = rw e ((same_record names names).1 refl)
 behind-header : (names : Record) (records behind : List Record) → records ≡ names ∷ behind → drop 1 records ≡ behind
 behind-header names records behind e = ap (drop 1) e
 
-pub under-are : {Row R : Type 0} (names : Record) (bad : R) (IsRow : List Row → Record → Row → Type 0) (Breaks : List Row → Record → R → Type 0) (says : List Row → Record → Result Row R)
-    → Judges IsRow Breaks says → (records : List Record) (rows : List Row) → (rows_under names bad says records ≡ Ok rows) ↔ AreRowsUnder names IsRow records rows
-under-are names bad IsRow Breaks says j records rows = (there, back)
-  where
-    there : rows_under names bad says records ≡ Ok rows → AreRowsUnder names IsRow records rows
-    there e =
-        let it = under_ok names bad says records rows e in
-        record { behind = drop 1 records; parts = header-there names records it.0; right = (rows-are 2 IsRow Breaks says j (drop 1 records) rows).0 it.1 }
+module _ {Row R : Type 0} (names : Record) (bad : R) (IsRow : List Row → Record → Row → Type 0) (Breaks : List Row → Record → R → Type 0) (says : List Row → Record → Result Row R) (j : Judges IsRow Breaks says) where
+  pub under-are : (records : List Record) (rows : List Row) → (rows_under names bad says records ≡ Ok rows) ↔ AreRowsUnder names IsRow records rows
+  under-are records rows = (there, back)
+    where
+      there : rows_under names bad says records ≡ Ok rows → AreRowsUnder names IsRow records rows
+      there e =
+          let it = under_ok names bad says records rows e in
+          record { behind = drop 1 records; parts = header-there names records it.0; right = (rows-are 2 IsRow Breaks says j (drop 1 records) rows).0 it.1 }
 
-    back : AreRowsUnder names IsRow records rows → rows_under names bad says records ≡ Ok rows
-    back h =
-        rw (header-found names records h.behind h.parts)
-        (ap (rows_of 2 says) (behind-header names records h.behind h.parts) ∙ (rows-are 2 IsRow Breaks says j h.behind rows).1 h.right)
+      back : AreRowsUnder names IsRow records rows → rows_under names bad says records ≡ Ok rows
+      back h =
+          rw (header-found names records h.behind h.parts)
+          (ap (rows_of 2 says) (behind-header names records h.behind h.parts) ∙ (rows-are 2 IsRow Breaks says j h.behind rows).1 h.right)
 
-pub under-fault : {Row R : Type 0} (names : Record) (bad : R) (IsRow : List Row → Record → Row → Type 0) (Breaks : List Row → Record → R → Type 0) (says : List Row → Record → Result Row R)
-    → Judges IsRow Breaks says → (records : List Record) (fault : Fault R) → (rows_under names bad says records ≡ Err fault) ↔ IsFaultUnder names bad IsRow Breaks records fault
-under-fault {Row} {R} names bad IsRow Breaks says j records fault = (there (has_header names records) refl, back)
-  where
-    there : (b : Bool) → has_header names records ≡ b → (if b then rows_of 2 says (drop 1 records) else Err (record { rule = bad; line = 1 })) ≡ Err fault
-        → IsFaultUnder names bad IsRow Breaks records fault
-    there true t e = inr (drop 1 records, header-there names records t, (fault-is 2 IsRow Breaks says j (drop 1 records) fault).0 e)
-    there false t e =
-        inl (
-          λ behind h. absurd (let yes : has_header names records ≡ true = header-found names records behind h in let bad : true ≡ false = sym yes ∙ t in cc),
-          (let told : Err (record { rule = bad; line = 1 }) ≡ Err fault = e in cc),
-        )
+  pub under-fault : (records : List Record) (fault : Fault R) → (rows_under names bad says records ≡ Err fault) ↔ IsFaultUnder names bad IsRow Breaks records fault
+  under-fault records fault = (there (has_header names records) refl, back)
+    where
+      there : (b : Bool) → has_header names records ≡ b → (if b then rows_of 2 says (drop 1 records) else Err (record { rule = bad; line = 1 })) ≡ Err fault
+          → IsFaultUnder names bad IsRow Breaks records fault
+      there true t e = inr (drop 1 records, header-there names records t, (fault-is 2 IsRow Breaks says j (drop 1 records) fault).0 e)
+      there false t e =
+          inl (
+            λ behind h. absurd (let yes : has_header names records ≡ true = header-found names records behind h in let bad : true ≡ false = sym yes ∙ t in cc),
+            (let told : Err (record { rule = bad; line = 1 }) ≡ Err fault = e in cc),
+          )
 
-    no_header : (b : Bool) → has_header names records ≡ b → ((behind : List Record) → records ≢ names ∷ behind) → has_header names records ≡ false
-    no_header true t none = absurd (none (drop 1 records) (header-there names records t))
-    no_header false t none = t
+      no_header : (b : Bool) → has_header names records ≡ b → ((behind : List Record) → records ≢ names ∷ behind) → has_header names records ≡ false
+      no_header true t none = absurd (none (drop 1 records) (header-there names records t))
+      no_header false t none = t
 
-    back : IsFaultUnder names bad IsRow Breaks records fault → rows_under names bad says records ≡ Err fault
-    back (inl h) = rw (no_header _ refl h.0, h.1) refl
-    back (inr h) =
-        rw (header-found names records h.0 h.1)
-        (ap (rows_of 2 says) (behind-header names records h.0 h.1) ∙ (fault-is 2 IsRow Breaks says j h.0 fault).1 h.2)
+      back : IsFaultUnder names bad IsRow Breaks records fault → rows_under names bad says records ≡ Err fault
+      back (inl h) = rw (no_header _ refl h.0, h.1) refl
+      back (inr h) =
+          rw (header-found names records h.0 h.1)
+          (ap (rows_of 2 says) (behind-header names records h.0 h.1) ∙ (fault-is 2 IsRow Breaks says j h.0 fault).1 h.2)
+
+  -- and what is made of them
+  module _ {Y : Type 0} (make : List Row → Y) (records : List Record) where
+    pub made-is : (made : Y) → ((rows_under names bad says records >>= λ rows. Ok (make rows)) ≡ Ok made) ↔ IsMadeUnder names IsRow make records made
+    made-is made = (
+      λ e. (let it = made-of make (rows_under names bad says records) made e in record { rows = it.0; read = (under-are records it.0).0 it.1; same = it.2 }),
+      λ h. ap (λ x. x >>= λ rows. Ok (make rows)) ((under-are records h.rows).1 h.read) ∙ ap Ok h.same,
+    )
+
+    pub made-fault : (fault : Fault R) → ((rows_under names bad says records >>= λ rows. Ok (make rows)) ≡ Err fault) ↔ IsFaultUnder names bad IsRow Breaks records fault
+    made-fault fault = (
+      λ e. (under-fault records fault).0 ((same-fault make (rows_under names bad says records) fault).0 e),
+      λ h. (same-fault make (rows_under names bad says records) fault).1 ((under-fault records fault).1 h),
+    )
