@@ -140,7 +140,7 @@ find-at p xs i d e =
     let q = position-Some p xs i d e in
     find_at p xs ∙ ap (slice_get xs) (first_at p xs i d q.0 q.1 q.2) ∙ slice_get-get_or xs i d q.0
 
-find-nothing : {A : Type 0} (p : A → Bool) (xs : List A) → ((k : ℕ) (d : A) → k < length xs → p (get_or xs k d) ≡ false) → find p xs ≡ None
+pub find-nothing : {A : Type 0} (p : A → Bool) (xs : List A) → ((k : ℕ) (d : A) → k < length xs → p (get_or xs k d) ≡ false) → find p xs ≡ None
 find-nothing p [] f = refl
 find-nothing p (x ∷ xs) f = let no_match : p x ≡ false = f 0 x (omega arith) in rw no_match (find-nothing p xs (λ k d l. f (suc k) d (omega arith)))
 

@@ -1,5 +1,5 @@
 -- Bars that are read: what each test tells, and what is kept of all rows.
-use Rattle.std.proofs.Common.{◌≡◌, ℕ, ◌^◌, ◌==◌, ◌<◌, ◌≤◌, nat_le, IsTrue, true, false, List, [], ◌∷◌, ◌++◌, length, get_or, All, Option, Some, None, option_map, option_and_then, Ok, Err, refl, sym, ap, ◌∙◌, ℤ, pos, position, arith}
+use Rattle.std.proofs.Common.{◌≡◌, ℕ, ◌^◌, ◌==◌, ◌<◌, ◌≤◌, nat_le, IsTrue, true, false, List, [], ◌∷◌, ◌++◌, length, get_or, All, Some, None, option_map, option_and_then, Ok, Err, refl, sym, ap, ◌∙◌, ℤ, pos, arith}
 use Rattle.std.specs.List.{list_any, AllPairs}
 use Rattle.std.specs.Ordering.{int_eq}
 use Rattle.std.specs.Option.{ok_or}
@@ -14,10 +14,10 @@ use Rattle.pl_spec.specs.declared.BarRow.{BarRow}
 use Rattle.pl_records.proofs.Readings.{few-more, made-of, rows-keep, under_ok}
 use Rattle.pl_records.proofs.RuleTables.{and_then_some, map_some, told_ok, ok_or-Ok}
 use Rattle.pl_records.proofs.Sorts.{OwnKeys-none, OwnKeys-more, sorted-rises, sorted-permutes, length-sorted_by}
-use Rattle.pl_lifetimes.specs.Assets.{sid_of}
+use Rattle.pl_lifetimes.specs.Assets.{col_in, sid_of}
 use Rattle.pl_lifetimes.proofs.Filters.{any-same}
 use Rattle.pl_bars.specs.declared.fields.Fields.{Fields}
-use Rattle.pl_bars.specs.Bars.{breaks, session_in, col_in, placed_at, bar_of, header, fields_in, is_negative, is_at, bar_or_rule, key_of, rows_in, bars_of, is_before, is_bar_cell, AreBars}
+use Rattle.pl_bars.specs.Bars.{breaks, session_in, placed_at, bar_of, header, fields_in, is_negative, is_at, bar_or_rule, key_of, rows_in, bars_of, is_before, is_bar_cell, AreBars}
 use Rattle.pl_bars.specs.Bars as rules
 use Rattle.pl_spec.specs.Limits.{most_bars}
 use Rattle.pl_spec.specs.Limits.{most_sessions}
@@ -29,23 +29,17 @@ few n h = grind (arith, nat_tests)
 
 -- ---- the exits of a judgement
 
-abbrev SessionIs : List ℤ → Fields → Option ℕ → Type 0
-SessionIs days f o = position (λ d. int_eq d f.day) days ≡ o
-
-abbrev ColIs : List AssetRow → Fields → Option ℕ → Type 0
-ColIs assets f o = position (λ a. sid_of a == f.sid) assets ≡ o
-
 module _ (days : List ℤ) (assets : List AssetRow) (before : List BarRow) (r : Record) (f : Fields) (n : length before < most_bars) (e : fields_in r ≡ Some f) where
-  pub no_session : SessionIs days f None → bar_or_rule days assets before r ≡ Err rules.NotSession
+  pub no_session : session_in days f.day ≡ None → bar_or_rule days assets before r ≡ Err rules.NotSession
   unfolding bar_or_rule
   no_session p = rw (few (length before) n, e, p) refl
 
-  module _ (session : ℕ) (p : SessionIs days f (Some session)) where
-    pub no_asset : ColIs assets f None → bar_or_rule days assets before r ≡ Err rules.UnknownSid
+  module _ (session : ℕ) (p : session_in days f.day ≡ Some session) where
+    pub no_asset : col_in assets f.sid ≡ None → bar_or_rule days assets before r ≡ Err rules.UnknownSid
     unfolding bar_or_rule
     no_asset q = rw (few (length before) n, e, p, q) refl
 
-    module _ (col : ℕ) (q : ColIs assets f (Some col)) where
+    module _ (col : ℕ) (q : col_in assets f.sid ≡ Some col) where
       pub negative : list_any is_negative f.cells ≡ true → bar_or_rule days assets before r ≡ Err rules.Negative
       unfolding bar_or_rule
       negative t = rw (few (length before) n, e, p, q, t) refl
@@ -64,8 +58,8 @@ pub record Says (days : List ℤ) (assets : List AssetRow) (before : List BarRow
   pub few : nat_le most_bars (length before) ≡ false
   pub fields : Fields
   pub written : fields_in r ≡ Some fields
-  pub session : position (λ d. int_eq d fields.day) days ≡ Some b.session
-  pub col : position (λ a. sid_of a == fields.sid) assets ≡ Some b.col
+  pub session : session_in days fields.day ≡ Some b.session
+  pub col : col_in assets fields.sid ≡ Some b.col
   pub cells : b.cells ≡ fields.cells
   pub not_negative : list_any is_negative b.cells ≡ false
   pub own_place : list_any (is_at b.col b.session) before ≡ false
@@ -75,9 +69,9 @@ unfolding bar_or_rule
 bar_or_rule-ok days assets before r b e =
     let k = told_ok rules.rules (breaks days assets before r) (ok_or (bar_of days assets r) rules.BadField) b e in
     let at : bar_of days assets r ≡ Some b = ok_or-Ok (bar_of days assets r) rules.BadField b k.1 in
-    let f = and_then_some (fields_in r) (λ f. option_and_then (λ session. option_map (placed_at f session) (col_in assets f)) (session_in days f)) b at in
-    let s = and_then_some (session_in days f.0) (λ session. option_map (placed_at f.0 session) (col_in assets f.0)) b f.2 in
-    let c = map_some (col_in assets f.0) (placed_at f.0 s.0) b s.2 in
+    let f = and_then_some (fields_in r) (λ f. option_and_then (λ session. option_map (placed_at f session) (col_in assets f.sid)) (session_in days f.day)) b at in
+    let s = and_then_some (session_in days f.0.day) (λ session. option_map (placed_at f.0 session) (col_in assets f.0.sid)) b f.2 in
+    let c = map_some (col_in assets f.0.sid) (placed_at f.0 s.0) b s.2 in
     let not_negative : list_any is_negative f.0.cells ≡ false = rw f.1 at k.0.1.1.1.1.0 in
     record {
       few = k.0.0;

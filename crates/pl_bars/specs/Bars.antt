@@ -16,7 +16,7 @@ use Rattle.pl_spec.specs.declared.BarRow.{BarRow}
 use Rattle.pl_spec.specs.declared.Column.{Column}
 use Rattle.pl_spec.specs.declared.Column.TheVariants.{OpenPrice, High, Low, Close, Volume}
 use Rattle.pl_fixed.specs.Reading.{read}
-use Rattle.pl_lifetimes.specs.Assets.{sid_of}
+use Rattle.pl_lifetimes.specs.Assets.{col_in}
 use Rattle.pl_bars.specs.declared.fields.Fields.{Fields}
 use Rattle.pl_spec.specs.Limits.{most_bars}
 use Rattle.pl_spec.specs.World.{column_number}
@@ -52,12 +52,9 @@ is_negative v = int_lt v (pos 0) && not (is_missing v)
 abbrev pub is_at : ℕ → ℕ → BarRow → Bool
 is_at col session b = b.col == col && b.session == session
 
--- the session of the day, and the column of the asset
-abbrev pub session_in : List ℤ → Fields → Option ℕ
-session_in days f = position (λ d. int_eq d f.day) days
-
-abbrev pub col_in : List AssetRow → Fields → Option ℕ
-col_in assets f = position (λ a. sid_of a == f.sid) assets
+-- the session of the day
+abbrev pub session_in : List ℤ → ℤ → Option ℕ
+session_in days day = position (λ d. int_eq d day) days
 
 abbrev pub placed_at : Fields → ℕ → ℕ → BarRow
 placed_at f session col = record { col = col; session = session; cells = f.cells }
@@ -65,7 +62,7 @@ placed_at f session col = record { col = col; session = session; cells = f.cells
 -- the bar of a record of an asset on a session
 abbrev pub bar_of : List ℤ → List AssetRow → Record → Option BarRow
 bar_of days assets r =
-    option_and_then (λ f. option_and_then (λ session. option_map (placed_at f session) (col_in assets f)) (session_in days f)) (fields_in r)
+    option_and_then (λ f. option_and_then (λ session. option_map (placed_at f session) (col_in assets f.sid)) (session_in days f.day)) (fields_in r)
 
 -- the rules of a record after the header, in the order in which they are tested, and their tests
 abbrev pub rules : List Rule
@@ -75,8 +72,8 @@ abbrev pub breaks : List ℤ → List AssetRow → List BarRow → Record → Ru
 breaks days assets before r BadHeader = false
 breaks days assets before r TooMany = nat_le most_bars (length before)
 breaks days assets before r BadField = lacks (fields_in r)
-breaks days assets before r NotSession = has (λ f. lacks (session_in days f)) (fields_in r)
-breaks days assets before r UnknownSid = has (λ f. lacks (col_in assets f)) (fields_in r)
+breaks days assets before r NotSession = has (λ f. lacks (session_in days f.day)) (fields_in r)
+breaks days assets before r UnknownSid = has (λ f. lacks (col_in assets f.sid)) (fields_in r)
 breaks days assets before r Negative = has (λ f. list_any is_negative f.cells) (fields_in r)
 breaks days assets before r Duplicate = has (λ b. list_any (is_at b.col b.session) before) (bar_of days assets r)
 

@@ -1,5 +1,5 @@
 -- The rules of a bars file in plain words.
-use Rattle.std.specs.Prelude.{◌≡◌, ◌≢◌, ◌⊎◌, ℕ, ◌+◌, ◌^◌, ◌<◌, ◌≤◌, IsTrue, ℤ, pos, ◌<ℤ◌, List, [], length, Some, option_map, slice_get, Any, AllPairs, IsPermutation}
+use Rattle.std.specs.Prelude.{◌≡◌, ◌≢◌, ◌⊎◌, ℕ, ◌+◌, ◌^◌, ◌<◌, ◌≤◌, IsTrue, ℤ, pos, ◌<ℤ◌, List, [], length, Some, slice_get, Any, AllPairs, IsPermutation}
 use Rattle.std.specs.Fmt.{decimal}
 use Rattle.pl_records.specs.Reading.{Record, Fault, field, AreRowsUnder, IsFaultUnder}
 use Rattle.pl_records.specs.RuleTable.{IsFirstBroken, KeepsAll}
@@ -8,7 +8,7 @@ use Rattle.pl_spec.specs.Dates.{IsDate}
 use Rattle.pl_spec.specs.Decimals.{Decimal, IsDecimal, IsReadAs}
 use Rattle.pl_spec.specs.declared.AssetRow.{AssetRow}
 use Rattle.pl_spec.specs.declared.BarRow.{BarRow}
-use Rattle.pl_lifetimes.specs.Assets.{sid_of}
+use Rattle.pl_lifetimes.specs.Assets.{HasSid}
 use Rattle.pl_bars.specs.declared.fields.Fields.{Fields}
 use Rattle.pl_bars.specs.Bars.{Rule, BadHeader, TooMany, BadField, NotSession, UnknownSid, Negative, Duplicate, rules, header, is_before}
 use Rattle.pl_spec.specs.Limits.{most_bars}
@@ -33,7 +33,7 @@ IsNegative v = (v ≢ MISSING) × (v <ℤ pos 0)
 -- the session has the day, and the column's asset has the sid
 pub record IsPlaced (days : List ℤ) (assets : List AssetRow) (f : Fields) (col session : ℕ) : Type 0 where
   pub day : slice_get days session ≡ Some f.day
-  pub sid : option_map sid_of (slice_get assets col) ≡ Some f.sid
+  pub sid : HasSid assets col f.sid
 
 -- the record is the bar, which is in the column of its asset on the session of its day
 pub record IsRowRecord (days : List ℤ) (assets : List AssetRow) (r : Record) (b : BarRow) : Type 0 where
@@ -48,7 +48,7 @@ Breaks days assets before r BadHeader = ⊥
 Breaks days assets before r TooMany = most_bars ≤ length before
 Breaks days assets before r BadField = (f : Fields) → ¬ IsBarRecord r f
 Breaks days assets before r NotSession = (f : Fields) × IsBarRecord r f × ((session : ℕ) → ¬ (slice_get days session ≡ Some f.day))
-Breaks days assets before r UnknownSid = (f : Fields) × IsBarRecord r f × ((col : ℕ) → ¬ (option_map sid_of (slice_get assets col) ≡ Some f.sid))
+Breaks days assets before r UnknownSid = (f : Fields) × IsBarRecord r f × ((col : ℕ) → ¬ HasSid assets col f.sid)
 Breaks days assets before r Negative = (f : Fields) × IsBarRecord r f × Any IsNegative f.cells
 Breaks days assets before r Duplicate = (b : BarRow) × IsRowRecord days assets r b × Any (λ x. (x.col ≡ b.col) × (x.session ≡ b.session)) before
 

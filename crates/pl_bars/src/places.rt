@@ -4,9 +4,9 @@
 //! are searched
 //! for.
 
-ghost use Rattle.std.specs.Prelude.{◌≡◌, ◌<◌, ◌==◌, length, position, IfSome};
-ghost use Rattle.std.specs.Ordering.{int_eq};
-ghost use Rattle.pl_lifetimes.specs.Assets.{sid_of};
+ghost use Rattle.std.specs.Prelude.{◌≡◌, ◌<◌, length, IfSome};
+ghost use Rattle.pl_lifetimes.specs.Assets.{col_in};
+ghost use Rattle.pl_bars.specs.Bars.{session_in};
 
 use pl_calendar::Sessions;
 use pl_lifetimes::Assets;
@@ -15,7 +15,7 @@ use pl_spec::BarRow;
 /// The session of a day, if the day has one.
 pub(crate) fn session_of(before: &[BarRow], sessions: &Sessions, day: i32) -> Option<usize>
     ensures within { IfSome result (λ i. i < length sessions.now) }
-    ensures exact { result ≡ position (λ d. int_eq d day) sessions.now }
+    ensures exact { result ≡ session_in sessions.now day }
 {
     if let [.., last] = before {
         let same = last.session as usize;
@@ -33,17 +33,10 @@ pub(crate) fn session_of(before: &[BarRow], sessions: &Sessions, day: i32) -> Op
 /// The column of a sid, if an asset has it.
 pub(crate) fn col_of(before: &[BarRow], assets: &Assets, sid: u32) -> Option<usize>
     ensures within { IfSome result (λ i. i < length assets.now) }
-    ensures exact { result ≡ position (λ a. sid_of a == sid) assets.now }
+    ensures exact { result ≡ col_in assets.now sid }
 {
-    if let [.., last] = before {
-        let same = last.col as usize;
-        let next = same + 1;
-        if same < assets.len() && assets.sid(same) == sid {
-            return Some(same);
-        }
-        if next < assets.len() && assets.sid(next) == sid {
-            return Some(next);
-        }
+    match before {
+        [.., last] => assets.col_near(last.col, sid),
+        [] => assets.col_of(sid),
     }
-    assets.col_of(sid)
 }
