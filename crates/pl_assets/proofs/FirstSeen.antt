@@ -14,7 +14,7 @@ use Rattle.std.specs.Str.{bytes_eq}
 use Rattle.pl_records.proofs.RuleTables.{not_true}
 use Rattle.pl_spec.proofs.Places.{is_at, nowhere, past_all}
 use Rattle.pl_spec.specs.Parts.{ColumnLabel}
-use Rattle.pl_assets.specs.Labels.{first_seen, is_text, names_of, texts_of}
+use Rattle.pl_assets.specs.Labels.{first_seen, is_text, texts_of}
 use Rattle.pl_assets.specs.Labels.{with_text, with_label}
 use Rattle.pl_assets.proofs.TextLists.{not_new, is_new, place_there}
 
@@ -164,8 +164,8 @@ text_placed xs x = here (position (bytes_eq x) xs) refl
 
 -- ---- the names and texts of one row more
 
-pub names_more : (rows : List ColumnLabel) (r : ColumnLabel) → names_of (rows ++ r ∷ []) ≡ with_text (names_of rows) r.name
-names_more rows r = ap first_seen (map-append (λ (r : ColumnLabel). r.name) rows (r ∷ [])) ∙ seen-more (map (λ (r : ColumnLabel). r.name) rows) r.name
+pub names_more : {A : Type 0} (name : A → List ℕ) (rows : List A) (r : A) → first_seen (map name (rows ++ r ∷ [])) ≡ with_text (first_seen (map name rows)) (name r)
+names_more name rows r = ap first_seen (map-append name rows (r ∷ [])) ∙ seen-more (map name rows) (name r)
 
 pub texts_more : (rows : List ColumnLabel) (r : ColumnLabel) → texts_of (rows ++ r ∷ []) ≡ with_label (texts_of rows) r.text
 texts_more rows r =
@@ -187,8 +187,8 @@ pub no_texts : texts_of [] ≡ []
 unfolding first_seen
 no_texts = refl
 
-pub names_count : (rows : List ColumnLabel) → length (names_of rows) ≤ length rows
-names_count rows = omega (arith, seen-count (map (λ (r : ColumnLabel). r.name) rows), length-map rows (λ (r : ColumnLabel). r.name))
+pub names_count : {A : Type 0} (name : A → List ℕ) (rows : List A) → length (first_seen (map name rows)) ≤ length rows
+names_count name rows = omega (arith, seen-count (map name rows), length-map rows name)
 
 pub place_count : (xs : List (List ℕ)) (x : List ℕ) → position_or_len (bytes_eq x) xs ≤ length xs
 place_count [] x = omega arith

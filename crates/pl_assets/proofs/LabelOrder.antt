@@ -1,5 +1,5 @@
 -- The order of rows of labels by their keys.
-use Rattle.std.proofs.Common.{◌≡◌, ◌≢◌, ℕ, zero, suc, ◌+◌, ◌*◌, ◌-◌, ◌<◌, ◌≤◌, ◌^◌, ◌==◌, nat_le, true, false, ℤ, pos, ◌+ℤ◌, ◌≤ℤ◌, List, [], ◌∷◌, ◌++◌, length, get_or, All, Some, None, FitsSigned, w32, refl, sym, ap, ◌∙◌, arith, inl, inr, length-append, unsigned_abs, option_map, unwrap_or}
+use Rattle.std.proofs.Common.{AllPairs, ◌≡◌, ℕ, zero, suc, ◌+◌, ◌*◌, ◌-◌, ◌<◌, ◌≤◌, ◌^◌, nat_le, true, false, ℤ, pos, ◌+ℤ◌, ◌≤ℤ◌, List, [], ◌∷◌, ◌++◌, length, get_or, All, Some, None, FitsSigned, w32, refl, sym, ap, ◌∙◌, arith, inl, inr, length-append, unsigned_abs, option_map, unwrap_or}
 use Rattle.std.specs.Prelude.{Contains}
 use Rattle.std.specs.List.Sorted.{IsPartitionedBy}
 use Rattle.std.proofs.Math.Seq.{get_or-append_seam}
@@ -7,14 +7,13 @@ use Rattle.std.proofs.lemmas.Int.{ints}
 use Rattle.std.proofs.lemmas.Bool.{cases_lt}
 use Rattle.std.proofs.lemmas.Bool.Decides.{nat_tests}
 use Rattle.std.proofs.lemmas.List.{get_or_append_left, get_or_default}
-use Rattle.std.proofs.lemmas.List.Folds.{list_any_none}
 use Rattle.std.proofs.lemmas.List.Sorted.{All-permutation, Contains-permutation}
 use Rattle.std.proofs.lemmas.Option.{slice_get-get_or}
 use Rattle.pl_records.specs.Sorted.{HasOwnKeys, sorted_by}
-use Rattle.pl_records.proofs.Sorts.{OwnKeys-none, OwnKeys-more, sorted-rises, sorted-permutes}
+use Rattle.pl_records.proofs.Sorts.{sorted-rises, sorted-permutes}
 use Rattle.pl_spec.proofs.Places.{rising_at}
 use Rattle.pl_spec.proofs.Signed.{pos-unsigned_abs, from_first, to_last}
-use Rattle.pl_assets.specs.LabelPlaces.{Ascend, HasStarted, IsLastStarted, IsOrder, IsPlace, KeyPoint, OwnKeys, key, key_at, key_of, numbers}
+use Rattle.pl_assets.specs.LabelPlaces.{HasStarted, IsLastStarted, IsOrder, IsPlace, KeyPoint, key, key_at, key_of, numbers}
 use Rattle.pl_assets.specs.declared.labels.rows.Place.{Place}
 
 -- ---- the number of a day
@@ -102,25 +101,17 @@ all_numbers n k d h = let inside : k < n = omega (arith, length-numbers n) in rw
 each_number : (n i : ℕ) → i < n → Contains (numbers n) i
 each_number n i h = (i, omega (arith, length-numbers n), get_or-numbers n i i h)
 
-own_below : (places : List Place) → OwnKeys places → (n : ℕ) → n ≤ length places → HasOwnKeys (key_at places) (numbers n)
-unfolding numbers
-own_below places own zero h = OwnKeys-none (key_at places)
-own_below places own (suc n) h =
-    OwnKeys-more (key_at places) (numbers n) n (own_below places own n (omega arith)) (list_any_none (λ x. key_at places x == key_at places n) (numbers n) (λ k d l.
-    let inside : k < n = omega (arith, length-numbers n) in rw (get_or-numbers n k d inside) (differ k inside)))
+pub own_numbers : (places : List Place) → HasOwnKeys key_of places → HasOwnKeys (key_at places) (numbers (length places))
+own_numbers places own =
+    record {
+      apart = λ i j d h l same. (let inside : j < length places = omega (arith, l, length-numbers (length places)) in
+          own.apart i j blank h inside (sym (its_key i d (omega arith)) ∙ same ∙ its_key j d inside));
+    }
   where
-    other : (a b : ℕ) → a ≢ b → (a == b) ≡ false
-    other a b ne = grind (arith, nat_tests)
+    its_key : (k d : ℕ) → k < length places → key_at places (get_or (numbers (length places)) k d) ≡ key_of (get_or places k blank)
+    its_key k d l = ap (key_at places) (get_or-numbers (length places) k d l) ∙ key_there places k blank l
 
-    differ : (k : ℕ) → k < n → (key_at places k == key_at places n) ≡ false
-    differ k l =
-        rw (key_there places k blank (omega arith), key_there places n blank (omega arith))
-        (other (key_of (get_or places k blank)) (key_of (get_or places n blank)) (own k n blank l (omega arith)))
-
-pub own_numbers : (places : List Place) → OwnKeys places → HasOwnKeys (key_at places) (numbers (length places))
-own_numbers places own = own_below places own (length places) (omega arith)
-
-pub order_made : (places : List Place) (order : List ℕ) → OwnKeys places → order ≡ sorted_by (key_at places) (numbers (length places)) → IsOrder places (length places) order
+pub order_made : (places : List Place) (order : List ℕ) → HasOwnKeys key_of places → order ≡ sorted_by (key_at places) (numbers (length places)) → IsOrder places (length places) order
 order_made places order own sorted =
     rw sorted record {
       ascend = sorted-rises (key_at places) (numbers (length places)) (own_numbers places own);
@@ -130,11 +121,11 @@ order_made places order own sorted =
 
 -- ---- places in the order
 
-pub parted : (places : List Place) (k : ℕ) (order : List ℕ) → Ascend places order → IsPartitionedBy (λ i. nat_le (key_at places i) k) order
-parted places k order up i j d h l t =
-    let le : key_at places (get_or order i d) ≤ key_at places (get_or order j d) = rising_at (key_at places) order up i j d h l in
-    let low : key_at places (get_or order j d) ≤ k = grind (arith, nat_tests) in
-    let both : key_at places (get_or order i d) ≤ k = omega arith in grind (arith, nat_tests)
+pub parted : {A : Type 0} (rank : A → ℕ) (k : ℕ) (xs : List A) → AllPairs (λ x y. rank x < rank y) xs → IsPartitionedBy (λ x. nat_le (rank x) k) xs
+parted rank k xs up i j d h l t =
+    let le : rank (get_or xs i d) ≤ rank (get_or xs j d) = rising_at rank xs up i j d h l in
+    let low : rank (get_or xs j d) ≤ k = grind (arith, nat_tests) in
+    let both : rank (get_or xs i d) ≤ k = omega arith in grind (arith, nat_tests)
 
 -- ---- the row that started last
 

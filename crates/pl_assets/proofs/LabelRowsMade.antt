@@ -124,7 +124,7 @@ numbered_more old new name text p h n t e next few =
     let rows : shown_rows new ≡ shown_rows old ++ row_of name text p ∷ [] = rows_more old new name text p h n t e next in
     record {
       places = rw (n, t, e) (All-push (IsPlace (with_text old.names name) (with_label old.texts text)) old.places.items p (places_kept old.names old.texts name text old.places.items h.places) alone);
-      names = n ∙ ap (λ l. with_text l name) h.names ∙ sym (ap names_of rows ∙ names_more (shown_rows old) (row_of name text p));
+      names = n ∙ ap (λ l. with_text l name) h.names ∙ sym (ap names_of rows ∙ names_more (λ (r : ColumnLabel). r.name) (shown_rows old) (row_of name text p));
       texts = rw t (texts_more_codes old.texts text h.texts (rw t at few));
     }
   where
@@ -135,7 +135,7 @@ numbered_more old new name text p h n t e next few =
 -- ---- how many
 
 pub few_names : (t : LabelRows) → AreNumbered t → length t.names ≤ length t.places.items
-few_names t h = let same : length t.names ≡ length (names_of (shown_rows t)) = ap length h.names in omega (arith, names_count (shown_rows t), length-map t.places.items (row_at t.names t.texts))
+few_names t h = let same : length t.names ≡ length (names_of (shown_rows t)) = ap length h.names in omega (arith, names_count (λ (r : ColumnLabel). r.name) (shown_rows t), length-map t.places.items (row_at t.names t.texts))
 
 -- ---- where memory ran out
 

@@ -8,10 +8,11 @@ use Rattle.std.proofs.lemmas.Bool.Decides.{nat_tests}
 use Rattle.std.proofs.lemmas.List.{length-map, get_or-map, get_or_append_left, get_or_default}
 use Rattle.std.proofs.lemmas.List.Elements.{All-filter, All-map, All-push}
 use Rattle.std.proofs.lemmas.List.Edits.{length-insert, get_or-insert_at, get_or-insert_below, get_or-insert_above}
+use Rattle.pl_records.specs.Sorted.{HasOwnKeys}
 use Rattle.pl_spec.specs.Parts.{ColumnLabel}
 use Rattle.pl_spec.specs.Limits.{most_labels}
 use Rattle.pl_assets.specs.Labels.{AreLabels, IsLabelRow, IsLabelText, LabelTable, MayFollow, is_from, is_text, no_labels, table_of, texts_of, with_label}
-use Rattle.pl_assets.specs.LabelPlaces.{AreNumbered, IsOrder, IsTable, KeyPoint, OwnKeys, key_at, key_of, row_at, shown_rows, table_in}
+use Rattle.pl_assets.specs.LabelPlaces.{AreNumbered, IsOrder, IsTable, KeyPoint, key_at, key_of, row_at, shown_rows, table_in}
 use Rattle.pl_assets.specs.declared.labels.rows.Place.{Place}
 use Rattle.pl_assets.specs.declared.labels.rows.LabelRows.{LabelRows}
 use Rattle.pl_assets.proofs.FirstSeen.{texts_more, seen-all}
@@ -29,20 +30,23 @@ Once rows = AllPairs (λ r q. is_from r.name r.col r.start q ≡ false) rows
 
 -- ---- keys of rows that differ
 
-pub own_keys : (t : LabelRows) → AreNumbered t → Once (shown_rows t) → OwnKeys t.places.items
-own_keys t h once i j d lt l e =
-    let row = row_at t.names t.texts in
-    let p : Place = get_or t.places.items i d in
-    let q : Place = get_or t.places.items j d in
-    let first = h.places i d (omega arith) in
-    let second = h.places j d l in
-    let col : q.col < 2 ^ 64 = (let c = second.col in omega arith) in
-    let parts = same_key p.name p.col p.start q.name q.col q.start first.col col first.day second.day e in
-    let same : is_from (row p).name (row p).col (row p).start (row q) ≡ true = parts_from (row p).name (row p).col (row p).start (row q) (ap (λ n. get_or t.names n []) (sym parts.0)) (sym parts.1) (sym parts.2) in
-    let many : length (shown_rows t) ≡ length t.places.items = length-map t.places.items row in
-    let other = once i j (row d) lt (omega arith) in
-    let other' : is_from (row p).name (row p).col (row p).start (row q) ≡ false = rw (get_or-map row t.places.items i d (row d) (omega arith), get_or-map row t.places.items j d (row d) l) at other in
-    true≢false (sym same ∙ other')
+pub own_keys : (t : LabelRows) → AreNumbered t → Once (shown_rows t) → HasOwnKeys key_of t.places.items
+own_keys t h once = record { apart = apart }
+  where
+    apart : AllPairs (λ p q. key_of p ≢ key_of q) t.places.items
+    apart i j d lt l e =
+        let row = row_at t.names t.texts in
+        let p : Place = get_or t.places.items i d in
+        let q : Place = get_or t.places.items j d in
+        let first = h.places i d (omega arith) in
+        let second = h.places j d l in
+        let col : q.col < 2 ^ 64 = (let c = second.col in omega arith) in
+        let parts = same_key p.name p.col p.start q.name q.col q.start first.col col first.day second.day e in
+        let same : is_from (row p).name (row p).col (row p).start (row q) ≡ true = parts_from (row p).name (row p).col (row p).start (row q) (ap (λ n. get_or t.names n []) (sym parts.0)) (sym parts.1) (sym parts.2) in
+        let many : length (shown_rows t) ≡ length t.places.items = length-map t.places.items row in
+        let other = once i j (row d) lt (omega arith) in
+        let other' : is_from (row p).name (row p).col (row p).start (row q) ≡ false = rw (get_or-map row t.places.items i d (row d) (omega arith), get_or-map row t.places.items j d (row d) l) at other in
+        true≢false (sym same ∙ other')
 
 -- ---- a number more in a list of numbers
 
@@ -99,11 +103,11 @@ contains_put xs i y h = (i, omega (arith, length-insert xs i y h), get_or-insert
 
 -- ---- the last row in the order
 
-module _ (places : List Place) (n : ℕ) (order : List ℕ) (count : length places ≡ n + 1) (own : OwnKeys places) (sorted : IsOrder places n order) (at : ℕ) (inside : at ≤ length order) (point : KeyPoint places (key_at places n) order at) where
+module _ (places : List Place) (n : ℕ) (order : List ℕ) (count : length places ≡ n + 1) (own : HasOwnKeys key_of places) (sorted : IsOrder places n order) (at : ℕ) (inside : at ≤ length order) (point : KeyPoint places (key_at places n) order at) where
   not_last : (k : ℕ) → k < length order → key_at places (get_or order k 0) ≢ key_at places n
   not_last k l e =
       let low : get_or order k 0 < n = sorted.within k 0 l in
-      let other = own (get_or order k 0) n blank low (omega arith) in
+      let other = own.apart (get_or order k 0) n blank low (omega arith) in
       other (sym (key_there places (get_or order k 0) blank (omega arith)) ∙ e ∙ key_there places n blank (omega arith))
 
   lower : (k : ℕ) → k < at → key_at places (get_or order k 0) < key_at places n

@@ -10,8 +10,8 @@ use Rattle.pl_spec.specs.Parts.{ColumnLabel}
 use Rattle.pl_spec.specs.declared.AssetRow.{AssetRow}
 use Rattle.pl_records.proofs.Readings.{few-more, rows-keep, under_ok}
 use Rattle.pl_records.proofs.RuleTables.{and_then_some, map_some, told_ok, ok_or-Ok}
-use Rattle.pl_lifetimes.specs.Assets.{sid_of}
-use Rattle.pl_assets.specs.Labels.{breaks, col_in, in_column, row_of, header, label_in, is_from, label_or_rule, label_rows_in, IsLabelRow}
+use Rattle.pl_lifetimes.specs.Assets.{col_in, sid_of}
+use Rattle.pl_assets.specs.Labels.{breaks, in_column, row_of, header, label_in, is_from, label_or_rule, label_rows_in, IsLabelRow}
 use Rattle.pl_assets.specs.Labels as rules
 use Rattle.pl_spec.specs.Limits.{most_labels, most_label_bytes}
 use Rattle.pl_spec.proofs.Columns.{no_asset}
@@ -31,8 +31,8 @@ unfolding label_or_rule
 read-more assets before r row h s =
     let k = told_ok rules.rules (breaks assets before r) (ok_or (row_of assets r) rules.BadField) row s in
     let at : row_of assets r ≡ Some row = ok_or-Ok (row_of assets r) rules.BadField row k.1 in
-    let l = and_then_some (label_in r) (λ l. option_map (in_column l) (col_in assets l)) row at in
-    let c = map_some (col_in assets l.0) (in_column l.0) row l.2 in
+    let l = and_then_some (label_in r) (λ l. option_map (in_column l) (col_in assets l.sid)) row at in
+    let c = map_some (col_in assets l.0.sid) (in_column l.0) row l.2 in
     let col = position-Some (λ a. sid_of a == l.0.sid) assets c.0 no_asset c.1 in
     let w = IsLabelRecord-label_in r l.0 l.1 in
     let short : nat_lt most_label_bytes (length l.0.text) ≡ false = rw l.1 at k.0.1.1.0 in

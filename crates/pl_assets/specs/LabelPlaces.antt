@@ -1,6 +1,6 @@
 -- Rows of labels as they are kept: numbers for their names, codes for their texts, and an order in which they
 -- are found.
-use Rattle.std.specs.Prelude.{◌≡◌, ◌≢◌, ℕ, zero, suc, ◌+◌, ◌*◌, ◌^◌, ◌<◌, nat_le, true, false, ℤ, pos, ◌+ℤ◌, ◌≤ℤ◌, List, [], ◌∷◌, ◌++◌, length, map, take, slice_get, slice_index_or, All, AllPairs, Contains, Option, Some, None, IfSome, option_map, unwrap_or, FitsSigned}
+use Rattle.std.specs.Prelude.{◌≡◌, ℕ, zero, suc, ◌+◌, ◌*◌, ◌^◌, ◌<◌, nat_le, true, false, ℤ, pos, ◌+ℤ◌, ◌≤ℤ◌, List, [], ◌∷◌, ◌++◌, length, map, take, slice_get, slice_index_or, All, AllPairs, Contains, Option, Some, None, IfSome, option_map, unwrap_or, FitsSigned}
 use Rattle.std.specs.Int.{w32}
 use Rattle.std.specs.Int.RustNames.{unsigned_abs}
 use Rattle.std.specs.List.Sorted.{IsPartitionPoint}
@@ -59,10 +59,6 @@ key_of p = key p.name p.col p.start
 -- the key of row i, 0 where there is none
 unfoldable pub key_at : List Place → ℕ → ℕ
 key_at places i = unwrap_or (option_map key_of (slice_get places i)) 0
-
--- no two rows have one key
-abbrev pub OwnKeys : List Place → Type 0
-OwnKeys places = AllPairs (λ p q. key_of p ≢ key_of q) places
 
 -- ---- their order
 

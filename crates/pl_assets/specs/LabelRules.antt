@@ -1,15 +1,15 @@
 -- The rules of a labels file in plain words.
 use Rattle.std.specs.Prelude.{◌≡◌, ℕ, ◌^◌, ◌<◌, ◌≤◌, IsTrue, List, length, All, Any}
 use Rattle.std.specs.Fmt.{decimal}
-use Rattle.pl_records.specs.Reading.{Record, Fault, field, AreRowsUnder, IsFaultUnder}
+use Rattle.pl_records.specs.Reading.{Record, Fault, field, IsMadeUnder, IsFaultUnder}
 use Rattle.pl_records.specs.RuleTable.{IsFirstBroken, KeepsAll}
 use Rattle.pl_spec.specs.Dates.{IsDate}
 use Rattle.pl_spec.specs.Names.{is_name}
 use Rattle.pl_spec.specs.Parts.{ColumnLabel}
 use Rattle.pl_spec.specs.World.{LabelRow}
 use Rattle.pl_spec.specs.declared.AssetRow.{AssetRow}
-use Rattle.pl_lifetimes.specs.Assets.{HasSid}
-use Rattle.pl_assets.specs.Labels.{Rule, BadHeader, TooMany, BadField, LabelTooLong, UnknownSid, DuplicateStart, LabelTable, rules, header, texts_of}
+use Rattle.pl_lifetimes.specs.Assets.{HasSid, IsPlaced}
+use Rattle.pl_assets.specs.Labels.{Rule, BadHeader, TooMany, BadField, LabelTooLong, UnknownSid, DuplicateStart, LabelTable, rules, header, in_column, table_of}
 use Rattle.pl_spec.specs.Limits.{most_labels, most_label_bytes}
 
 -- the record is the name, the sid, without sign and leading zeros, the date of the start and the text of the
@@ -24,19 +24,9 @@ pub record IsLabelRecord (r : Record) (l : LabelRow) : Type 0 where
   pub text : field r 3 ≡ l.text
   pub printable : All (λ b. (32 ≤ b) × (b ≤ 126)) l.text
 
--- the row is that label in the column
-pub record IsInColumn (l : LabelRow) (col : ℕ) (row : ColumnLabel) : Type 0 where
-  pub name : row.name ≡ l.name
-  pub in_col : row.col ≡ col
-  pub start : row.start ≡ l.start
-  pub text : row.text ≡ l.text
-
 -- the record is the label of the row, which is in the column of its asset
-pub record IsRowRecord (assets : List AssetRow) (r : Record) (row : ColumnLabel) : Type 0 where
-  pub label : LabelRow
-  pub written : IsLabelRecord r label
-  pub asset : HasSid assets row.col label.sid
-  pub same : IsInColumn label row.col row
+abbrev pub IsRowRecord : List AssetRow → Record → ColumnLabel → Type 0
+IsRowRecord assets r row = IsPlaced IsLabelRecord (λ l. l.sid) in_column assets r row
 
 -- the rows are labels of one name and one column, from one day on
 abbrev pub StartWith : ColumnLabel → ColumnLabel → Type 0
@@ -56,9 +46,8 @@ abbrev pub IsLabel : List AssetRow → List ColumnLabel → Record → ColumnLab
 IsLabel assets before r row = IsRowRecord assets r row × KeepsAll rules (Breaks assets before r)
 
 -- the rows of the records after the header, and their texts
-pub record AreLabelsOf (assets : List AssetRow) (records : List Record) (table : LabelTable) : Type 0 where
-  pub read : AreRowsUnder header (IsLabel assets) records table.rows
-  pub texts : table.texts ≡ texts_of table.rows
+abbrev pub AreLabelsOf : List AssetRow → List Record → LabelTable → Type 0
+AreLabelsOf assets records table = IsMadeUnder header (IsLabel assets) table_of records table
 
 -- no header, or the first faulty record
 abbrev pub IsLabelsFault : List AssetRow → List Record → Fault Rule → Type 0

@@ -1,6 +1,6 @@
 -- Labels by column, with the list of their texts: those of the records of a labels file, and the first rule
 -- that a record breaks.
-use Rattle.std.specs.Prelude.{◌≡◌, ℕ, ◌==◌, ◌<◌, ◌≤◌, ◌^◌, ◌&&◌, not, nat_le, nat_lt, Bool, true, false, if◌then◌else◌, IsTrue, ℤ, codes, List, [], ◌∷◌, ◌++◌, length, map, filter, position, bytes_eq, All, AllPairs, Contains, Option, None, IfSome, option_map, option_and_then, Result, Ok}
+use Rattle.std.specs.Prelude.{◌≡◌, ℕ, ◌==◌, ◌<◌, ◌≤◌, ◌^◌, ◌&&◌, not, nat_le, nat_lt, Bool, true, false, if◌then◌else◌, IsTrue, ℤ, codes, List, [], ◌∷◌, ◌++◌, length, map, filter, bytes_eq, All, AllPairs, Contains, Option, None, IfSome, option_map, option_and_then, Result, Ok}
 use Rattle.std.specs.List.{list_any, list_all, position_or_len}
 use Rattle.std.specs.Option.{ok_or}
 use Rattle.std.specs.Ordering.{int_eq}
@@ -12,7 +12,7 @@ use Rattle.pl_spec.specs.Names.{is_name}
 use Rattle.pl_spec.specs.Parts.{ColumnLabel}
 use Rattle.pl_spec.specs.World.{LabelRow, last_started, nonempty, is_label_of}
 use Rattle.pl_spec.specs.declared.AssetRow.{AssetRow}
-use Rattle.pl_lifetimes.specs.Assets.{sid_of}
+use Rattle.pl_lifetimes.specs.Assets.{col_in, placed, sid_of}
 use Rattle.pl_spec.specs.Limits.{most_labels, most_label_bytes}
 
 -- the rows of labels, and the distinct texts in them: a text's place in that list, from 0, is its code
@@ -88,17 +88,13 @@ label_in r =
 abbrev pub is_from : List ℕ → ℕ → ℤ → ColumnLabel → Bool
 is_from name col start r = bytes_eq r.name name && (r.col == col && int_eq r.start start)
 
--- the column of the asset of a label
-abbrev pub col_in : List AssetRow → LabelRow → Option ℕ
-col_in assets l = position (λ a. sid_of a == l.sid) assets
-
 -- the label in a column
 abbrev pub in_column : LabelRow → ℕ → ColumnLabel
 in_column l col = record { name = l.name; col = col; start = l.start; text = l.text }
 
 -- the row of a record of a label of an asset
 abbrev pub row_of : List AssetRow → Record → Option ColumnLabel
-row_of assets r = option_and_then (λ l. option_map (in_column l) (col_in assets l)) (label_in r)
+row_of assets r = placed label_in (λ l. l.sid) in_column assets r
 
 -- the rules of a record after the header, in the order in which they are tested, and their tests
 abbrev pub rules : List Rule
@@ -109,7 +105,7 @@ breaks assets before r BadHeader = false
 breaks assets before r TooMany = nat_le most_labels (length before)
 breaks assets before r BadField = lacks (label_in r)
 breaks assets before r LabelTooLong = has (λ l. nat_lt most_label_bytes (length l.text)) (label_in r)
-breaks assets before r UnknownSid = has (λ l. lacks (col_in assets l)) (label_in r)
+breaks assets before r UnknownSid = has (λ l. lacks (col_in assets l.sid)) (label_in r)
 breaks assets before r DuplicateStart = has (λ row. list_any (is_from row.name row.col row.start) before) (row_of assets r)
 
 -- the row of a record after the rows before it, or the first rule that it breaks

@@ -2,7 +2,7 @@
 
 ghost use Rattle.std.specs.Prelude.{◌≡◌, ◌+◌, ◌^◌, ◌-◌, ◌<◌, ◌≤◌, length, pos, ◌+ℤ◌, vec_len, vec_capacity, IfOk};
 ghost use Rattle.pl_records.specs.Sorted.{HasOwnKeys, sorted_by};
-ghost use Rattle.pl_assets.specs.LabelPlaces.{AreNumbered, Ascend, IsLastStarted, IsOrder, KeyPoint, OwnKeys, key, key_at, key_of, numbers};
+ghost use Rattle.pl_assets.specs.LabelPlaces.{AreNumbered, Ascend, IsLastStarted, IsOrder, KeyPoint, key, key_at, key_of, numbers};
 ghost use Rattle.pl_spec.specs.Limits.{most_labels};
 
 use crate::labels::rows::{LabelRows, Place};
@@ -42,7 +42,7 @@ fn key_at(places: &[Place], i: u32) -> u128
 // The numbers of all rows, by the keys of the rows.
 pub(crate) fn order_of(alloc: Global, places: &[Place]) -> Result<Vec<u32>, AllocError>
     requires few { length places.now ≤ most_labels }
-    requires own { OwnKeys places.now }
+    requires own { HasOwnKeys key_of places.now }
     ensures { IfOk result (λ v. IsOrder places.now (length places.now) v.items) }
 {
     sorted_numbers(alloc, places)
@@ -50,7 +50,7 @@ pub(crate) fn order_of(alloc: Global, places: &[Place]) -> Result<Vec<u32>, Allo
 
 fn sorted_numbers(alloc: Global, places: &[Place]) -> Result<Vec<u32>, AllocError>
     requires few { length places.now ≤ most_labels }
-    requires own { OwnKeys places.now }
+    requires own { HasOwnKeys key_of places.now }
     ensures { IfOk result (λ v.
         v.items ≡ sorted_by (key_at places.now) (numbers (length places.now))) }
 {
@@ -83,7 +83,7 @@ pub(crate) fn insert_last(places: &[Place], order: &mut Vec<u32>)
     requires some { 0 < length places.now }
     requires few { length places.now ≤ most_labels }
     requires room { vec_len order.old < vec_capacity order.old }
-    requires own { OwnKeys places.now }
+    requires own { HasOwnKeys key_of places.now }
     requires others { IsOrder places.now (length places.now - 1) order.old.items }
     ensures { IsOrder places.now (length places.now) order.new.items }
 {

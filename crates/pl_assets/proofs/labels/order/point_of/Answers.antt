@@ -7,4 +7,4 @@ use Rattle.pl_assets.proofs.labels.order.point_of.Goals as goal
 pub returns-clause-point : goal.returns-clause-point
 returns-clause-point c =
     IsPartitionPoint-from_clause (λ i. nat_le (key_at c.args.places.now i) c.args.key) _ _ c.partition_point.ensures.partitioned
-    (parted c.args.places.now c.args.key c.args.order.now c.requires) (λ a r q k. search rules)
+    (parted (key_at c.args.places.now) c.args.key c.args.order.now c.requires) (λ a r q k. search rules)
