@@ -1,5 +1,5 @@
 -- The first fault of a walk, in plain words.
-use Rattle.std.proofs.Common.{◌≡◌, ◌↔◌, ℕ, zero, suc, ◌+◌, ◌<◌, ◌≤◌, ◌/◌, nat_le, Bool, true, false, ◌&&◌, if◌then◌else◌, ℤ, pos, negsuc, ◌<ℤ◌, ◌≤ℤ◌, List, [], ◌∷◌, ◌++◌, length, map, slice_get, Option, Some, None, Ok, Err, refl, sym, ◌∙◌, ap, arith, zero-add, add-zero}
+use Rattle.std.proofs.Common.{◌≡◌, ◌↔◌, ℕ, zero, suc, ◌+◌, ◌<◌, ◌≤◌, ◌/◌, nat_le, Bool, true, false, ◌&&◌, if◌then◌else◌, ℤ, pos, negsuc, ◌<ℤ◌, ◌≤ℤ◌, List, [], ◌∷◌, ◌++◌, length, slice_get, Option, Some, None, Ok, Err, refl, sym, ◌∙◌, ap, arith, zero-add, add-zero}
 use Rattle.std.specs.Int.RustNames.{int_le}
 use Rattle.std.specs.Option.{option_or}
 use Rattle.std.proofs.lemmas.Bool.{and_parts}
@@ -8,11 +8,10 @@ use Rattle.std.proofs.lemmas.Int.{ints}
 use Rattle.pl_records.proofs.RuleTables.{not_true}
 use Rattle.pl_spec.specs.declared.AssetRow.{AssetRow}
 use Rattle.pl_spec.specs.declared.RawAdjust.{RawAdjust}
-use Rattle.pl_spec.specs.Order.{adjustments_of}
 use Rattle.pl_spec.specs.Parts.{ColumnAdjustment}
 use Rattle.pl_spec.specs.Limits.{most_adjustments}
-use Rattle.pl_adjust.specs.Columns.{by_column, in_column}
-use Rattle.pl_adjust.specs.Tables.{adjustments_in, ok_unless}
+use Rattle.pl_adjust.specs.Columns.{by_place}
+use Rattle.pl_adjust.specs.Tables.{adjustments_in, of_walk, ok_unless}
 use Rattle.pl_adjust.specs.Walk.{Fault, TooMany, BadEffective, BadRatio, TableRow, fault_at, first_fault, is_effective, is_part, walk}
 use Rattle.pl_adjust.specs.Rules.{AreRight, HasRatio, IsEffective, IsFaultOf, IsFirstFault, IsRight}
 use Rattle.pl_adjust.proofs.Walks.{first_fault-append}
@@ -193,7 +192,7 @@ module _ (rows : List TableRow) (fault : Fault) where
 
 module _ (assets : List AssetRow) (splits mergers dividends : List RawAdjust) where
   abbrev made : List ColumnAdjustment
-  made = by_column (map (in_column assets) (adjustments_of assets splits mergers dividends))
+  made = by_place (of_walk assets splits mergers dividends)
 
   none_of : (o : Option Fault) (xs ys : List ColumnAdjustment) → ok_unless o xs ≡ Ok ys → o ≡ None
   none_of None xs ys e = refl
@@ -217,7 +216,7 @@ module _ (assets : List AssetRow) (splits mergers dividends : List RawAdjust) wh
     (λ h. ap (λ o. ok_unless o made) ((fault-is (walk splits mergers dividends) fault).1 h)),
   )
 
-  pub made_is : (xs : List ColumnAdjustment) → adjustments_in assets splits mergers dividends ≡ Ok xs → xs ≡ by_column (map (in_column assets) (adjustments_of assets splits mergers dividends))
+  pub made_is : (xs : List ColumnAdjustment) → adjustments_in assets splits mergers dividends ≡ Ok xs → xs ≡ by_place (of_walk assets splits mergers dividends)
   unfolding adjustments_in
   made_is xs e =
       let none = none_of (first_fault 0 (walk splits mergers dividends)) made xs e in

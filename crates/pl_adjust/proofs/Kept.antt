@@ -1,5 +1,5 @@
 -- Adjustments by column.
-use Rattle.std.proofs.Common.{◌≡◌, ℕ, zero, suc, ◌+◌, ◌-◌, ◌<◌, ◌≤◌, ◌==◌, nat_lt, nat_le, min, Bool, true, false, ℤ, pos, ◌≤ℤ◌, List, [], ◌∷◌, map, filter, length, get_or, take, drop, All, AllPairs, refl, sym, ◌∙◌, ap, arith, inl, inr}
+use Rattle.std.proofs.Common.{◌≡◌, ℕ, ◌+◌, ◌-◌, ◌<◌, ◌≤◌, ◌==◌, nat_lt, nat_le, min, Bool, true, false, ℤ, pos, ◌≤ℤ◌, List, [], ◌∷◌, map, filter, length, get_or, take, drop, All, AllPairs, refl, sym, ◌∙◌, ap, arith, inl, inr}
 use Rattle.std.specs.Cmp.{IsStrictWeakOrder}
 use Rattle.std.specs.Int.RustNames.{int_lt}
 use Rattle.std.specs.List.Sorted.{IsNonDecreasing, IsPartitionPoint}
@@ -11,10 +11,11 @@ use Rattle.std.proofs.lemmas.Int.{ints}
 use Rattle.std.proofs.lemmas.List.{length-drop, length-take, get_or-drop, get_or-take, take-map, drop-map}
 use Rattle.std.proofs.lemmas.List.Elements.{All-filter, All-map}
 use Rattle.std.proofs.lemmas.List.Sorted.{ranks_by, sorted_far}
+use Rattle.std.proofs.lemmas.Simd.{get_or-zip2, length-zip2}
 use Rattle.pl_spec.specs.declared.AdjustmentKind.TheVariants.{Split}
-use Rattle.pl_spec.specs.World.Change.{Scale}
 use Rattle.pl_spec.specs.Parts.{ColumnAdjustment}
 use Rattle.pl_adjust.specs.declared.adjust.Adjust.{Adjust}
+use Rattle.pl_adjust.specs.declared.adjust.Change.TheVariants.{Scale}
 use Rattle.pl_adjust.specs.Events.{PutCells, PutsCell, event_of}
 use Rattle.pl_adjust.specs.Columns.{AreKept, events_at, in_columns, place_cmp}
 use Rattle.pl_adjust.proofs.Runs.{filter-run}
@@ -36,21 +37,21 @@ not_in_front a b p q h = here (nat_lt b a) (b == a) (int_lt q p) refl refl refl
     here false true false u v w = (grind (arith, nat_tests), λ same. grind (arith, ints))
 
 pub length-in_columns : (cols : List ℕ) (xs : List Adjust) → length xs ≡ length cols → length (in_columns cols xs) ≡ length cols
-length-in_columns [] xs h = refl
-length-in_columns (c ∷ cs) [] h = absurd (omega arith)
-length-in_columns (c ∷ cs) (x ∷ xs) h = ap suc (length-in_columns cs xs (omega arith))
+length-in_columns cols xs h = length-zip2 (λ col x. record { col = col; event = event_of x }) cols xs (sym h)
+
+-- any adjustment
+blank : Adjust
+blank = record { kind = Split; day = pos 0; change = Scale (record { num = 1; den = 1 }) }
+
+placed_at : (cols : List ℕ) (xs : List Adjust) → length xs ≡ length cols → (k : ℕ) (d : ColumnAdjustment) (c : ℕ) (e : Adjust) → k < length cols
+    → get_or (in_columns cols xs) k d ≡ record { col = get_or cols k c; event = event_of (get_or xs k e) }
+placed_at cols xs h k d c e l = get_or-zip2 (λ col x. record { col = col; event = event_of x }) cols xs k c e d l (omega arith)
 
 col_at : (cols : List ℕ) (xs : List Adjust) → length xs ≡ length cols → (k : ℕ) (d : ColumnAdjustment) (e : ℕ) → k < length cols → (get_or (in_columns cols xs) k d).col ≡ get_or cols k e
-col_at [] xs h k d e l = absurd (omega arith)
-col_at (c ∷ cs) [] h k d e l = absurd (omega arith)
-col_at (c ∷ cs) (x ∷ xs) h zero d e l = refl
-col_at (c ∷ cs) (x ∷ xs) h (suc k) d e l = col_at cs xs (omega arith) k d e (omega arith)
+col_at cols xs h k d e l = ap (λ (x : ColumnAdjustment). x.col) (placed_at cols xs h k d e blank l)
 
 day_at : (cols : List ℕ) (xs : List Adjust) → length xs ≡ length cols → (k : ℕ) (d : ColumnAdjustment) (e : Adjust) → k < length cols → (get_or (in_columns cols xs) k d).event.day ≡ (get_or xs k e).day
-day_at [] xs h k d e l = absurd (omega arith)
-day_at (c ∷ cs) [] h k d e l = absurd (omega arith)
-day_at (c ∷ cs) (x ∷ xs) h zero d e l = refl
-day_at (c ∷ cs) (x ∷ xs) h (suc k) d e l = day_at cs xs (omega arith) k d e (omega arith)
+day_at cols xs h k d e l = ap (λ (x : ColumnAdjustment). x.event.day) (placed_at cols xs h k d 0 e l)
 
 events-in_columns : (cols : List ℕ) (xs : List Adjust) → length xs ≡ length cols → map (λ (x : ColumnAdjustment). x.event) (in_columns cols xs) ≡ map event_of xs
 events-in_columns [] [] h = refl
@@ -65,7 +66,7 @@ cells_at xs col all =
 
 -- any adjustment of a column
 any_of : ℕ → ColumnAdjustment
-any_of col = record { col = col; event = record { kind = Split; day = pos 0; change = Scale (record { num = 1; den = 1 }) } }
+any_of col = record { col = col; event = event_of blank }
 
 module _ (cols : List ℕ) (xs : List Adjust) (kept : AreKept cols xs) where
   in_turn : (i j : ℕ) (d : ColumnAdjustment) → i ≤ j → j < length cols

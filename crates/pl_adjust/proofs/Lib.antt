@@ -7,7 +7,7 @@ pub mod Kept
 pub mod RowOrder
 pub mod Known
 pub mod Walks
-pub mod ByColumn
+pub mod ByPlace
 pub mod Made
 pub mod FirstFaults
 pub mod Sids

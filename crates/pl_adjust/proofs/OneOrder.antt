@@ -1,5 +1,5 @@
 -- A stable sort has one answer.
-use Rattle.std.proofs.Common.{◌≡◌, ℕ, suc, ◌<◌, ◌≤◌, Bool, true, false, not, ◌&&◌, cond, List, [], ◌∷◌, length, get_or, refl, sym, ◌∙◌, ap, arith}
+use Rattle.std.proofs.Common.{◌≡◌, ℕ, zero, suc, ◌+◌, ◌<◌, ◌≤◌, Bool, true, false, not, ◌&&◌, cond, List, [], ◌∷◌, length, get_or, refl, sym, ◌∙◌, ap, arith}
 use Rattle.std.specs.Cmp.{IsStrictWeakOrder}
 use Rattle.std.specs.List.{filter}
 use Rattle.std.specs.List.Sorted.{IsSortedBy, ties}
@@ -27,8 +27,16 @@ module _ {X : Type 0} (lt : X → X → Bool) (order : IsStrictWeakOrder lt) whe
   rises_from [] h = tt
   rises_from (x ∷ xs) h = (none_below_from x xs (λ k d l. h 0 (suc k) d (omega arith) (omega arith)), rises_from xs (λ i j d l m. h (suc i) (suc j) d (omega arith) (omega arith)))
 
-  pub rises_from_sorted : (xs : List X) → IsSortedBy lt xs → Rises xs
+  rises_from_sorted : (xs : List X) → IsSortedBy lt xs → Rises xs
   rises_from_sorted xs up = rises_from xs (sorted_far lt order xs up)
+
+  pub sorted_from_rises : (xs : List X) → Rises xs → IsSortedBy lt xs
+  sorted_from_rises [] r k d low h = absurd (omega arith)
+  sorted_from_rises (x ∷ []) r k d low h = absurd (omega arith)
+  sorted_from_rises (x ∷ y ∷ ys) r zero d low h = r.0.0
+  sorted_from_rises (x ∷ y ∷ ys) r (suc k) d low h =
+      let next : suc k + 1 ≡ suc (k + 1) = omega arith in
+      ap (λ n. lt (get_or (x ∷ y ∷ ys) n d) (get_or (y ∷ ys) k d)) next ∙ sorted_from_rises (y ∷ ys) r.1 k d (omega arith) (omega arith)
 
   tied_itself : (x : X) → ties lt x x ≡ true
   tied_itself x = here (lt x x) refl
@@ -49,13 +57,13 @@ module _ {X : Type 0} (lt : X → X → Bool) (order : IsStrictWeakOrder lt) whe
   tied_from : (x y : X) → lt x y ≡ false → lt y x ≡ false → ties lt x y ≡ true
   tied_from x y e f = rw (e, f) refl
 
-  pub one_order : (xs ys : List X) → Rises xs → Rises ys → ((z : X) → filter (ties lt z) xs ≡ filter (ties lt z) ys) → xs ≡ ys
-  one_order [] [] r q same = refl
-  one_order [] (y ∷ ys) r q same = let e : [] ≡ y ∷ filter (ties lt y) ys = rw (tied_itself y) at (same y) in absurd (cc)
-  one_order (x ∷ xs) [] r q same = let e : x ∷ filter (ties lt x) xs ≡ [] = rw (tied_itself x) at (same x) in absurd (cc)
-  one_order (x ∷ xs) (y ∷ ys) r q same =
+  one_rising : (xs ys : List X) → Rises xs → Rises ys → ((z : X) → filter (ties lt z) xs ≡ filter (ties lt z) ys) → xs ≡ ys
+  one_rising [] [] r q same = refl
+  one_rising [] (y ∷ ys) r q same = let e : [] ≡ y ∷ filter (ties lt y) ys = rw (tied_itself y) at (same y) in absurd (cc)
+  one_rising (x ∷ xs) [] r q same = let e : x ∷ filter (ties lt x) xs ≡ [] = rw (tied_itself x) at (same x) in absurd (cc)
+  one_rising (x ∷ xs) (y ∷ ys) r q same =
       let front : x ≡ y = fronts (ties lt x y) refl in
-      let rest : xs ≡ ys = one_order xs ys r.1 q.1 (λ z. behind (ties lt z x) z refl (same z) front) in
+      let rest : xs ≡ ys = one_rising xs ys r.1 q.1 (λ z. behind (ties lt z x) z refl (same z) front) in
       ap (λ l. x ∷ l) rest ∙ ap (λ z. z ∷ ys) front
     where
       fronts : (b : Bool) → ties lt x y ≡ b → x ≡ y
@@ -83,3 +91,6 @@ module _ {X : Type 0} (lt : X → X → Bool) (order : IsStrictWeakOrder lt) whe
           let u : ties lt z y ≡ true = ap (ties lt z) (sym front) ∙ t in
           let f : x ∷ filter (ties lt z) xs ≡ y ∷ filter (ties lt z) ys = rw (t, u) at e in cc
       behind false z t e front = let u : ties lt z y ≡ false = ap (ties lt z) (sym front) ∙ t in rw (t, u) at e
+
+  pub one_order : (xs ys : List X) → IsSortedBy lt xs → IsSortedBy lt ys → ((z : X) → filter (ties lt z) xs ≡ filter (ties lt z) ys) → xs ≡ ys
+  one_order xs ys up rise = one_rising xs ys (rises_from_sorted xs up) (rises_from_sorted ys rise)

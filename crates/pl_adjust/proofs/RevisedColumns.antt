@@ -1,51 +1,46 @@
 -- Adjustments with revisions after them.
-use Rattle.std.proofs.Common.{◌≡◌, ℕ, ◌+◌, ◌<◌, ◌==◌, true, ℤ, pos, List, ◌++◌, map, filter, length, get_or, All, AllPairs, slice_get, Option, Some, None, IfSome, option_map, Ok, Err, refl, sym, ◌∙◌, ap, arith}
+use Rattle.std.proofs.Common.{◌≡◌, ℕ, ◌+◌, ◌<◌, ◌==◌, true, ℤ, pos, List, ◌++◌, map, filter, length, get_or, All, AllPairs, Option, Some, None, IfSome, Ok, Err, refl, sym, ◌∙◌, ap, arith}
 use Rattle.std.specs.Ordering.{int_eq}
-use Rattle.std.specs.List.Sorted.{ties}
 use Rattle.std.proofs.lemmas.Int.{ints}
 use Rattle.std.proofs.lemmas.List.{map-append}
-use Rattle.std.proofs.lemmas.List.Elements.{All-append, All-map, filter-append}
+use Rattle.std.proofs.lemmas.List.Elements.{All-append, All-map}
 use Rattle.std.proofs.lemmas.List.Folds.{list_any_at}
 use Rattle.std.proofs.lemmas.List.Sorted.{All-permutation}
 use Rattle.std.proofs.lemmas.Option.{slice_get_within, get_or_from_slice_get}
+use Rattle.pl_spec.specs.declared.AdjustmentKind.TheVariants.{Split, Merger, Dividend}
 use Rattle.pl_spec.specs.declared.AssetRow.{AssetRow}
 use Rattle.pl_spec.specs.declared.BarRow.{BarRow}
 use Rattle.pl_spec.specs.declared.RawAdjust.{RawAdjust}
-use Rattle.pl_spec.specs.Order.{adjustments_of, by_day, with_revisions}
+use Rattle.pl_spec.specs.Order.{adjustments_of, of_table, with_revisions}
+use Rattle.pl_spec.proofs.ByDay.{by_day-kept}
 use Rattle.pl_spec.specs.Parts.{ColumnAdjustment, ColumnLabel, ColumnNumber, sid_at, world_of}
 use Rattle.pl_spec.specs.World.{Adjustment, events_of}
 use Rattle.pl_records.specs.Reading.{Record, Fault}
 use Rattle.pl_lifetimes.specs.Assets.{sid_of}
+use Rattle.pl_lifetimes.proofs.SidColumns.{asset_of}
 use Rattle.pl_bars.proofs.BarSearch.{IsCell-bar_cell}
 use Rattle.pl_adjust.specs.declared.revisions.Revision.{Revision}
 use Rattle.pl_adjust.specs.Revisions.{AreRevisions, Rule, revisions_of}
-use Rattle.pl_adjust.specs.Columns.{StandByDay, by_column, by_place, in_column}
+use Rattle.pl_adjust.specs.Columns.{StandByDay, by_place, in_column}
 use Rattle.pl_adjust.specs.Events.{PutsCell}
 use Rattle.pl_adjust.specs.Revised.{AreKnown, IsKnown, revised, revised_by, revised_columns, revised_in}
 use Rattle.pl_adjust.specs.Tables.{adjustments_in}
-use Rattle.pl_adjust.proofs.ByColumn.{by_day-ties, by_place-permutes, by_place-ties, filter-sorted_by, rises-by_place, rises-columns, tied}
+use Rattle.pl_adjust.proofs.ByPlace.{by_place-kept, by_place-permutes, sorted-by_place}
 use Rattle.pl_adjust.proofs.FirstFaults.{made_is}
-use Rattle.pl_adjust.proofs.Kept.{in_front, front_order}
-use Rattle.pl_adjust.proofs.OneOrder.{one_order}
 use Rattle.pl_adjust.proofs.Known.{has_sid}
-use Rattle.pl_adjust.proofs.Made.{Puts, place_known, rises_each}
-use Rattle.pl_adjust.proofs.Sids.{All-by_day, Known, by_sid, parts_events, tables_known}
+use Rattle.pl_adjust.proofs.Made.{Puts, by_day_each, place_known}
+use Rattle.pl_adjust.proofs.Sids.{Known, by_sid, parts_events, tables_known}
 
 -- ---- what is kept of revisions
 
 pub known_has : (assets : List AssetRow) (sid : ℕ) → IsKnown assets sid → has_sid (pos sid) assets ≡ true
-known_has assets sid h = here (slice_get assets h.0) refl h.1
+known_has assets sid h =
+    let it = asset_of assets h.0 sid h.1 in
+    let there : get_or assets h.0 it.0 ≡ it.0 = get_or_from_slice_get assets h.0 it.0 it.0 it.1 in
+    list_any_at (λ x. int_eq (pos x.sid) (pos sid)) assets h.0 it.0 (slice_get_within assets h.0 it.0 it.1) (test _ (ap sid_of there ∙ it.2))
   where
     test : (n : ℕ) → n ≡ sid → int_eq (pos n) (pos sid) ≡ true
     test n e = grind (arith, ints)
-
-    here : (o : Option AssetRow) → slice_get assets h.0 ≡ o → option_map sid_of o ≡ Some sid → has_sid (pos sid) assets ≡ true
-    here None e s = absurd (let bad : None ≡ Some sid = s in cc)
-    here (Some a) e s =
-        let same : Some (sid_of a) ≡ Some sid = s in
-        let is : sid_of a ≡ sid = cc in
-        let there : get_or assets h.0 a ≡ a = get_or_from_slice_get assets h.0 a a e in
-        list_any_at (λ x. int_eq (pos x.sid) (pos sid)) assets h.0 a (slice_get_within assets h.0 a e) (test _ (ap sid_of there ∙ is))
 
 module _ (assets : List AssetRow) (rows : List Revision) where
   pub revised_known : AreKnown assets rows → All (Known assets) (map revised rows)
@@ -71,25 +66,9 @@ cols_with assets old rows more all =
     (All-append (λ (x : ColumnAdjustment). x.col < length assets) old rows all more)
 
 pub days_with : (xs : List ColumnAdjustment) → StandByDay (by_place xs)
-days_with xs = rises_each (by_place xs) (rises-by_place xs)
+days_with xs = by_day_each (by_place xs) (sorted-by_place xs)
 
 -- ---- the order in which they act
-
-one_key : (z x y : ColumnAdjustment) → ties in_front z x ≡ true → ties in_front z y ≡ true → x.col ≡ y.col
-one_key z x y e f = sym (tied z x e).0 ∙ (tied z y f).0
-
-pub revised_is : (assets : List AssetRow) (first more : List Adjustment)
-    → by_place (by_column (map (in_column assets) first) ++ map (in_column assets) more) ≡ by_column (map (in_column assets) (by_day (first ++ more)))
-revised_is assets first more =
-    one_order in_front front_order _ _ (rises-by_place (by_column (map (in_column assets) first) ++ map (in_column assets) more)) (rises-columns assets (first ++ more))
-    (λ z.
-    by_place-ties z (by_column (map (in_column assets) first) ++ map (in_column assets) more)
-    ∙ filter-append (ties in_front z) (by_column (map (in_column assets) first)) (map (in_column assets) more)
-    ∙ ap (λ l. l ++ filter (ties in_front z) (map (in_column assets) more)) (filter-sorted_by (λ (x : ColumnAdjustment). x.col) (ties in_front z) (one_key z) (map (in_column assets) first))
-    ∙ sym (filter-append (ties in_front z) (map (in_column assets) first) (map (in_column assets) more))
-    ∙ ap (filter (ties in_front z)) (sym (map-append (in_column assets) first more))
-    ∙ sym (by_day-ties assets z (first ++ more))
-    ∙ sym (filter-sorted_by (λ (x : ColumnAdjustment). x.col) (ties in_front z) (one_key z) (map (in_column assets) (by_day (first ++ more)))))
 
 pub revised_events : (days : List ℤ) (assets : List AssetRow) (labels : List ColumnLabel) (texts : List (List ℕ)) (bars : List BarRow) (splits mergers dividends : List RawAdjust) (xs : List ColumnAdjustment)
     (revisions : List Revision) (numbers : List ColumnNumber)
@@ -97,14 +76,16 @@ pub revised_events : (days : List ℤ) (assets : List AssetRow) (labels : List C
     → events_of (world_of days assets labels texts bars (revised_by assets xs revisions) numbers) sid
     ≡ map (λ x. x.event) (filter (λ x. x.sid == sid) (with_revisions (adjustments_of assets splits mergers dividends) (map revised revisions)))
 revised_events days assets labels texts bars splits mergers dividends xs revisions numbers up e known sid =
-    let first = adjustments_of assets splits mergers dividends in
+    let first = of_table assets Split splits ++ of_table assets Merger mergers ++ of_table assets Dividend dividends in
     let more = map revised revisions in
-    let made : xs ≡ by_column (map (in_column assets) first) = made_is assets splits mergers dividends xs e in
-    let is : revised_by assets xs revisions ≡ by_column (map (in_column assets) (by_day (first ++ more))) = ap (λ l. revised_by assets l revisions) made ∙ revised_is assets first more in
-    let all : All (Known assets) (by_day (first ++ more)) = All-by_day (Known assets) (first ++ more) (All-append (Known assets) first more (tables_known assets splits mergers dividends) (revised_known assets revisions known)) in
+    let is : revised_by assets xs revisions ≡ by_place (map (in_column assets) (first ++ more)) =
+    ap (λ l. revised_by assets l revisions) (made_is assets splits mergers dividends xs e)
+    ∙ by_place-kept (map (in_column assets) first) (map (in_column assets) more)
+    ∙ ap by_place (sym (map-append (in_column assets) first more)) in
     parts_events days assets labels texts bars (revised_by assets xs revisions) numbers up sid
     ∙ ap (λ l. map (λ (x : ColumnAdjustment). x.event) (filter (λ x. sid_at assets x.col == sid) l)) is
-    ∙ by_sid assets up (by_day (first ++ more)) all sid
+    ∙ by_sid assets up (first ++ more) (All-append (Known assets) first more (tables_known assets splits mergers dividends) (revised_known assets revisions known)) sid
+    ∙ ap (λ l. map (λ (x : Adjustment). x.event) (filter (λ x. x.sid == sid) l)) (sym (by_day-kept first more))
 
 -- ---- the call
 

@@ -8,7 +8,7 @@ use Rattle.std.specs.Ordering.{int_eq}
 use Rattle.std.proofs.lemmas.Bool.{and_parts, true≢false}
 use Rattle.std.proofs.lemmas.List.{length-map}
 use Rattle.std.proofs.lemmas.List.Elements.{All-filter, filter-append, filter_passes}
-use Rattle.std.proofs.lemmas.List.Kept.{AllPairs-filter}
+use Rattle.std.proofs.lemmas.List.Kept.{AllPairs-filter, IsSortedBy-filter}
 use Rattle.std.proofs.lemmas.List.Quantifiers.{all_pairs_push}
 use Rattle.std.proofs.lemmas.List.Sorted.{IsPermutation-map}
 use Rattle.std.proofs.lemmas.Simd.{map-map}
@@ -35,9 +35,9 @@ use Rattle.pl_adjust.specs.Columns.{StandByDay, by_place, in_column}
 use Rattle.pl_adjust.specs.Revised.{AreKnown, ChangeAlike, IsKnown, revised, revised_by, revised_columns, revised_in}
 use Rattle.pl_adjust.specs.Revisions.{Rule, breaks, revision_in, header, is_same, revision_or_rule, revisions_of}
 use Rattle.pl_adjust.specs.Revisions as rules
-use Rattle.pl_adjust.proofs.ByColumn.{by_place-ties, rises-by_place, tied}
+use Rattle.pl_adjust.proofs.ByPlace.{by_place-ties, sorted-by_place, tied}
 use Rattle.pl_adjust.proofs.Kept.{in_front, front_order}
-use Rattle.pl_adjust.proofs.OneOrder.{NoneBelow, Rises, one_order}
+use Rattle.pl_adjust.proofs.OneOrder.{one_order}
 use Rattle.pl_adjust.proofs.RevisedColumns.{cols_with, days_with, known_from, known_has, revised_cols}
 use Rattle.pl_adjust.proofs.RevisionsRead.{AreRevisions-read, column_is, parts, whole}
 use Rattle.pl_adjust.proofs.Sids.{sid_of_col}
@@ -108,22 +108,6 @@ kept {A} {B} f p (x ∷ xs) = here (f x) (p x) refl refl (kept f p xs)
     here (Some y) false e g rest = rw g rest
     here None true e g rest = rw e rest
     here None false e g rest = rest
-
-none-filter : (p : ColumnAdjustment → Bool) (x : ColumnAdjustment) (xs : List ColumnAdjustment) → NoneBelow in_front front_order x xs → NoneBelow in_front front_order x (filter p xs)
-none-filter p x [] n = tt
-none-filter p x (y ∷ ys) n = here (p y) (none-filter p x ys n.1)
-  where
-    here : (b : Bool) → NoneBelow in_front front_order x (filter p ys) → NoneBelow in_front front_order x (cond b (y ∷ filter p ys) (filter p ys))
-    here true rest = (n.0, rest)
-    here false rest = rest
-
-rises-filter : (p : ColumnAdjustment → Bool) (xs : List ColumnAdjustment) → Rises in_front front_order xs → Rises in_front front_order (filter p xs)
-rises-filter p [] r = tt
-rises-filter p (x ∷ xs) r = here (p x) (rises-filter p xs r.1)
-  where
-    here : (b : Bool) → Rises in_front front_order (filter p xs) → Rises in_front front_order (cond b (x ∷ filter p xs) (filter p xs))
-    here true rest = (none-filter p x xs r.0, rest)
-    here false rest = rest
 
 -- of the columns that pass a test
 module _ (assets : List AssetRow) (c : Column) (bar : ℤ) (at : ℕ → Bool) where
@@ -229,8 +213,8 @@ module _ (assets : List AssetRow) (c : Column) (bar : ℤ) (at : ℕ → Bool) w
       let xs = revised_columns assets rows in
       let ys = revised_columns assets found in
       one_order in_front front_order (acting (by_place (old ++ xs))) (acting (by_place (old ++ ys)))
-      (rises-filter acts (filter is_here (by_place (old ++ xs))) (rises-filter is_here (by_place (old ++ xs)) (rises-by_place (old ++ xs))))
-      (rises-filter acts (filter is_here (by_place (old ++ ys))) (rises-filter is_here (by_place (old ++ ys)) (rises-by_place (old ++ ys))))
+      (IsSortedBy-filter in_front front_order acts (filter is_here (by_place (old ++ xs))) (IsSortedBy-filter in_front front_order is_here (by_place (old ++ xs)) (sorted-by_place (old ++ xs))))
+      (IsSortedBy-filter in_front front_order acts (filter is_here (by_place (old ++ ys))) (IsSortedBy-filter in_front front_order is_here (by_place (old ++ ys)) (sorted-by_place (old ++ ys))))
       (λ z. by_ties z xs ∙ ap (λ l. acting (filter (ties in_front z) old) ++ l) (moved z rows found m apart known) ∙ sym (by_ties z ys))
     where
       by_ties : (z : ColumnAdjustment) (xs : List ColumnAdjustment)

@@ -1,5 +1,5 @@
 -- Revisions that are read: what is kept of all rows, and what a file says, in plain words.
-use Rattle.std.proofs.Common.{◌≡◌, ◌↔◌, ◌≤◌, ◌==◌, ◌&&◌, true, false, List, [], ◌∷◌, ◌++◌, Some, position, Ok, Err, refl, ap, ℤ, ◌<ℤ◌, ◌≤ℤ◌, arith, Any, eq-eqb, eqb-true}
+use Rattle.std.proofs.Common.{◌≡◌, ◌↔◌, ◌≤◌, ◌==◌, ◌&&◌, true, false, List, [], ◌∷◌, ◌++◌, Some, Ok, Err, refl, ap, ℤ, ◌<ℤ◌, ◌≤ℤ◌, arith, Any, eq-eqb, eqb-true}
 use Rattle.std.specs.Prelude.{Contains}
 use Rattle.std.specs.List.{list_any, slice_get}
 use Rattle.std.specs.Int.RustNames.{int_le}
@@ -22,13 +22,13 @@ use Rattle.pl_spec.specs.Window.{same_column}
 use Rattle.pl_spec.proofs.DatesWritten.{IsDay-IsDate}
 use Rattle.pl_calendar.specs.Days.{AreDays}
 use Rattle.pl_lifetimes.specs.Assets.{AreAssets}
-use Rattle.pl_lifetimes.specs.Assets.{HasSid}
-use Rattle.pl_lifetimes.proofs.SidColumns.{sid_form, sid_known}
+use Rattle.pl_lifetimes.proofs.SidColumns.{sid_known, unknown_tells}
 use Rattle.pl_bars.proofs.BarFields.{IsCellText-bar_cell, IsNegative-test, is_negative-test}
-use Rattle.pl_bars.proofs.BarsSaid.{day_form}
+use Rattle.pl_bars.specs.Bars.{session_in}
+use Rattle.pl_bars.proofs.BarsSaid.{day_form, no_session_tells}
 use Rattle.pl_adjust.specs.declared.revisions.Revision.{Revision}
 use Rattle.pl_spec.specs.Limits.{most_revisions}
-use Rattle.pl_adjust.specs.Revisions.{Rule, breaks, col_in, session_in, revision_in, header, is_same, is_soon, revision_or_rule, revisions_of, AreRevisions, IsRevision}
+use Rattle.pl_adjust.specs.Revisions.{Rule, breaks, revision_in, header, is_same, is_soon, revision_or_rule, revisions_of, AreRevisions, IsRevision}
 use Rattle.pl_adjust.specs.Revisions as rules
 use Rattle.pl_adjust.specs.RevisionRules.{IsRevisionRecord, AreOfOne, IsNext, Breaks, AreRevisionsOf, IsRevisionsFault}
 use Rattle.pl_adjust.proofs.RevisionFields.{revision_form}
@@ -69,11 +69,8 @@ module _ (days : List ℤ) (assets : List AssetRow) (ud : AreDays days) (ua : Ar
   tells before r rules.BadHeader = (λ t. absurd (let bad : false ≡ true = t in cc), λ h. absurd h)
   tells before r rules.TooMany = (λ t. grind (arith, nat_tests), λ h. grind (arith, nat_tests))
   tells before r rules.BadField = lacks-tells revision_in IsRevisionRecord revision_form r
-  tells before r rules.NotSession =
-      has-tells revision_in IsRevisionRecord revision_form _ _
-      (lacks-tells (session_in days) (λ x session. slice_get days session ≡ Some x.bar_day) (λ x. day_form days ud x.bar_day)) r
-  tells before r rules.UnknownSid =
-      has-tells revision_in IsRevisionRecord revision_form _ _ (lacks-tells (col_in assets) (λ x col. HasSid assets col x.sid) (λ x. sid_form assets ua x.sid)) r
+  tells before r rules.NotSession = has-tells revision_in IsRevisionRecord revision_form _ _ (λ x. no_session_tells days ud x.bar_day) r
+  tells before r rules.UnknownSid = has-tells revision_in IsRevisionRecord revision_form _ _ (λ x. unknown_tells assets ua x.sid) r
   tells before r rules.Negative =
       has-tells revision_in IsRevisionRecord revision_form _ _ (λ x. (IsNegative-test x.value, is_negative-test x.value)) r
   tells before r rules.TooSoon = has-tells revision_in IsRevisionRecord revision_form _ _ soon_tells r
@@ -98,9 +95,9 @@ module _ (days : List ℤ) (assets : List AssetRow) (ud : AreDays days) (ua : Ar
 
   -- ---- what is kept of all rows
 
-  dated : (day : ℤ) → lacks (position (λ d. int_eq d day) days) ≡ false → Contains days day
+  dated : (day : ℤ) → lacks (session_in days day) ≡ false → Contains days day
   dated day t =
-      let it = lacks-none (position (λ d. int_eq d day) days) t in
+      let it = lacks-none (session_in days day) t in
       let at : slice_get days it.0 ≡ Some day = (day_form days ud day it.0).0 it.1 in
       rw (← get_or_from_slice_get days it.0 day day at) (Contains-get_or days it.0 day (slice_get_within days it.0 day at))
 

@@ -4,7 +4,7 @@ use Rattle.std.specs.Int.RustNames.{int_le}
 use Rattle.std.specs.Ordering.{int_eq}
 use Rattle.std.proofs.lemmas.Bool.{and_parts}
 use Rattle.std.proofs.lemmas.Bool.Decides.{nat_tests}
-use Rattle.std.proofs.lemmas.List.Elements.{All-append, All-cons, All-map}
+use Rattle.std.proofs.lemmas.List.Elements.{All-append, All-cons, All-map, filter_passes}
 use Rattle.std.proofs.lemmas.List.Folds.{list_any_none}
 use Rattle.std.proofs.lemmas.List.Sorted.{All-permutation}
 use Rattle.std.proofs.lemmas.Option.{slice_get_within}
@@ -17,11 +17,10 @@ use Rattle.pl_spec.specs.Order.{adjustment_in, adjustments_of, by_day, insert_by
 use Rattle.pl_spec.specs.Parts.{ColumnAdjustment, ColumnLabel, ColumnNumber, adjustment_of, sid_at, world_of}
 use Rattle.pl_spec.specs.World.{Adjustment, events_of}
 use Rattle.pl_spec.proofs.Lists.{filter-map, filter-same}
-use Rattle.pl_records.proofs.Sorts.{sorted-permutes}
 use Rattle.pl_lifetimes.proofs.Columns.{one_col, same_col}
-use Rattle.pl_adjust.specs.Columns.{by_column, col_in, events_at, in_column}
+use Rattle.pl_adjust.specs.Columns.{by_place, col_in, events_at, in_column}
 use Rattle.pl_adjust.specs.Tables.{adjustments_in}
-use Rattle.pl_adjust.proofs.ByColumn.{filter-sorted_by}
+use Rattle.pl_adjust.proofs.ByPlace.{by_place-column, by_place-permutes}
 use Rattle.pl_adjust.proofs.FirstFaults.{made_is}
 use Rattle.pl_adjust.proofs.Known.{has_sid, same_sid}
 use Rattle.pl_adjust.proofs.Made.{place_known}
@@ -83,17 +82,12 @@ module _ (assets : List AssetRow) where
   Known z = has_sid (pos z.sid) assets ≡ true
 
   table_known : (kind : AdjustmentKind) (raw : List RawAdjust) → All Known (of_table assets kind raw)
-  table_known kind [] = λ k d h. absurd (omega arith)
-  table_known kind (r ∷ rs) = here (is_of assets r) refl (table_known kind rs)
-    where
-      here : (b : Bool) → is_of assets r ≡ b → All Known (of_table assets kind rs) → All Known (map (adjustment_in kind) (cond b (r ∷ filter (is_of assets) rs) (filter (is_of assets) rs)))
-      here true e rest = All-cons Known (adjustment_in kind r) (of_table assets kind rs) (has_sid_abs assets r.sid e) rest
-      here false e rest = rest
+  table_known kind raw =
+      All-map Known (adjustment_in kind) (filter (is_of assets) raw)
+      (λ k d h. has_sid_abs assets (get_or (filter (is_of assets) raw) k d).sid (filter_passes (is_of assets) raw k d h))
 
-  pub tables_known : (splits mergers dividends : List RawAdjust) → All Known (adjustments_of assets splits mergers dividends)
-  tables_known splits mergers dividends =
-      All-by_day Known (of_table assets Split splits ++ of_table assets Merger mergers ++ of_table assets Dividend dividends)
-      (All-append Known _ _ (All-append Known _ _ (table_known Split splits) (table_known Merger mergers)) (table_known Dividend dividends))
+  pub tables_known : (splits mergers dividends : List RawAdjust) → All Known (of_table assets Split splits ++ of_table assets Merger mergers ++ of_table assets Dividend dividends)
+  tables_known splits mergers dividends = All-append Known _ _ (All-append Known _ _ (table_known Split splits) (table_known Merger mergers)) (table_known Dividend dividends)
 
   -- the test of a sid that also asks for a column of an asset
   is_sid : ℕ → ColumnAdjustment → Bool
@@ -126,9 +120,9 @@ module _ (assets : List AssetRow) where
       equal : (n : ℕ) → (n == sid) ≡ true → n ≡ sid
       equal n t = grind (arith, nat_tests)
 
-  cols_known : (zs : List Adjustment) → All Known zs → All (λ x. x.col < length assets) (by_column (map (in_column assets) zs))
+  cols_known : (zs : List Adjustment) → All Known zs → All (λ x. x.col < length assets) (by_place (map (in_column assets) zs))
   cols_known zs all =
-      All-permutation (λ (x : ColumnAdjustment). x.col < length assets) (map (in_column assets) zs) (by_column (map (in_column assets) zs)) (sorted-permutes (λ (x : ColumnAdjustment). x.col) (map (in_column assets) zs))
+      All-permutation (λ (x : ColumnAdjustment). x.col < length assets) (map (in_column assets) zs) (by_place (map (in_column assets) zs)) (by_place-permutes (map (in_column assets) zs))
       (All-map (λ (x : ColumnAdjustment). x.col < length assets) (in_column assets) zs (λ k d h. col_known (get_or zs k d) (all k d h)))
 
   events-in_column : (zs : List Adjustment) → map (λ (x : ColumnAdjustment). x.event) (map (in_column assets) zs) ≡ map (λ (x : Adjustment). x.event) zs
@@ -136,15 +130,16 @@ module _ (assets : List AssetRow) where
   events-in_column (z ∷ zs) = ap (λ l. z.event ∷ l) (events-in_column zs)
 
   pub by_sid : AllPairs (λ a b. a.sid < b.sid) assets → (zs : List Adjustment) → All Known zs → (sid : ℕ)
-      → map (λ x. x.event) (filter (λ x. sid_at assets x.col == sid) (by_column (map (in_column assets) zs))) ≡ map (λ x. x.event) (filter (λ x. x.sid == sid) zs)
+      → map (λ x. x.event) (filter (λ x. sid_at assets x.col == sid) (by_place (map (in_column assets) zs))) ≡ map (λ x. x.event) (filter (λ x. x.sid == sid) (by_day zs))
   by_sid up zs all sid =
       let columns = map (in_column assets) zs in
+      let known : All Known (by_day zs) = All-by_day Known zs all in
       ap (map (λ (x : ColumnAdjustment). x.event))
-      (filter-same (λ x. sid_at assets x.col == sid) (is_sid sid) (by_column columns) (λ k d h. in_range sid (get_or (by_column columns) k d) (cols_known zs all k d h))
-      ∙ filter-sorted_by (λ (x : ColumnAdjustment). x.col) (is_sid sid) (one_place up sid) columns
-      ∙ filter-map (is_sid sid) (in_column assets) zs
-      ∙ ap (map (in_column assets)) (filter-same (λ z. is_sid sid (in_column assets z)) (λ z. z.sid == sid) zs (λ k d h. sid_test sid (get_or zs k d) (all k d h))))
-      ∙ events-in_column (filter (λ (x : Adjustment). x.sid == sid) zs)
+      (filter-same (λ x. sid_at assets x.col == sid) (is_sid sid) (by_place columns) (λ k d h. in_range sid (get_or (by_place columns) k d) (cols_known zs all k d h))
+      ∙ by_place-column assets (is_sid sid) (one_place up sid) zs
+      ∙ filter-map (is_sid sid) (in_column assets) (by_day zs)
+      ∙ ap (map (in_column assets)) (filter-same (λ z. is_sid sid (in_column assets z)) (λ z. z.sid == sid) (by_day zs) (λ k d h. sid_test sid (get_or (by_day zs) k d) (known k d h))))
+      ∙ events-in_column (filter (λ (x : Adjustment). x.sid == sid) (by_day zs))
 
 pub table_events : (days : List ℤ) (assets : List AssetRow) (labels : List ColumnLabel) (texts : List (List ℕ)) (bars : List BarRow) (splits mergers dividends : List RawAdjust) (xs : List ColumnAdjustment)
     (numbers : List ColumnNumber)
@@ -153,4 +148,4 @@ pub table_events : (days : List ℤ) (assets : List AssetRow) (labels : List Col
 table_events days assets labels texts bars splits mergers dividends xs numbers up e sid =
     parts_events days assets labels texts bars xs numbers up sid
     ∙ ap (λ l. map (λ (x : ColumnAdjustment). x.event) (filter (λ x. sid_at assets x.col == sid) l)) (made_is assets splits mergers dividends xs e)
-    ∙ by_sid assets up (adjustments_of assets splits mergers dividends) (tables_known assets splits mergers dividends) sid
+    ∙ by_sid assets up (of_table assets Split splits ++ of_table assets Merger mergers ++ of_table assets Dividend dividends) (tables_known assets splits mergers dividends) sid

@@ -2,12 +2,12 @@
 use Rattle.std.specs.Prelude.{◌≡◌, ℕ, ◌<◌, ◌≤◌, nat_lt, nat_le, true, false, if◌then◌else◌, ◌==◌, ◌≤ℤ◌, List, [], ◌∷◌, map, filter, get_or, length, All, AllPairs}
 use Rattle.std.specs.List.{position_or_len}
 use Rattle.std.specs.List.Sorted.{IsPartitionPoint, IsPermutation, IsSorted, IsStable}
+use Rattle.std.specs.Simd.Lanes.{zip2}
 use Rattle.std.specs.declared.cmp.Ordering.{Ordering}
 use Rattle.std.specs.Ordering.{is_lt, nat_cmp, int_cmp, ordering_then}
 use Rattle.pl_spec.specs.declared.AssetRow.{AssetRow}
 use Rattle.pl_spec.specs.World.{Adjustment, Event}
 use Rattle.pl_spec.specs.Parts.{ColumnAdjustment}
-use Rattle.pl_records.specs.Sorted.{sorted_by}
 use Rattle.pl_adjust.specs.declared.adjust.Adjust.{Adjust}
 use Rattle.pl_adjust.specs.Events.{PutsCell, event_of}
 
@@ -18,15 +18,9 @@ col_in assets sid = position_or_len (λ a. a.sid == sid) assets
 abbrev pub in_column : List AssetRow → Adjustment → ColumnAdjustment
 in_column assets x = record { col = col_in assets x.sid; event = x.event }
 
--- column by column, those of a column as they stood
-abbrev pub by_column : List ColumnAdjustment → List ColumnAdjustment
-by_column xs = sorted_by (λ x. x.col) xs
-
 -- each adjustment with the column at its place
 abbrev pub in_columns : List ℕ → List Adjust → List ColumnAdjustment
-in_columns [] xs = []
-in_columns (c ∷ cs) [] = []
-in_columns (c ∷ cs) (x ∷ xs) = record { col = c; event = event_of x } ∷ in_columns cs xs
+in_columns cols adjusts = zip2 (λ col x. record { col = col; event = event_of x }) cols adjusts
 
 -- the events of a column
 abbrev pub events_at : List ColumnAdjustment → ℕ → List Event

@@ -1,5 +1,5 @@
 -- The revisions of the records of a revisions file, and the first rule that a record breaks.
-use Rattle.std.specs.Prelude.{ℕ, ◌==◌, ◌≤◌, ◌&&◌, nat_le, Bool, false, if◌then◌else◌, ℤ, ◌<ℤ◌, codes, List, [], ◌∷◌, length, All, Contains, IsTrue, Option, None, option_map, option_and_then, position, Result}
+use Rattle.std.specs.Prelude.{ℕ, ◌==◌, ◌≤◌, ◌&&◌, nat_le, Bool, false, if◌then◌else◌, ℤ, ◌<ℤ◌, codes, List, [], ◌∷◌, length, All, Contains, IsTrue, Option, None, option_map, option_and_then, Result}
 use Rattle.std.specs.List.{list_any}
 use Rattle.std.specs.Int.RustNames.{int_le}
 use Rattle.std.specs.Ordering.{int_eq}
@@ -10,9 +10,8 @@ use Rattle.pl_spec.specs.Dates.{IsDay, date_in}
 use Rattle.pl_spec.specs.Decimals.{sid_in}
 use Rattle.pl_spec.specs.Window.{same_column}
 use Rattle.pl_spec.specs.declared.AssetRow.{AssetRow}
-use Rattle.pl_lifetimes.specs.Assets.{sid_of}
-use Rattle.pl_lifetimes.specs.Assets.{HasSid}
-use Rattle.pl_bars.specs.Bars.{cell_in, is_bar_cell, is_negative}
+use Rattle.pl_lifetimes.specs.Assets.{HasSid, col_in}
+use Rattle.pl_bars.specs.Bars.{cell_in, is_bar_cell, is_negative, session_in}
 use Rattle.pl_bars.specs.ColumnNames.{column_in}
 use Rattle.pl_adjust.specs.declared.revisions.Revision.{Revision}
 use Rattle.pl_spec.specs.Limits.{most_revisions}
@@ -33,13 +32,6 @@ revision_in r =
     (date_in (field r 4))) (cell_in (field r 3))) (column_in (field r 2))) (date_in (field r 1))) (sid_in (field r 0))
     else None
 
--- the session of the bar's day, and the column of the asset
-abbrev pub session_in : List ℤ → Revision → Option ℕ
-session_in days x = position (λ d. int_eq d x.bar_day) days
-
-abbrev pub col_in : List AssetRow → Revision → Option ℕ
-col_in assets x = position (λ a. sid_of a == x.sid) assets
-
 -- it is known on the day of its bar already
 abbrev pub is_soon : Revision → Bool
 is_soon x = int_le x.known x.bar_day
@@ -56,8 +48,8 @@ abbrev pub breaks : List ℤ → List AssetRow → List Revision → Record → 
 breaks days assets before r BadHeader = false
 breaks days assets before r TooMany = nat_le most_revisions (length before)
 breaks days assets before r BadField = lacks (revision_in r)
-breaks days assets before r NotSession = has (λ x. lacks (session_in days x)) (revision_in r)
-breaks days assets before r UnknownSid = has (λ x. lacks (col_in assets x)) (revision_in r)
+breaks days assets before r NotSession = has (λ x. lacks (session_in days x.bar_day)) (revision_in r)
+breaks days assets before r UnknownSid = has (λ x. lacks (col_in assets x.sid)) (revision_in r)
 breaks days assets before r Negative = has (λ x. is_negative x.value) (revision_in r)
 breaks days assets before r TooSoon = has is_soon (revision_in r)
 breaks days assets before r Duplicate = has (λ x. list_any (is_same x) before) (revision_in r)

@@ -4,9 +4,9 @@ use Rattle.pl_spec.specs.declared.AdjustmentKind.{AdjustmentKind}
 use Rattle.pl_spec.specs.declared.AdjustmentKind.TheVariants.{Split, Merger, Dividend}
 use Rattle.pl_spec.specs.declared.AssetRow.{AssetRow}
 use Rattle.pl_spec.specs.declared.RawAdjust.{RawAdjust}
-use Rattle.pl_spec.specs.Order.{adjustments_of, of_table}
+use Rattle.pl_spec.specs.Order.{of_table}
 use Rattle.pl_spec.specs.Parts.{ColumnAdjustment}
-use Rattle.pl_adjust.specs.Columns.{by_column, in_column}
+use Rattle.pl_adjust.specs.Columns.{by_place, in_column}
 use Rattle.pl_adjust.specs.Walk.{Fault, first_fault, walk}
 
 -- the adjustments of a table's rows, each with its column
@@ -24,9 +24,10 @@ abbrev pub ok_unless : {A F : Type 0} → Option F → A → Result A F
 ok_unless None x = Ok x
 ok_unless (Some f) x = Err f
 
--- the adjustments of the tables in the order in which they act, column by column, or the first fault of a row
+-- the adjustments of the tables by column and day, those of one column and day as they stand there, or the
+-- first fault of a row
 unfoldable pub adjustments_in : List AssetRow → List RawAdjust → List RawAdjust → List RawAdjust
     → Result (List ColumnAdjustment) Fault
 adjustments_in assets splits mergers dividends =
     ok_unless (first_fault 0 (walk splits mergers dividends))
-    (by_column (map (in_column assets) (adjustments_of assets splits mergers dividends)))
+    (by_place (of_walk assets splits mergers dividends))

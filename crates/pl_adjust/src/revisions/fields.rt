@@ -2,7 +2,9 @@
 
 ghost use Rattle.std.specs.Prelude.{◌≡◌};
 ghost use Rattle.pl_records.specs.RuleTable.{lacks};
-ghost use Rattle.pl_adjust.specs.Revisions.{col_in, is_soon, revision_in, session_in};
+ghost use Rattle.pl_lifetimes.specs.Assets.{col_in};
+ghost use Rattle.pl_bars.specs.Bars.{session_in};
+ghost use Rattle.pl_adjust.specs.Revisions.{is_soon, revision_in};
 
 use crate::revisions::Revision;
 use pl_bars::{read_cell, read_column};
@@ -35,14 +37,14 @@ pub(crate) fn revision_of(row: &Records) -> Option<Revision>
 
 // Whether no session has the day of the bar.
 pub(crate) fn lacks_session(sessions: &Sessions, row: &Revision) -> bool
-    ensures { result ≡ lacks (session_in sessions.now row.now) }
+    ensures { result ≡ lacks (session_in sessions.now row.now.bar_day) }
 {
     sessions.index_of(row.bar_day).is_none()
 }
 
 // Whether no asset has the sid.
 pub(crate) fn lacks_asset(assets: &Assets, row: &Revision) -> bool
-    ensures { result ≡ lacks (col_in assets.now row.now) }
+    ensures { result ≡ lacks (col_in assets.now row.now.sid) }
 {
     assets.col_of(row.sid).is_none()
 }

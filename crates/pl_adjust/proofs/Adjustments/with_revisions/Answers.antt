@@ -3,7 +3,7 @@ use Rattle.std.proofs.lemmas.Result.{IfOk-weaker}
 use Rattle.pl_adjust.specs.Columns.{IsByPlace}
 use Rattle.pl_adjust.specs.Revised.{revised_columns}
 use Rattle.pl_adjust.specs.Rows.{row_of}
-use Rattle.pl_adjust.proofs.ByColumn.{by_place_is}
+use Rattle.pl_adjust.proofs.ByPlace.{by_place_is}
 use Rattle.pl_adjust.proofs.Adjustments.with_revisions.Goals as goal
 
 pub returns : goal.returns

@@ -1,6 +1,6 @@
--- The rows by column and day are the adjustments of the tables column by column.
-use Rattle.std.proofs.Common.{◌≡◌, ℕ, suc, ◌<◌, ◌≤◌, ◌==◌, nat_lt, nat_le, Bool, true, false, cond, not, ℤ, ◌≤ℤ◌, List, [], ◌∷◌, map, filter, length, get_or, AllPairs, refl, sym, ◌∙◌, ap, arith}
-use Rattle.std.specs.List.Sorted.{IsPermutation, ties}
+-- Adjustments by column and day.
+use Rattle.std.proofs.Common.{◌≡◌, ℕ, ◌+◌, ◌≤◌, ◌==◌, nat_lt, Bool, true, false, cond, not, ℤ, ◌≤ℤ◌, List, [], ◌∷◌, ◌++◌, map, filter, length, get_or, AllPairs, refl, sym, ◌∙◌, ap, arith}
+use Rattle.std.specs.List.Sorted.{IsPermutation, IsSorted, ties}
 use Rattle.std.proofs.lemmas.List.Sorted.{IsPermutation-append_comm, IsPermutation-append_left, IsPermutation-append_right, IsPermutation-refl, IsPermutation-trans}
 use Rattle.std.specs.Int.RustNames.{int_lt}
 use Rattle.std.specs.declared.cmp.Ordering.TheVariants.{Less, Equal, Greater}
@@ -8,16 +8,18 @@ use Rattle.std.specs.Ordering.{is_lt, nat_cmp, int_cmp, int_eq, ordering_then}
 use Rattle.std.proofs.lemmas.Bool.{and_parts, not-true}
 use Rattle.std.proofs.lemmas.Bool.Decides.{nat_tests}
 use Rattle.std.proofs.lemmas.Int.{ints}
+use Rattle.std.proofs.lemmas.List.{get_or-map, length-map}
+use Rattle.std.proofs.lemmas.List.Elements.{filter-append, filter_passes}
+use Rattle.std.proofs.lemmas.List.Kept.{AllPairs-filter, IsSortedBy-filter}
 use Rattle.pl_spec.specs.declared.AssetRow.{AssetRow}
 use Rattle.pl_spec.specs.World.{Adjustment}
 use Rattle.pl_spec.specs.Order.{acts_at, by_day}
 use Rattle.pl_spec.specs.Parts.{ColumnAdjustment}
-use Rattle.pl_records.specs.Sorted.{insert_by, sorted_by}
 use Rattle.pl_spec.proofs.ByDay.{by_day-is_by_day}
-use Rattle.pl_spec.proofs.Lists.{filter-map, filter-filter}
-use Rattle.pl_adjust.specs.Columns.{IsByPlace, by_column, by_place, in_column, insert_at_place}
+use Rattle.pl_spec.proofs.Lists.{filter-map, filter-filter, filter-swap}
+use Rattle.pl_adjust.specs.Columns.{IsByPlace, by_place, in_column, insert_at_place, place_cmp}
 use Rattle.pl_adjust.proofs.Kept.{in_front, front_order, not_in_front}
-use Rattle.pl_adjust.proofs.OneOrder.{NoneBelow, Rises, none_below_lower, one_order, rises_from_sorted}
+use Rattle.pl_adjust.proofs.OneOrder.{NoneBelow, Rises, none_below_lower, one_order, sorted_from_rises}
 
 -- ---- what ties has one column and one day
 
@@ -35,54 +37,6 @@ tied z x t =
     let both = and_parts (not (in_front z x)) (not (in_front x z)) t in
     one_place z.col x.col z.event.day x.event.day (not-true (in_front x z) both.1) (not-true (in_front z x) both.0)
 
--- ---- filters of sorted lists
-
-filter-insert : {X : Type 0} (key : X → ℕ) (q : X → Bool) → ((x y : X) → q x ≡ true → q y ≡ true → key x ≡ key y) → (x : X) (ys : List X) → filter q (insert_by key x ys) ≡ filter q (x ∷ ys)
-filter-insert key q one x [] = refl
-filter-insert {X} key q one x (y ∷ ys) = here (nat_le (key x) (key y)) refl (filter-insert key q one x ys)
-  where
-    here : (b : Bool) → nat_le (key x) (key y) ≡ b → filter q (insert_by key x ys) ≡ filter q (x ∷ ys) → filter q (cond b (x ∷ y ∷ ys) (y ∷ insert_by key x ys)) ≡ filter q (x ∷ y ∷ ys)
-    here true t rest = refl
-    here false t rest = swap (q x) (q y) refl refl rest
-      where
-        swap : (b c : Bool) → q x ≡ b → q y ≡ c → filter q (insert_by key x ys) ≡ filter q (x ∷ ys)
-            → cond c (y ∷ filter q (insert_by key x ys)) (filter q (insert_by key x ys)) ≡ cond b (x ∷ cond c (y ∷ filter q ys) (filter q ys)) (cond c (y ∷ filter q ys) (filter q ys))
-        swap true true e f rest = let same : key x ≡ key y = one x y e f in absurd (grind (arith, nat_tests))
-        swap true false e f rest = rw e at rest
-        swap false true e f rest = ap (λ l. y ∷ l) (rw e at rest)
-        swap false false e f rest = rw e at rest
-
-pub filter-sorted_by : {X : Type 0} (key : X → ℕ) (q : X → Bool) → ((x y : X) → q x ≡ true → q y ≡ true → key x ≡ key y) → (xs : List X) → filter q (sorted_by key xs) ≡ filter q xs
-unfolding sorted_by
-filter-sorted_by key q one [] = refl
-filter-sorted_by key q one (x ∷ xs) = filter-insert key q one x (sorted_by key xs) ∙ ap (λ l. cond (q x) (x ∷ l) l) (filter-sorted_by key q one xs)
-
--- ---- by column, with days that rise
-
-abbrev Later : ℤ → List ColumnAdjustment → Type 0
-Later day [] = Unit {0}
-Later day (y ∷ ys) = (day ≤ℤ y.event.day) × Later day ys
-
-abbrev DaysRise : List ColumnAdjustment → Type 0
-DaysRise [] = Unit {0}
-DaysRise (x ∷ xs) = Later x.event.day xs × DaysRise xs
-
-abbrev col_of : ColumnAdjustment → ℕ
-col_of x = x.col
-
-later-insert : (day : ℤ) (x : ColumnAdjustment) (ys : List ColumnAdjustment) → day ≤ℤ x.event.day → Later day ys → Later day (insert_by col_of x ys)
-later-insert day x [] h l = (h, tt)
-later-insert day x (y ∷ ys) h l = here (nat_le x.col y.col) (later-insert day x ys h l.1)
-  where
-    here : (b : Bool) → Later day (insert_by col_of x ys) → Later day (cond b (x ∷ y ∷ ys) (y ∷ insert_by col_of x ys))
-    here true rest = (h, l)
-    here false rest = (l.0, rest)
-
-later-sorted : (day : ℤ) (xs : List ColumnAdjustment) → Later day xs → Later day (sorted_by col_of xs)
-unfolding sorted_by
-later-sorted day [] l = tt
-later-sorted day (x ∷ xs) l = later-insert day x (sorted_by col_of xs) l.0 (later-sorted day xs l.1)
-
 stays_behind : (a b : ℕ) (p q : ℤ) → a ≤ b → p ≤ℤ q → is_lt (ordering_then (nat_cmp b a) (int_cmp q p)) ≡ false
 stays_behind a b p q h l = here (nat_lt b a) (b == a) (int_lt q p) refl refl refl
   where
@@ -96,46 +50,7 @@ stays_behind a b p q h l = here (nat_lt b a) (b == a) (int_lt q p) refl refl ref
         equal true = refl
         equal false = refl
 
-other_col : (a b : ℕ) (p q : ℤ) → b < a → is_lt (ordering_then (nat_cmp a b) (int_cmp p q)) ≡ false
-other_col a b p q h =
-    let e : nat_lt a b ≡ false = grind (arith, nat_tests) in
-    let f : (a == b) ≡ false = grind (arith, nat_tests) in rw (e, f) refl
-
-rises-insert : (x : ColumnAdjustment) (ys : List ColumnAdjustment) → Later x.event.day ys → Rises in_front front_order ys → Rises in_front front_order (insert_by col_of x ys)
-rises-insert x [] l r = (tt, tt)
-rises-insert x (y ∷ ys) l r = here (nat_le x.col y.col) refl (rises-insert x ys l.1 r.1)
-  where
-    not_below : (zs : List ColumnAdjustment) → NoneBelow in_front front_order y zs → in_front x y ≡ false → NoneBelow in_front front_order y (insert_by col_of x zs)
-    not_below [] n e = (e, tt)
-    not_below (z ∷ zs) n e = place (nat_le x.col z.col) (not_below zs n.1 e)
-      where
-        place : (b : Bool) → NoneBelow in_front front_order y (insert_by col_of x zs) → NoneBelow in_front front_order y (cond b (x ∷ z ∷ zs) (z ∷ insert_by col_of x zs))
-        place true rest = (e, n)
-        place false rest = (n.0, rest)
-
-    here : (b : Bool) → nat_le x.col y.col ≡ b → Rises in_front front_order (insert_by col_of x ys) → Rises in_front front_order (cond b (x ∷ y ∷ ys) (y ∷ insert_by col_of x ys))
-    here true t rest =
-        let low : x.col ≤ y.col = grind (arith, nat_tests) in
-        let e : in_front y x ≡ false = stays_behind x.col y.col x.event.day y.event.day low l.0 in
-        ((e, none_below_lower in_front front_order x y ys e r.0), r)
-    here false t rest =
-        let low : y.col < x.col = grind (arith, nat_tests) in
-        (not_below ys r.0 (other_col x.col y.col x.event.day y.event.day low), rest)
-
-rises-sorted : (xs : List ColumnAdjustment) → DaysRise xs → Rises in_front front_order (sorted_by col_of xs)
-unfolding sorted_by
-rises-sorted [] d = tt
-rises-sorted (x ∷ xs) d = rises-insert x (sorted_by col_of xs) (later-sorted x.event.day xs d.0) (rises-sorted xs d.1)
-
 module _ (assets : List AssetRow) where
-  later_from : (day : ℤ) (xs : List Adjustment) → ((k : ℕ) (d : Adjustment) → k < length xs → day ≤ℤ (get_or xs k d).event.day) → Later day (map (in_column assets) xs)
-  later_from day [] h = tt
-  later_from day (x ∷ xs) h = (h 0 x (omega arith), later_from day xs (λ k d l. h (suc k) d (omega arith)))
-
-  days_rise_from : (xs : List Adjustment) → AllPairs (λ x y. x.event.day ≤ℤ y.event.day) xs → DaysRise (map (in_column assets) xs)
-  days_rise_from [] h = tt
-  days_rise_from (x ∷ xs) h = (later_from x.event.day xs (λ k d l. h 0 (suc k) d (omega arith) (omega arith)), days_rise_from xs (λ i j d l m. h (suc i) (suc j) d (omega arith) (omega arith)))
-
   pub by_day-ties : (z : ColumnAdjustment) (ws : List Adjustment) → filter (ties in_front z) (map (in_column assets) (by_day ws)) ≡ filter (ties in_front z) (map (in_column assets) ws)
   by_day-ties z ws =
       filter-map (ties in_front z) (in_column assets) (by_day ws)
@@ -150,16 +65,6 @@ module _ (assets : List AssetRow) where
         where
           same_day : (p q : ℤ) → p ≡ q → int_eq p q ≡ true
           same_day p q e = grind (arith, ints)
-
-  pub rises-columns : (ws : List Adjustment) → Rises in_front front_order (by_column (map (in_column assets) (by_day ws)))
-  rises-columns ws = rises-sorted (map (in_column assets) (by_day ws)) (days_rise_from (by_day ws) (by_day-is_by_day ws).rising)
-
-  -- rows by place are the rows by day, column by column
-  pub by_column_is : (ws : List Adjustment) (ys : List ColumnAdjustment) → IsByPlace (map (in_column assets) ws) ys → ys ≡ by_column (map (in_column assets) (by_day ws))
-  by_column_is ws ys h =
-      one_order in_front front_order ys (by_column (map (in_column assets) (by_day ws))) (rises_from_sorted in_front front_order ys h.sorted)
-      (rises-sorted (map (in_column assets) (by_day ws)) (days_rise_from (by_day ws) (by_day-is_by_day ws).rising))
-      (λ z. h.stable z ∙ sym (by_day-ties z ws) ∙ sym (filter-sorted_by col_of (ties in_front z) (λ x y e f. sym (tied z x e).0 ∙ (tied z y f).0) (map (in_column assets) (by_day ws))))
 
 -- ---- rows by place, computed
 
@@ -211,15 +116,56 @@ rises-place x (y ∷ ys) r = here (in_front y x) refl (rises-place x ys r.1)
     here true t rest = (not_below ys r.0 (front_order.one_way y x t), rest)
     here false t rest = ((t, none_below_lower in_front front_order x y ys t r.0), r)
 
-pub rises-by_place : (xs : List ColumnAdjustment) → Rises in_front front_order (by_place xs)
+rises-by_place : (xs : List ColumnAdjustment) → Rises in_front front_order (by_place xs)
 unfolding by_place
 rises-by_place [] = tt
 rises-by_place (x ∷ xs) = rises-place x (by_place xs) (rises-by_place xs)
 
+pub sorted-by_place : (xs : List ColumnAdjustment) → IsSorted place_cmp (by_place xs)
+sorted-by_place xs = sorted_from_rises in_front front_order (by_place xs) (rises-by_place xs)
+
 -- the order has one answer
 pub by_place_is : (xs ys : List ColumnAdjustment) → IsByPlace xs ys → ys ≡ by_place xs
-by_place_is xs ys h =
-    one_order in_front front_order ys (by_place xs) (rises_from_sorted in_front front_order ys h.sorted) (rises-by_place xs) (λ z. h.stable z ∙ sym (by_place-ties z xs))
+by_place_is xs ys h = one_order in_front front_order ys (by_place xs) h.sorted (sorted-by_place xs) (λ z. h.stable z ∙ sym (by_place-ties z xs))
+
+pub by_place-kept : (xs more : List ColumnAdjustment) → by_place (by_place xs ++ more) ≡ by_place (xs ++ more)
+by_place-kept xs more =
+    one_order in_front front_order _ _ (sorted-by_place (by_place xs ++ more)) (sorted-by_place (xs ++ more)) (λ z.
+    by_place-ties z (by_place xs ++ more)
+    ∙ filter-append (ties in_front z) (by_place xs) more
+    ∙ ap (λ l. l ++ filter (ties in_front z) more) (by_place-ties z xs)
+    ∙ sym (filter-append (ties in_front z) xs more)
+    ∙ sym (by_place-ties z (xs ++ more)))
+
+-- in one column it is the order by day
+module _ (assets : List AssetRow) (q : ColumnAdjustment → Bool) (one : (x y : ColumnAdjustment) → q x ≡ true → q y ≡ true → x.col ≡ y.col) (ws : List Adjustment) where
+  abbrev columns : List ColumnAdjustment
+  columns = map (in_column assets) ws
+
+  abbrev days : List ColumnAdjustment
+  days = map (in_column assets) (by_day ws)
+
+  rising : AllPairs (λ x y. x.event.day ≤ℤ y.event.day) days
+  rising i j d h l =
+      let none : Adjustment = record { sid = 0; event = d.event } in
+      let many : length (map (in_column assets) (by_day ws)) ≡ length (by_day ws) = length-map (by_day ws) (in_column assets) in
+      rw (get_or-map (in_column assets) (by_day ws) i none d (omega arith), get_or-map (in_column assets) (by_day ws) j none d (omega arith))
+      ((by_day-is_by_day ws).rising i j none h (omega arith))
+
+  days_rise : IsSorted place_cmp (filter q days)
+  days_rise k d low h =
+      let first = filter_passes q days k d (omega arith) in
+      let next = filter_passes q days (k + 1) d h in
+      let x : ColumnAdjustment = get_or (filter q days) k d in
+      let y : ColumnAdjustment = get_or (filter q days) (k + 1) d in
+      stays_behind x.col y.col x.event.day y.event.day (omega (arith, one x y first next)) (AllPairs-filter (λ x y. x.event.day ≤ℤ y.event.day) q days rising k (k + 1) d (omega arith) h)
+
+  pub by_place-column : filter q (by_place columns) ≡ filter q days
+  by_place-column =
+      one_order in_front front_order (filter q (by_place columns)) (filter q days) (IsSortedBy-filter in_front front_order q (by_place columns) (sorted-by_place columns)) days_rise (λ z.
+      filter-swap (ties in_front z) q (by_place columns)
+      ∙ ap (filter q) (by_place-ties z columns ∙ sym (by_day-ties assets z ws))
+      ∙ sym (filter-swap (ties in_front z) q days))
 
 -- nothing is lost by it
 place-permutes : (x : ColumnAdjustment) (ys : List ColumnAdjustment) → IsPermutation (x ∷ ys) (insert_at_place x ys)
