@@ -6,7 +6,7 @@ use Rattle.std.proofs.lemmas.List.Elements.{All-push}
 use Rattle.std.specs.List.{position_or_len}
 use Rattle.std.specs.Str.{bytes_eq}
 use Rattle.pl_assets.specs.Labels.{first_seen, with_text}
-use Rattle.pl_assets.proofs.FirstSeen.{Once, seen-more, seen-once, seen-count, text_stays, more_texts, text_placed}
+use Rattle.pl_assets.proofs.FirstSeen.{Once, names_count, names_more, seen-once, text_stays, more_texts, text_placed}
 use Rattle.pl_assets.proofs.TextLists.{not_new}
 use Rattle.pl_spec.specs.Parts.{ColumnNumber}
 use Rattle.pl_numbers.specs.Numbers.{names_of}
@@ -16,17 +16,11 @@ use Rattle.pl_numbers.specs.declared.rows.NumberRows.{NumberRows}
 
 -- ---- their names
 
-pub names_more : (rows : List ColumnNumber) (r : ColumnNumber) → names_of (rows ++ r ∷ []) ≡ with_text (names_of rows) r.name
-names_more rows r = ap first_seen (map-append (λ (r : ColumnNumber). r.name) rows (r ∷ [])) ∙ seen-more (map (λ (r : ColumnNumber). r.name) rows) r.name
-
-pub names_count : (rows : List ColumnNumber) → length (names_of rows) ≤ length rows
-names_count rows = omega (arith, seen-count (map (λ (r : ColumnNumber). r.name) rows), length-map rows (λ (r : ColumnNumber). r.name))
-
 pub once_named : (t : NumberRows) → AreNumbered t → Once t.names
 once_named t h = rw h.names (seen-once (map (λ (r : ColumnNumber). r.name) (shown_rows t)))
 
 pub few_names : (t : NumberRows) → AreNumbered t → length t.names ≤ length t.places.items
-few_names t h = let same : length t.names ≡ length (names_of (shown_rows t)) = ap length h.names in omega (arith, names_count (shown_rows t), length-map t.places.items (row_at t.names))
+few_names t h = let same : length t.names ≡ length (names_of (shown_rows t)) = ap length h.names in omega (arith, names_count (λ (r : ColumnNumber). r.name) (shown_rows t), length-map t.places.items (row_at t.names))
 
 -- a name that has a place is not new
 pub name_known : (names : List (List ℕ)) (name : List ℕ) → position_or_len (bytes_eq name) names < length names → names ≡ with_text names name
@@ -81,7 +75,7 @@ numbered_more old new name p h n e next =
     let rows : shown_rows new ≡ shown_rows old ++ row_named name p ∷ [] = rows_more old new name p h n e next in
     record {
       places = rw (n, e) (All-push (IsPlace (with_text old.names name)) old.places.items p (places_kept old.names name old.places.items h.places) alone);
-      names = n ∙ ap (λ l. with_text l name) h.names ∙ sym (ap names_of rows ∙ names_more (shown_rows old) (row_named name p));
+      names = n ∙ ap (λ l. with_text l name) h.names ∙ sym (ap names_of rows ∙ names_more (λ (r : ColumnNumber). r.name) (shown_rows old) (row_named name p));
     }
   where
     alone : IsPlace (with_text old.names name) p

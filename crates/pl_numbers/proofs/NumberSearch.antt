@@ -1,7 +1,6 @@
 -- The number of a column on a day, found by keys.
 use Rattle.std.proofs.Common.{◌≡◌, ℕ, ◌-◌, ◌<◌, ◌≤◌, ◌^◌, nat_le, true, false, ℤ, pos, negsuc, ◌≤ℤ◌, ◌<ℤ◌, List, [], length, map, get_or, Option, Some, None, option_map, unwrap_or, slice_get, neg_ℤ, FitsSigned, w32, refl, sym, ap, ◌∙◌, arith, inl, inr}
 use Rattle.std.specs.Prelude.{Contains}
-use Rattle.std.specs.List.Sorted.{IsPartitionedBy}
 use Rattle.std.proofs.lemmas.Int.{ints}
 use Rattle.std.proofs.lemmas.Bool.{cases_lt}
 use Rattle.std.proofs.lemmas.Bool.Decides.{nat_tests}
@@ -30,12 +29,6 @@ blank = record { name = 0; col = 0; known = pos 0; value = pos 0 }
 
 blank_row : ColumnNumber
 blank_row = record { name = []; col = 0; known = pos 0; value = pos 0 }
-
-pub parted : (places : List Place) (k : ℕ) → Rise places → IsPartitionedBy (λ p. nat_le (key_of p) k) places
-parted places k up i j d h l t =
-    let le : key_of (get_or places i d) ≤ key_of (get_or places j d) = rising_at key_of places up i j d h l in
-    let low : key_of (get_or places j d) ≤ k = grind (arith, nat_tests) in
-    let both : key_of (get_or places i d) ≤ k = omega arith in grind (arith, nat_tests)
 
 -- the row is of the name and the column, and was known by the day
 pub record IsOf (number col : ℕ) (day : ℤ) (p : Place) : Type 0 where

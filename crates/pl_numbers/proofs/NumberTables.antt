@@ -1,15 +1,12 @@
 -- Tables of numbers: rows that were read, in the order of their keys.
-use Rattle.std.proofs.Common.{◌≡◌, ◌≢◌, ℕ, suc, ◌==◌, ◌<◌, ◌≤◌, ◌^◌, nat_le, Bool, true, false, cond, pos, ◌+◌, List, [], ◌∷◌, length, map, get_or, All, AllPairs, Contains, IsPermutation, refl, sym, subst, ap, ◌∙◌, arith}
-use Rattle.std.specs.List.{count_by}
+use Rattle.std.proofs.Common.{◌≡◌, ◌≢◌, ℕ, suc, ◌<◌, ◌^◌, nat_le, Bool, true, false, cond, pos, List, [], ◌∷◌, length, map, get_or, All, AllPairs, Contains, IsPermutation, refl, sym, subst, ap, ◌∙◌, arith}
 use Rattle.std.proofs.lemmas.Bool.{true≢false}
-use Rattle.std.proofs.lemmas.Bool.Decides.{nat_tests}
 use Rattle.std.proofs.lemmas.List.{length-map, get_or-map}
 use Rattle.std.proofs.lemmas.List.Elements.{All-map}
 use Rattle.std.proofs.lemmas.List.Sorted.{All-permutation, IsPermutation-map}
 use Rattle.pl_records.proofs.RuleTables.{not_true}
 use Rattle.pl_records.specs.Sorted.{HasOwnKeys, insert_by, sorted_by}
 use Rattle.pl_records.proofs.Sorts.{sorted-rises, sorted-permutes, length-sorted_by}
-use Rattle.pl_spec.proofs.Counts.{count-cons}
 use Rattle.pl_spec.specs.Dates.{IsDay}
 use Rattle.pl_spec.specs.Rounding.{IsCell}
 use Rattle.pl_spec.specs.declared.AssetRow.{AssetRow}
@@ -35,34 +32,9 @@ one_key names p q h g e =
     let parts = same_key p.name p.col p.known q.name q.col q.known h.col col h.day g.day e in
     parts_from (row_at names p).name (row_at names p).col (row_at names p).known (row_at names q) (ap (λ n. get_or names n []) (sym parts.0)) (sym parts.1) (sym parts.2)
 
-none_counted : {A : Type 0} (p : A → Bool) (xs : List A) → All (λ x. p x ≡ false) xs → count_by p xs ≡ 0
-none_counted p [] none = refl
-none_counted p (x ∷ xs) none = count-cons p x xs ∙ here (p x) (count_by p xs) (none 0 x (omega arith)) (none_counted p xs (λ k d h. none (suc k) d (omega arith)))
-  where
-    here : (b : Bool) (n : ℕ) → b ≡ false → n ≡ 0 → cond b 1 0 + n ≡ 0
-    here true n e f = absurd (true≢false e)
-    here false n e f = omega (arith, f)
-
-pub counted : (places : List Place) → AllPairs (λ p q. key_of p ≢ key_of q) places → (k : ℕ) → count_by (λ p. key_of p == k) places ≤ 1
-counted [] differ k = omega arith
-counted (p ∷ ps) differ k = rw (count-cons (λ p. key_of p == k) p ps) (here (key_of p == k) refl (counted ps (λ i j d h l. differ (suc i) (suc j) d (omega arith) (omega arith)) k))
-  where
-    other : (a b : ℕ) → a ≢ b → (a == k) ≡ true → (b == k) ≡ false
-    other a b ne t = grind (arith, nat_tests)
-
-    here : (b : Bool) → (key_of p == k) ≡ b → count_by (λ p. key_of p == k) ps ≤ 1 → cond b 1 0 + count_by (λ p. key_of p == k) ps ≤ 1
-    here true t few =
-        let none : count_by (λ p. key_of p == k) ps ≡ 0 =
-        none_counted (λ p. key_of p == k) ps (λ i d h. other (key_of p) (key_of (get_or ps i d)) (differ 0 (suc i) d (omega arith) (omega arith)) t) in
-        omega (arith, none)
-    here false t few = omega (arith, few)
-
 pub own_keys : (t : NumberRows) → AreNumbered t → AllPairs (λ r q. is_from r.name r.col r.known q ≡ false) (shown_rows t) → HasOwnKeys key_of t.places.items
-own_keys t h once = record { once = counted t.places.items differ }
+own_keys t h once = record { apart = differ }
   where
-    row : Place → ColumnNumber
-    row = row_at t.names
-
     differ : AllPairs (λ p q. key_of p ≢ key_of q) t.places.items
     differ i j d lt l e =
         let p : Place = get_or t.places.items i d in

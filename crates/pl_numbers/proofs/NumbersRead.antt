@@ -12,9 +12,9 @@ use Rattle.pl_spec.specs.declared.AssetRow.{AssetRow}
 use Rattle.pl_spec.proofs.Columns.{no_asset}
 use Rattle.pl_records.proofs.Readings.{few-more, rows-keep, under_ok}
 use Rattle.pl_records.proofs.RuleTables.{and_then_some, map_some, told_ok, ok_or-Ok}
-use Rattle.pl_lifetimes.specs.Assets.{sid_of}
+use Rattle.pl_lifetimes.specs.Assets.{col_in, sid_of}
 use Rattle.pl_spec.specs.Parts.{ColumnNumber}
-use Rattle.pl_numbers.specs.Numbers.{breaks, col_in, in_column, row_of, header, number_in, is_from, number_or_rule, number_rows_in}
+use Rattle.pl_numbers.specs.Numbers.{breaks, in_column, row_of, header, number_in, is_from, number_or_rule, number_rows_in}
 use Rattle.pl_numbers.specs.Numbers as rules
 use Rattle.pl_numbers.proofs.NumberFields.{number_cell, number_day}
 use Rattle.pl_assets.proofs.Dated.{once-more}
@@ -33,8 +33,8 @@ unfolding number_or_rule
 read-more assets before r row h s =
     let k = told_ok rules.rules (breaks assets before r) (ok_or (row_of assets r) rules.BadField) row s in
     let at : row_of assets r ≡ Some row = ok_or-Ok (row_of assets r) rules.BadField row k.1 in
-    let n = and_then_some (number_in r) (λ n. option_map (in_column n) (col_in assets n)) row at in
-    let c = map_some (col_in assets n.0) (in_column n.0) row n.2 in
+    let n = and_then_some (number_in r) (λ n. option_map (in_column n) (col_in assets n.sid)) row at in
+    let c = map_some (col_in assets n.0.sid) (in_column n.0) row n.2 in
     let col = position-Some (λ a. sid_of a == n.0.sid) assets c.0 no_asset c.1 in
     let own : list_any (is_from row.name row.col row.known) before ≡ false = rw at at k.0.1.1.1.0 in
     record {

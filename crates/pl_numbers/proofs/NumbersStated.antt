@@ -1,21 +1,20 @@
 -- Records that state rows of which no two have one key say these rows.
-use Rattle.std.proofs.Common.{◌≡◌, ◌≢◌, ℕ, zero, suc, ◌+◌, ◌<◌, ◌≤◌, nat_le, false, List, [], ◌∷◌, ◌++◌, length, length-append, append_assoc, drop, get_or, AllPairs, IfSome, OnSome, Option, option_map, Some, None, Ok, Err, refl, sym, ap, ◌∙◌, arith}
+use Rattle.std.proofs.Common.{◌≡◌, ℕ, ◌+◌, ◌<◌, ◌≤◌, nat_le, false, List, [], ◌∷◌, ◌++◌, length, length-append, append_assoc, drop, get_or, AllPairs, IfSome, OnSome, Option, option_map, Some, None, Ok, Err, refl, sym, ap, ◌∙◌, arith}
 use Rattle.std.specs.List.{list_any}
 use Rattle.std.specs.Option.{ok_or}
 use Rattle.std.proofs.lemmas.Bool.Decides.{nat_tests}
-use Rattle.std.proofs.lemmas.List.{append-nil, get_or_append_left, get_or_default}
+use Rattle.std.proofs.lemmas.List.{append-nil, get_or_append_left}
 use Rattle.std.proofs.lemmas.List.Folds.{list_any_none}
 use Rattle.std.proofs.Math.Seq.{get_or-append_seam}
 use Rattle.pl_records.specs.Reading.{Record, at_line, ◌>>=◌, rows_behind, rows_under}
 use Rattle.pl_records.specs.Sorted.{HasOwnKeys, sorted_by}
 use Rattle.pl_records.proofs.Readings.{rows-keep, under_ok}
 use Rattle.pl_records.proofs.RuleTables.{and_then_some, map_some}
-use Rattle.pl_records.proofs.Sorts.{other_keys, own_rest}
-use Rattle.pl_spec.proofs.Members.{contains-in}
 use Rattle.pl_spec.specs.Limits.{most_numbers}
 use Rattle.pl_spec.specs.Parts.{ColumnNumber}
 use Rattle.pl_spec.specs.declared.AssetRow.{AssetRow}
-use Rattle.pl_numbers.specs.Numbers.{BadField, BadHeader, header, col_in, in_column, is_from, number_in, number_rows_in, numbers_of, row_of, number_or_rule, table_of}
+use Rattle.pl_lifetimes.specs.Assets.{col_in}
+use Rattle.pl_numbers.specs.Numbers.{BadField, BadHeader, header, in_column, is_from, number_in, number_rows_in, numbers_of, row_of, number_or_rule, table_of}
 use Rattle.pl_numbers.specs.NumberPlaces.{AreNumbered, AreStated, IsTableOf, key_of, shown_rows, states}
 use Rattle.pl_numbers.specs.declared.rows.NumberRows.{NumberRows}
 use Rattle.pl_assets.proofs.Dated.{flips}
@@ -26,18 +25,11 @@ use Rattle.pl_numbers.proofs.NumberTables.{told_apart, cols_kept, table_kept, ta
 
 -- ---- rows with keys of their own
 
-differ : {A : Type 0} (k : A → ℕ) (xs : List A) → HasOwnKeys k xs → AllPairs (λ p q. k p ≢ k q) xs
-differ k [] own i j d h l e = absurd (omega arith)
-differ k (x ∷ xs) own i zero d h l e = absurd (omega arith)
-differ k (x ∷ xs) own zero (suc j) d h l e =
-    other_keys k x xs own (get_or xs j d) (contains-in xs (get_or xs j d) (j, omega arith, get_or_default xs j (get_or xs j d) d (omega arith))) (sym e)
-differ k (x ∷ xs) own (suc i) (suc j) d h l e = differ k xs (own_rest k x xs own) i j d (omega arith) (omega arith) e
-
 abbrev Apart : List ColumnNumber → Type 0
 Apart rows = AllPairs (λ r q. is_from r.name r.col r.known q ≡ false) rows
 
 apart : (t : NumberRows) → AreNumbered t → HasOwnKeys key_of t.places.items → Apart (shown_rows t)
-apart t h own = told_apart t (once_named t h) h.places (differ key_of t.places.items own)
+apart t h own = told_apart t (once_named t h) h.places own.apart
 
 -- ---- a row with others before it
 
@@ -61,8 +53,8 @@ say_row : (assets : List AssetRow) (before : List ColumnNumber) (r : Record) (ro
     → list_any (is_from row.name row.col row.known) before ≡ false → number_or_rule assets before r ≡ Ok row
 unfolding number_or_rule
 say_row assets before r row at few own =
-    let n = and_then_some (number_in r) (λ n. option_map (in_column n) (col_in assets n)) row at in
-    let c = map_some (col_in assets n.0) (in_column n.0) row n.2 in
+    let n = and_then_some (number_in r) (λ n. option_map (in_column n) (col_in assets n.sid)) row at in
+    let c = map_some (col_in assets n.0.sid) (in_column n.0) row n.2 in
     let room : nat_le most_numbers (length before) ≡ false = grind (arith, nat_tests) in
     let new : list_any (is_from n.0.name c.0 n.0.known) before ≡ false = ap (λ (x : ColumnNumber). list_any (is_from x.name x.col x.known) before) c.2 ∙ own in
     rw (room, n.1, c.1, new) (ap (λ (x : ColumnNumber). Ok x) c.2)

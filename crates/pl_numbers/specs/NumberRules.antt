@@ -1,18 +1,17 @@
 -- The rules of a numbers file in plain words.
 use Rattle.std.specs.Prelude.{◌≡◌, ℕ, ◌^◌, ◌<◌, ◌≤◌, IsTrue, List, length, Any}
 use Rattle.std.specs.Fmt.{decimal}
-use Rattle.pl_records.specs.Reading.{Record, Fault, field, AreRowsUnder, IsFaultUnder}
+use Rattle.pl_records.specs.Reading.{Record, Fault, field, IsMadeUnder, IsFaultUnder}
 use Rattle.pl_records.specs.RuleTable.{IsFirstBroken, KeepsAll}
-use Rattle.pl_records.specs.Sorted.{sorted_by}
 use Rattle.pl_spec.specs.Dates.{IsDate}
 use Rattle.pl_spec.specs.Limits.{most_numbers}
 use Rattle.pl_spec.specs.Names.{is_name}
 use Rattle.pl_spec.specs.Numbers.{NumberRow}
 use Rattle.pl_spec.specs.declared.AssetRow.{AssetRow}
-use Rattle.pl_lifetimes.specs.Assets.{HasSid}
+use Rattle.pl_lifetimes.specs.Assets.{HasSid, IsPlaced}
 use Rattle.pl_bars.specs.Rules.{IsCellText}
 use Rattle.pl_spec.specs.Parts.{ColumnNumber}
-use Rattle.pl_numbers.specs.Numbers.{Rule, BadHeader, TooMany, BadField, UnknownSid, Duplicate, NumberTable, rules, header, names_of, key_in}
+use Rattle.pl_numbers.specs.Numbers.{Rule, BadHeader, TooMany, BadField, UnknownSid, Duplicate, NumberTable, rules, header, in_column, table_of}
 
 -- the record is the name, the sid, without sign and leading zeros, the date from which the number counts and
 -- the text of its cell
@@ -25,19 +24,9 @@ pub record IsNumberRecord (r : Record) (n : NumberRow) : Type 0 where
   pub known : IsDate (field r 2) n.known
   pub value : IsCellText (field r 3) n.value
 
--- the row is that number in the column
-pub record IsInColumn (n : NumberRow) (col : ℕ) (row : ColumnNumber) : Type 0 where
-  pub name : row.name ≡ n.name
-  pub in_col : row.col ≡ col
-  pub known : row.known ≡ n.known
-  pub value : row.value ≡ n.value
-
 -- the record is the number of the row, which is in the column of its asset
-pub record IsRowRecord (assets : List AssetRow) (r : Record) (row : ColumnNumber) : Type 0 where
-  pub number : NumberRow
-  pub written : IsNumberRecord r number
-  pub asset : HasSid assets row.col number.sid
-  pub same : IsInColumn number row.col row
+abbrev pub IsRowRecord : List AssetRow → Record → ColumnNumber → Type 0
+IsRowRecord assets r row = IsPlaced IsNumberRecord (λ n. n.sid) in_column assets r row
 
 -- the rows are numbers of one name and one column, from one day on
 abbrev pub CountWith : ColumnNumber → ColumnNumber → Type 0
@@ -56,11 +45,8 @@ abbrev pub IsNumber : List AssetRow → List ColumnNumber → Record → ColumnN
 IsNumber assets before r row = IsRowRecord assets r row × KeepsAll rules (Breaks assets before r)
 
 -- the rows of the records after the header, by name, column and day, and their names
-pub record AreNumbersOf (assets : List AssetRow) (records : List Record) (table : NumberTable) : Type 0 where
-  pub rows : List ColumnNumber
-  pub read : AreRowsUnder header (IsNumber assets) records rows
-  pub names : table.names ≡ names_of rows
-  pub sorted : table.rows ≡ sorted_by (key_in table.names) rows
+abbrev pub AreNumbersOf : List AssetRow → List Record → NumberTable → Type 0
+AreNumbersOf assets records table = IsMadeUnder header (IsNumber assets) table_of records table
 
 -- no header, or the first faulty record
 abbrev pub IsNumbersFault : List AssetRow → List Record → Fault Rule → Type 0

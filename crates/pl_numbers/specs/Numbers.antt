@@ -1,6 +1,6 @@
 -- Numbers by column, with the list of their names: those of the records of a numbers file, and the first rule
 -- that a record breaks.
-use Rattle.std.specs.Prelude.{◌≡◌, ℕ, ◌==◌, ◌≤◌, ◌&&◌, nat_le, Bool, false, if◌then◌else◌, ℤ, codes, List, [], ◌∷◌, length, map, position, bytes_eq, All, AllPairs, Contains, Option, None, option_map, option_and_then, Result, Ok}
+use Rattle.std.specs.Prelude.{◌≡◌, ℕ, ◌==◌, ◌≤◌, ◌&&◌, nat_le, Bool, false, if◌then◌else◌, ℤ, codes, List, [], ◌∷◌, length, map, bytes_eq, All, AllPairs, Contains, Option, None, option_map, option_and_then, Result, Ok}
 use Rattle.std.specs.List.{list_any, position_or_len}
 use Rattle.std.specs.Option.{ok_or}
 use Rattle.std.specs.Ordering.{int_eq}
@@ -15,7 +15,7 @@ use Rattle.pl_spec.specs.Numbers.{NumberRow, number_at, known_at}
 use Rattle.pl_spec.specs.Parts.{ColumnNumber}
 use Rattle.pl_spec.specs.Rounding.{IsCell}
 use Rattle.pl_spec.specs.declared.AssetRow.{AssetRow}
-use Rattle.pl_lifetimes.specs.Assets.{sid_of}
+use Rattle.pl_lifetimes.specs.Assets.{col_in, placed}
 use Rattle.pl_assets.specs.Labels.{first_seen}
 use Rattle.pl_assets.specs.LabelPlaces.{key}
 use Rattle.pl_bars.specs.Bars.{cell_in}
@@ -73,17 +73,13 @@ number_in r =
 abbrev pub is_from : List ℕ → ℕ → ℤ → ColumnNumber → Bool
 is_from name col known r = bytes_eq r.name name && (r.col == col && int_eq r.known known)
 
--- the column of the asset of a number
-abbrev pub col_in : List AssetRow → NumberRow → Option ℕ
-col_in assets n = position (λ a. sid_of a == n.sid) assets
-
 -- the number in a column
 abbrev pub in_column : NumberRow → ℕ → ColumnNumber
 in_column n col = record { name = n.name; col = col; known = n.known; value = n.value }
 
 -- the row of a record of a number of an asset
 abbrev pub row_of : List AssetRow → Record → Option ColumnNumber
-row_of assets r = option_and_then (λ n. option_map (in_column n) (col_in assets n)) (number_in r)
+row_of assets r = placed number_in (λ n. n.sid) in_column assets r
 
 -- the rules of a record after the header, in the order in which they are tested, and their tests
 abbrev pub rules : List Rule
@@ -93,7 +89,7 @@ abbrev pub breaks : List AssetRow → List ColumnNumber → Record → Rule → 
 breaks assets before r BadHeader = false
 breaks assets before r TooMany = nat_le most_numbers (length before)
 breaks assets before r BadField = lacks (number_in r)
-breaks assets before r UnknownSid = has (λ n. lacks (col_in assets n)) (number_in r)
+breaks assets before r UnknownSid = has (λ n. lacks (col_in assets n.sid)) (number_in r)
 breaks assets before r Duplicate = has (λ row. list_any (is_from row.name row.col row.known) before) (row_of assets r)
 
 -- the row of a record after the rows before it, or the first rule that it breaks

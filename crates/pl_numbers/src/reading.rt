@@ -1,10 +1,10 @@
 //! Reads the records of a numbers file one after the other, up to the first fault.
-ghost use Rattle.std.specs.Prelude.{◌≡◌, ◌+◌, ◌==◌, ◌++◌, ◌∷◌, ◌<◌, ◌≤◌, ◌^◌, not, [], drop, length, position, bytes_eq, IfOk, IfSome, IsTrue, OnOk, OnSome, option_map};
+ghost use Rattle.std.specs.Prelude.{◌≡◌, ◌+◌, ◌++◌, ◌∷◌, ◌<◌, ◌≤◌, ◌^◌, not, [], drop, length, bytes_eq, IfOk, IfSome, IsTrue, OnOk, OnSome, option_map};
 ghost use Rattle.std.specs.List.{list_any, position_or_len};
 ghost use Rattle.pl_spec.specs.Limits.{most_assets, most_numbers};
 ghost use Rattle.pl_records.specs.Reading.{Answers, at_line, has_header, rows_of};
 ghost use Rattle.pl_records.specs.Records.{csv_records};
-ghost use Rattle.pl_lifetimes.specs.Assets.{sid_of};
+ghost use Rattle.pl_lifetimes.specs.Assets.{col_in};
 ghost use Rattle.pl_numbers.specs.Numbers.{header, is_from, number_in, number_rows_in, number_or_rule};
 ghost use Rattle.pl_numbers.specs.NumberFaults.{fault_of};
 ghost use Rattle.pl_numbers.specs.NumberPlaces.{AreNumbered, AreSeen, IsNumberAfter, key_next, key_of, number_from, row_from, shown_rows};
@@ -153,19 +153,12 @@ fn is_new(
 // of the next one, so these are tried before it is searched for.
 pub(crate) fn col_of(before: &[Place], assets: &Assets, sid: u32) -> Option<usize>
     ensures few { IfSome result (λ i. i < most_assets) }
-    ensures exact { result ≡ position (λ a. sid_of a == sid) assets.now }
+    ensures exact { result ≡ col_in assets.now sid }
 {
-    if let [.., last] = before {
-        let same = last.col as usize;
-        let next = same + 1;
-        if same < assets.len() && assets.sid(same) == sid {
-            return Some(same);
-        }
-        if next < assets.len() && assets.sid(next) == sid {
-            return Some(next);
-        }
+    match before {
+        [.., last] => assets.col_near(last.col, sid),
+        [] => assets.col_of(sid),
     }
-    assets.col_of(sid)
 }
 
 // The sid, the day and the cell of a record.
