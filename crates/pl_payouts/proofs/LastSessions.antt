@@ -1,5 +1,5 @@
 -- The last session before a day.
-use Rattle.std.proofs.Common.{◌≡◌, ℕ, zero, suc, ◌<◌, ◌≤◌, Bool, true, false, ℤ, ◌<ℤ◌, ◌≤ℤ◌, List, [], ◌∷◌, length, filter, get_or, Option, Some, None, unwrap_or, position, refl, sym, ◌∙◌, ap, arith, inl, inr}
+use Rattle.std.proofs.Common.{◌≡◌, ℕ, zero, suc, ◌<◌, ◌≤◌, Bool, true, false, ℤ, ◌<ℤ◌, ◌≤ℤ◌, List, length, get_or, Option, Some, None, unwrap_or, position, refl, sym, ◌∙◌, ap, arith, inl, inr}
 use Rattle.std.specs.List.{AllPairs}
 use Rattle.std.specs.Int.RustNames.{int_lt, int_le}
 use Rattle.std.proofs.lemmas.Int.{ints}
@@ -7,7 +7,7 @@ use Rattle.std.proofs.lemmas.Bool.{cases_lt}
 use Rattle.std.proofs.lemmas.List.Quantifiers.{position-Some}
 use Rattle.std.proofs.lemmas.Option.{slice_get-get_or, slice_get_within, get_or_from_slice_get}
 use Rattle.pl_spec.proofs.Places.{nowhere}
-use Rattle.pl_payouts.specs.Ratios.{last_of, last_before}
+use Rattle.pl_payouts.specs.Ratios.{last_of, last_before, sessions_before}
 use Rattle.pl_payouts.specs.RatioRules.{IsLastBefore}
 
 -- below n the elements pass the test, and from n on none does
@@ -15,15 +15,6 @@ pub record Parts (p : ℤ → Bool) (xs : List ℤ) (n : ℕ) : Type 0 where
   pub within : n ≤ length xs
   pub front : (k : ℕ) (d : ℤ) → k < n → p (get_or xs k d) ≡ true
   pub back : (k : ℕ) (d : ℤ) → n ≤ k → k < length xs → p (get_or xs k d) ≡ false
-
-length-filter : (p : ℤ → Bool) (xs : List ℤ) (n : ℕ) → Parts p xs n → length (filter p xs) ≡ n
-length-filter p [] n h = omega (arith, h.within)
-length-filter p (x ∷ xs) zero h =
-    let no : p x ≡ false = h.back 0 x (omega arith) (omega arith) in
-    rw no (length-filter p xs zero (record { within = omega arith; front = λ k d l. absurd (omega arith); back = λ k d l m. h.back (suc k) d (omega arith) (omega arith) }))
-length-filter p (x ∷ xs) (suc n) h =
-    let yes : p x ≡ true = h.front 0 x (omega arith) in
-    rw yes (ap suc (length-filter p xs n (record { within = omega (arith, h.within); front = λ k d l. h.front (suc k) d (omega arith); back = λ k d l m. h.back (suc k) d (omega arith) (omega arith) })))
 
 before : (d ex : ℤ) → int_le ex d ≡ false → int_lt d ex ≡ true
 before d ex t = grind (arith, ints)
@@ -35,7 +26,7 @@ later_not_before : (d e ex : ℤ) → d <ℤ e → int_le ex d ≡ true → int_
 later_not_before d e ex l t = grind (arith, ints)
 
 -- where the first day that is no earlier stands, or after all of them, the days are parted
-pub parted : (days : List ℤ) (ex : ℤ) → AllPairs (λ a b. a <ℤ b) days → (o : Option ℕ) → position (λ d. int_le ex d) days ≡ o → Parts (λ d. int_lt d ex) days (unwrap_or o (length days))
+parted : (days : List ℤ) (ex : ℤ) → AllPairs (λ a b. a <ℤ b) days → (o : Option ℕ) → position (λ d. int_le ex d) days ≡ o → Parts (λ d. int_lt d ex) days (unwrap_or o (length days))
 parted days ex up None e =
     record {
       within = omega arith;
@@ -52,16 +43,11 @@ parted days ex up (Some n) e =
       ];
     }
 
-pub sessions-before : (days : List ℤ) (ex : ℤ) → AllPairs (λ a b. a <ℤ b) days → (o : Option ℕ) → position (λ d. int_le ex d) days ≡ o → length (filter (λ d. int_lt d ex) days) ≡ unwrap_or o (length days)
-sessions-before days ex up o e = length-filter (λ d. int_lt d ex) days (unwrap_or o (length days)) (parted days ex up o e)
-
 -- ---- in plain words
 
 module _ (days : List ℤ) (ex : ℤ) (up : AllPairs (λ a b. a <ℤ b) days) where
-  parts : Parts (λ d. int_lt d ex) days (length (filter (λ d. int_lt d ex) days))
-  parts =
-      let o = position (λ d. int_le ex d) days in
-      rw (sessions-before days ex up o refl) (parted days ex up o refl)
+  parts : Parts (λ d. int_lt d ex) days (sessions_before days ex)
+  parts = parted days ex up (position (λ d. int_le ex d) days) refl
 
   lt_if : (d : ℤ) → int_lt d ex ≡ true → d <ℤ ex
   lt_if d t = grind (arith, ints)
@@ -74,7 +60,7 @@ module _ (days : List ℤ) (ex : ℤ) (up : AllPairs (λ a b. a <ℤ b) days) wh
 
   pub last-is : (s : ℕ) → last_before days ex ≡ Some s → IsLastBefore days ex s
   unfolding last_before
-  last-is s e = here (length (filter (λ d. int_lt d ex) days)) parts e
+  last-is s e = here (sessions_before days ex) parts e
     where
       here : (n : ℕ) → Parts (λ d. int_lt d ex) days n → last_of n ≡ Some s → IsLastBefore days ex s
       here zero h e = absurd (let bad : None ≡ Some s = e in cc)
@@ -90,7 +76,7 @@ module _ (days : List ℤ) (ex : ℤ) (up : AllPairs (λ a b. a <ℤ b) days) wh
 
   pub last-none : last_before days ex ≡ None → (s : ℕ) → ¬ IsLastBefore days ex s
   unfolding last_before
-  last-none e s is = here (length (filter (λ d. int_lt d ex) days)) parts e
+  last-none e s is = here (sessions_before days ex) parts e
     where
       here : (n : ℕ) → Parts (λ d. int_lt d ex) days n → last_of n ≡ None → ⊥
       here zero h e =

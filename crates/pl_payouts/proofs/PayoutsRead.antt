@@ -13,11 +13,10 @@ use Rattle.pl_records.proofs.RuleTables.{told_ok, ok_or-Ok, lacks-tells, has-tel
 use Rattle.pl_spec.specs.declared.AssetRow.{AssetRow}
 use Rattle.pl_spec.proofs.DatesWritten.{IsDay-IsDate}
 use Rattle.pl_lifetimes.specs.Assets.{AreAssets}
-use Rattle.pl_lifetimes.specs.Assets.{HasSid}
-use Rattle.pl_lifetimes.proofs.SidColumns.{sid_form, sid_known}
+use Rattle.pl_lifetimes.proofs.SidColumns.{sid_known, unknown_tells}
 use Rattle.pl_payouts.specs.declared.reading.Dividend.{Dividend}
 use Rattle.pl_spec.specs.Limits.{most_payouts}
-use Rattle.pl_payouts.specs.Payouts.{Rule, breaks, col_in, dividend_in, header, is_above_0, dividend_or_rule, payouts_of, ArePayouts, AreKnown, IsPaid}
+use Rattle.pl_payouts.specs.Payouts.{Rule, breaks, dividend_in, header, is_above_0, dividend_or_rule, payouts_of, ArePayouts, AreKnown, IsPaid}
 use Rattle.pl_payouts.specs.Payouts as rules
 use Rattle.pl_payouts.specs.Rules.{IsDividendRecord, IsDividend, Breaks, ArePayoutsOf, IsPayoutsFault}
 use Rattle.pl_payouts.proofs.DividendFields.{dividend_form}
@@ -36,8 +35,7 @@ module _ (assets : List AssetRow) (up : AreAssets assets) where
   tells before r rules.BadHeader = (λ t. absurd (let bad : false ≡ true = t in cc), λ h. absurd h)
   tells before r rules.TooMany = (λ t. grind (arith, nat_tests), λ h. grind (arith, nat_tests))
   tells before r rules.BadField = lacks-tells dividend_in IsDividendRecord dividend_form r
-  tells before r rules.UnknownSid =
-      has-tells dividend_in IsDividendRecord dividend_form _ _ (lacks-tells (col_in assets) (λ d col. HasSid assets col d.sid) (λ d. sid_form assets up d.sid)) r
+  tells before r rules.UnknownSid = has-tells dividend_in IsDividendRecord dividend_form _ _ (λ d. unknown_tells assets up d.sid) r
   tells before r rules.NotPositive = has-tells dividend_in IsDividendRecord dividend_form _ _ above_tells r
 
   pub payouts_judged : Judges (IsDividend assets) (λ before r. IsFirstBroken rules.rules (Breaks assets before r)) (dividend_or_rule assets)

@@ -1,5 +1,5 @@
 -- The payouts of the records of a payouts file, and the first rule that a record breaks.
-use Rattle.std.specs.Prelude.{ℕ, ◌==◌, ◌≤◌, nat_le, not, Bool, false, if◌then◌else◌, ℤ, pos, ◌<ℤ◌, codes, List, [], ◌∷◌, length, All, Option, None, option_map, option_and_then, position, Result}
+use Rattle.std.specs.Prelude.{ℕ, ◌==◌, ◌≤◌, nat_le, not, Bool, false, if◌then◌else◌, ℤ, pos, ◌<ℤ◌, codes, List, [], ◌∷◌, length, All, Option, None, option_map, option_and_then, Result}
 use Rattle.std.specs.Result.{result_ok}
 use Rattle.std.specs.Int.RustNames.{int_lt}
 use Rattle.std.specs.Option.{ok_or}
@@ -10,7 +10,7 @@ use Rattle.pl_spec.specs.Dates.{IsDay, date_in}
 use Rattle.pl_spec.specs.Decimals.{sid_in}
 use Rattle.pl_spec.specs.declared.AssetRow.{AssetRow}
 use Rattle.pl_fixed.specs.Reading.{read}
-use Rattle.pl_lifetimes.specs.Assets.{sid_of}
+use Rattle.pl_lifetimes.specs.Assets.{col_in}
 use Rattle.pl_payouts.specs.declared.Payout.{Payout}
 use Rattle.pl_payouts.specs.declared.reading.Dividend.{Dividend}
 use Rattle.pl_spec.specs.Limits.{most_payouts}
@@ -38,10 +38,6 @@ dividend_in r =
 abbrev pub is_above_0 : ℤ → Bool
 is_above_0 v = int_lt (pos 0) v
 
--- the column of the asset
-abbrev pub col_in : List AssetRow → Dividend → Option ℕ
-col_in assets d = position (λ a. sid_of a == d.sid) assets
-
 -- the rules of a record after the header, in the order in which they are tested, and their tests
 abbrev pub rules : List Rule
 rules = TooMany ∷ BadField ∷ UnknownSid ∷ NotPositive ∷ []
@@ -50,7 +46,7 @@ abbrev pub breaks : List AssetRow → List Dividend → Record → Rule → Bool
 breaks assets before r BadHeader = false
 breaks assets before r TooMany = nat_le most_payouts (length before)
 breaks assets before r BadField = lacks (dividend_in r)
-breaks assets before r UnknownSid = has (λ d. lacks (col_in assets d)) (dividend_in r)
+breaks assets before r UnknownSid = has (λ d. lacks (col_in assets d.sid)) (dividend_in r)
 breaks assets before r NotPositive = has (λ d. not (is_above_0 d.amount)) (dividend_in r)
 
 -- the payout of a record after the payouts before it, or the first rule that it breaks

@@ -1,6 +1,6 @@
 -- The row of a payout, or why it has none.
-use Rattle.std.specs.Prelude.{ℕ, zero, suc, ◌/◌, ◌%◌, ◌||◌, nat_lt, Bool, if◌then◌else◌, ℤ, pos, ◌-ℤ◌, ◌*ℤ◌, List, [], length, filter, Option, Some, None, option_map, Result, Ok, Err}
-use Rattle.std.specs.Int.RustNames.{int_lt, int_le, unsigned_abs}
+use Rattle.std.specs.Prelude.{ℕ, zero, suc, ◌/◌, ◌%◌, ◌||◌, nat_lt, Bool, if◌then◌else◌, ℤ, pos, ◌-ℤ◌, ◌*ℤ◌, List, [], length, position, Option, Some, None, option_map, unwrap_or, Result, Ok, Err}
+use Rattle.std.specs.Int.RustNames.{int_le, unsigned_abs}
 use Rattle.std.specs.Ordering.{int_eq}
 use Rattle.pl_spec.specs.Rounding.{Fraction, is_missing}
 use Rattle.pl_spec.specs.World.{bar_cell}
@@ -20,9 +20,13 @@ abbrev pub last_of : ℕ → Option ℕ
 last_of zero = None
 last_of (suc n) = Some n
 
+-- how many sessions stand before the first one of the day or a later day
+abbrev pub sessions_before : List ℤ → ℤ → ℕ
+sessions_before days ex = unwrap_or (position (λ d. int_le ex d) days) (length days)
+
 -- the last of the sessions before the day
 unfoldable pub last_before : List ℤ → ℤ → Option ℕ
-last_before days ex = last_of (length (filter (λ d. int_lt d ex) days))
+last_before days ex = last_of (sessions_before days ex)
 
 -- the raw close of an asset on a session
 abbrev pub raw_close : List ℤ → List AssetRow → List BarRow → ℕ → ℕ → ℤ

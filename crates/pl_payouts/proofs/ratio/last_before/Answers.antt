@@ -1,9 +1,7 @@
-use Rattle.std.proofs.Common.{◌≡◌, ◌∙◌, ◌≤◌, ◌-◌, ℕ, suc, zero, Option, Some, None, unwrap_or, length, filter, sym, ap, refl, arith, FitsSigned, w32}
+use Rattle.std.proofs.Common.{◌≡◌, ◌∙◌, ◌≤◌, ◌-◌, ℕ, suc, zero, Option, Some, None, unwrap_or, length, ap, refl, arith, FitsSigned, w32}
 use Rattle.std.specs.Prelude.{SomeIff}
-use Rattle.std.specs.Int.RustNames.{int_lt}
 use Rattle.std.proofs.lemmas.Int.{to_z-of_z}
-use Rattle.pl_payouts.specs.Ratios.{last_of, last_before}
-use Rattle.pl_payouts.proofs.LastSessions.{sessions-before}
+use Rattle.pl_payouts.specs.Ratios.{last_of, last_before, sessions_before}
 use Rattle.pl_payouts.proofs.ratio.last_before.Goals as goal
 
 one_less : (o : Option ℕ) (n : ℕ) → SomeIff o (1 ≤ n) (n - 1) → o ≡ last_of n
@@ -17,8 +15,6 @@ unfolding last_before
 returns c =
     let fits : FitsSigned w32 c.args.day = c.ranges.day in
     let found = simp to_z-of_z at c.first_at_or_after.ensures.exact in
-    let days = c.args.sessions.now in
-    let count : length (filter (λ d. int_lt d c.args.day) days) ≡ unwrap_or c.first_at_or_after.result (length days) =
-    sessions-before days c.args.day c.len-count.ensures.days.ascend c.first_at_or_after.result (sym found) in
-    let behind : c.unwrap_or-behind.result ≡ unwrap_or c.first_at_or_after.result (length days) = c.unwrap_or-behind.ensures ∙ ap (unwrap_or c.first_at_or_after.result) c.len-count.ensures.length in
-    one_less c.checked_sub.result c.unwrap_or-behind.result c.checked_sub.ensures ∙ ap last_of (behind ∙ sym count)
+    let behind : c.unwrap_or-behind.result ≡ sessions_before c.args.sessions.now c.args.day =
+    c.unwrap_or-behind.ensures ∙ ap (unwrap_or c.first_at_or_after.result) c.len-count.ensures.length ∙ ap (λ o. unwrap_or o (length c.args.sessions.now)) found in
+    one_less c.checked_sub.result c.unwrap_or-behind.result c.checked_sub.ensures ∙ ap last_of behind
