@@ -2,7 +2,6 @@
 use Rattle.std.proofs.Common.{◌≡◌, Bool, true, false, cond, ℕ, zero, suc, ◌+◌, ◌-◌, ◌*◌, ◌<◌, ◌≤◌, ℤ, pos, ◌≤ℤ◌, List, [], ◌∷◌, All, length, filter, filter_map, take, drop, get_or, sum_by, Some, slice_get, refl, sym, ◌∙◌, ap, subst, arith, inl, inr, length-take, length-drop, take_all}
 use Rattle.std.proofs.lemmas.Bool.{cases_lt}
 use Rattle.std.proofs.lemmas.List.{get_or_default, get_or-take, get_or-drop}
-use Rattle.std.proofs.lemmas.List.Sums.{sum_by-cons}
 use Rattle.pl_spec.specs.Rounding.{IsCell}
 use Rattle.pl_spec.specs.World.{World, IsWorld, Event, events_of}
 use Rattle.pl_spec.specs.declared.Column.{Column}
@@ -11,6 +10,7 @@ use Rattle.pl_spec.proofs.Windows.{bar_window-sessions}
 use Rattle.pl_adjarray.specs.Buffered.{Buffered, AreSeen, HasCells, applied_at, cell_at, col_at, ratio_count, world_of}
 use Rattle.pl_adjarray.specs.Inside.{IsReadyBuffer}
 use Rattle.pl_adjarray.specs.Stillness.{IsStill}
+use Rattle.pl_adjarray.proofs.Counts.{no_assets}
 use Rattle.pl_adjarray.proofs.Places.{part_is, rows_within}
 use Rattle.pl_adjarray.proofs.Slides.{days_le, has_day, moved_is_seen, next_applied, raw_is_seen}
 
@@ -33,10 +33,6 @@ still_seen : (w : World) → IsWorld w → (a : ℕ) (c : Column) (s d : ℕ) (f
 still_seen w ok a c s d from to h at_d at_next none =
     sym (moved_is_seen w ok a c s d from to h at_d at_next)
     ∙ ap (λ es. after_all (seen_cell w a c (pos s) (pos d)) (filter_map (effect c (get_or w.days s (pos 0))) es)) none
-
-none_of_all : (f : ℕ → ℕ) (xs : List ℕ) → ((i : ℕ) → i < length xs → f (get_or xs i 0) ≡ 0) → sum_by f xs ≡ 0
-none_of_all f [] none = refl
-none_of_all f (x ∷ xs) none = sum_by-cons f x xs ∙ (let e = none 0 (omega arith) in let r = none_of_all f xs (λ i h. none (suc i) (omega arith)) in omega (arith, e, r))
 
 module _ (b : Buffered) (ready : IsReadyBuffer b) (d n : ℕ) (low : b.first ≤ d) (high : d + n ≤ b.first + b.rows) (from to : ℤ) (at_d : slice_get b.days d ≡ Some from) (at_end : slice_get b.days (d + n) ≡ Some to)
     (none : (i : ℕ) → i < length b.cols → filter (is_between from to) (events_of (world_of b) (col_at b i)) ≡ []) where
@@ -67,7 +63,7 @@ module _ (b : Buffered) (ready : IsReadyBuffer b) (d n : ℕ) (low : b.first ≤
     applied_one =
         let gain = next_applied b ready (d + m) (get_or b.days (d + m) (pos 0)) (get_or b.days (d + m + 1) (pos 0)) (omega (arith, low)) (omega (arith, high, more)) today next_day (pos 0) in
         let zero_gain : sum_by (ratio_count b (pos 0) (get_or b.days (d + m) (pos 0)) (get_or b.days (d + m + 1) (pos 0))) b.cols ≡ 0
-        = none_of_all _ b.cols (λ i h. ap (λ es. step_count (filter_map (effect b.column (pos 0)) es)) (none_now i h)) in
+        = no_assets _ b.cols (λ i h. ap (λ es. step_count (filter_map (effect b.column (pos 0)) es)) (none_now i h)) in
         gain ∙ (rw zero_gain (omega arith))
 
   seen_all : (i j m : ℕ) → i < length b.cols → j < b.rows → m ≤ n

@@ -79,8 +79,8 @@ module _ (b : Buffered) (ready : IsReadyBuffer b) where
 
   pub none_applied : applied_at b b.first ≡ 0
   none_applied = let d = ready.range in
-      no_assets (row_count b b.first) b.cols (λ a. no_rows (λ s. step_count (effects (world_of b) a b.column (pos s) (pos b.first))) b.first b.rows
-      (λ s h k. none_counted (world_of b) ready.world a b.column s b.first h (omega arith)))
+      no_assets (row_count b b.first) b.cols (λ i l. no_rows (λ s. step_count (effects (world_of b) (get_or b.cols i 0) b.column (pos s) (pos b.first))) b.first b.rows
+      (λ s h k. none_counted (world_of b) ready.world (get_or b.cols i 0) b.column s b.first h (omega arith)))
 
   module _ (d : ℕ) (from to : ℤ) (low : b.first ≤ d) (high : d < b.first + b.rows) (at_d : slice_get b.days d ≡ Some from) (at_next : slice_get b.days (d + 1) ≡ Some to) where
     pub next_seen : (old new : List ℤ) → AreSeen b old d

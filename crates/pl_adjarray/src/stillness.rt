@@ -1,29 +1,35 @@
 //! For how long nothing changes in a buffer.
-ghost use Rattle.std.specs.Prelude.{◌≡◌, ◌+◌, ◌≤◌, ℕ, [], filter, option_map, slice_get};
-ghost use Rattle.pl_spec.specs.Window.{is_between};
-ghost use Rattle.pl_spec.specs.World.{events_of};
-ghost use Rattle.pl_adjarray.specs.Buffered.{world_of};
+ghost use Rattle.std.specs.Prelude.{◌≡◌, ◌+◌, ◌≤◌, ℕ, [], option_map, slice_get};
 ghost use Rattle.pl_adjarray.specs.Inside.{IsReadyBuffer};
 ghost use Rattle.pl_adjarray.specs.Stillness.{IsGreatest, IsQuiet, IsStill, effective_within};
 
 use crate::array::AdjustedArray;
+use pl_adjust::Adjust;
 
 // How many sessions are near.
 const NEAR: usize = 16;
 
-// The day of the first adjustment of a column's asset that becomes effective later than a day and by another.
-fn first_change(array: &AdjustedArray<'_>, col: u32, from: i32, to: i32) -> Option<i32>
-    ensures { result ≡ option_map (λ e. e.day)
-        (slice_get (filter (is_between from to) (events_of (world_of array.now) col)) 0) }
+// The day of an adjustment, where there is one.
+fn day_of(event: Option<&Adjust>) -> Option<i32>
+    ensures { result ≡ option_map (λ e. e.now.day) event.entry }
 {
-    match array
-        .adjustments
-        .events_between(col as usize, from, to)
-        .first()
-    {
+    match event {
         Some(event) => Some(event.day),
         None => None,
     }
+}
+
+// The day of the first adjustment of a column's asset that becomes effective on one of the `most` sessions
+// after one.
+fn first_change(array: &AdjustedArray<'_>, col: u32, session: usize, most: usize) -> Option<i32>
+    requires { session + most ≤ array.now.first + array.now.rows }
+    ensures { result ≡ option_map (λ e. e.day)
+        (slice_get (effective_within array.now session most col) 0) }
+{
+    let today = array.sessions.day(session);
+    let last = array.sessions.day(session + most);
+    let events = array.adjustments.events_between(col as usize, today, last);
+    day_of(events.first())
 }
 
 // On how many sessions after one, up to `most`, no adjustment of a column's asset becomes effective.
@@ -33,9 +39,7 @@ fn before_change(array: &AdjustedArray<'_>, col: u32, session: usize, most: usiz
     ensures ready { IsReadyBuffer array.now }
 {
     let sessions = array.sessions;
-    let today = sessions.day(session);
-    let last = sessions.day(session + most);
-    let Some(day) = first_change(array, col, today, last) else {
+    let Some(day) = first_change(array, col, session, most) else {
         return most;
     };
     match sessions.first_at_or_after(day) {

@@ -1,23 +1,18 @@
-use Rattle.std.proofs.Common.{rules, ◌≡◌, ◌+◌, ◌<◌, ◌∙◌, sym, subst, arith, Some, slice_get, option_map, FitsSigned, w32}
+use Rattle.std.proofs.Common.{rules, ◌≡◌, ◌<◌, ◌∙◌, sym, subst, arith, Some, slice_get, option_map, FitsSigned, w32}
 use Rattle.std.specs.List.{position}
 use Rattle.std.specs.Int.RustNames.{int_le}
 use Rattle.std.proofs.lemmas.Int.{to_z-of_z}
 use Rattle.pl_adjarray.specs.Buffered.{Buffered}
 use Rattle.pl_adjarray.specs.Inside.{IsReadyBuffer}
 use Rattle.pl_adjarray.specs.Stillness.{effective_within}
-use Rattle.pl_adjarray.proofs.Stretches.{all_quiet, by_days, has_next, next_later, up_to_next}
+use Rattle.pl_adjarray.proofs.Stretches.{all_quiet, has_next, next_later, up_to_next}
 use Rattle.pl_adjarray.proofs.stillness.before_change.Goals as goal
 
 pub returns-in_default-clause-greatest : goal.returns-in_default-clause-greatest
 returns-in_default-clause-greatest c =
     let b = c.args.array.now in
-    let today : FitsSigned w32 c.day-today.result = search rules in
-    let last : FitsSigned w32 c.day-last.result = search rules in
     let ready : IsReadyBuffer b = subst IsReadyBuffer c.array.view_is c.array.invariant in
-    let at_d = subst (λ (x : Buffered). slice_get x.days c.args.session ≡ Some c.day-today.result) c.array.view_is c.day-today.ensures.exact in
-    let at_last = subst (λ (x : Buffered). slice_get x.days (c.args.session + c.args.most) ≡ Some c.day-last.result) c.array.view_is c.day-last.ensures.exact in
-    let first = simp to_z-of_z at c.first_change.ensures in
-    all_quiet b ready c.args.session c.args.col c.args.most c.requires (sym c.in_default.is ∙ by_days b c.args.session c.args.most c.args.col _ _ c.first_change.result at_d at_last first)
+    all_quiet b ready c.args.session c.args.col c.args.most c.requires (sym c.in_default.is ∙ c.first_change.ensures)
 
 -- what is known where the day has a session
 module _ (c : goal.In-Some-first_at_or_after) where
@@ -28,13 +23,7 @@ module _ (c : goal.In-Some-first_at_or_after) where
   ready = subst IsReadyBuffer c.array.view_is c.array.invariant
 
   first : Some c.in-Some.day ≡ option_map (λ e. e.day) (slice_get (effective_within b c.args.session c.args.most c.args.col) 0)
-  first =
-      let today : FitsSigned w32 c.day-today.result = search rules in
-      let last : FitsSigned w32 c.day-last.result = search rules in
-      let at_d = subst (λ (x : Buffered). slice_get x.days c.args.session ≡ Some c.day-today.result) c.array.view_is c.day-today.ensures.exact in
-      let at_last = subst (λ (x : Buffered). slice_get x.days (c.args.session + c.args.most) ≡ Some c.day-last.result) c.array.view_is c.day-last.ensures.exact in
-      let change = simp to_z-of_z at c.first_change.ensures in
-      sym c.in-Some.is ∙ by_days b c.args.session c.args.most c.args.col _ _ c.first_change.result at_d at_last change
+  first = sym c.in-Some.is ∙ c.first_change.ensures
 
   at_next : Some c.in-Some-first_at_or_after.next ≡ position (λ d. int_le c.in-Some.day d) b.days
   at_next =
@@ -58,14 +47,8 @@ returns-in-Some-first_at_or_after-clause-greatest c =
 pub returns-in-None-clause-greatest : goal.returns-in-None-clause-greatest
 returns-in-None-clause-greatest c =
     let b = c.args.array.now in
-    let today : FitsSigned w32 c.day-today.result = search rules in
-    let last : FitsSigned w32 c.day-last.result = search rules in
     let day : FitsSigned w32 c.in-Some.day = search rules in
     let ready : IsReadyBuffer b = subst IsReadyBuffer c.array.view_is c.array.invariant in
-    let at_d = subst (λ (x : Buffered). slice_get x.days c.args.session ≡ Some c.day-today.result) c.array.view_is c.day-today.ensures.exact in
-    let at_last = subst (λ (x : Buffered). slice_get x.days (c.args.session + c.args.most) ≡ Some c.day-last.result) c.array.view_is c.day-last.ensures.exact in
-    let change = simp to_z-of_z at c.first_change.ensures in
-    let first = sym c.in-Some.is ∙ by_days b c.args.session c.args.most c.args.col _ _ c.first_change.result at_d at_last change in
     let place = simp to_z-of_z at c.first_at_or_after.ensures.exact in
     let none = sym c.in-None.is ∙ subst (λ (x : Buffered). c.first_at_or_after.result ≡ position (λ d. int_le c.in-Some.day d) x.days) c.array.view_is place in
-    absurd (has_next b ready c.args.session c.args.col c.args.most c.requires c.in-Some.day first none)
+    absurd (has_next b ready c.args.session c.args.col c.args.most c.requires c.in-Some.day (sym c.in-Some.is ∙ c.first_change.ensures) none)
