@@ -24,8 +24,9 @@ use Rattle.pl_bars.proofs.BarWorlds.{cells_raw}
 use Rattle.pl_adjust.specs.Columns.{events_at}
 use Rattle.pl_world.specs.declared.world.World.{World}
 use Rattle.pl_world.specs.Worlds.{AreSound, world_of}
+use Rattle.pl_bars.proofs.BarSearch.{find-nothing}
 use Rattle.pl_rings.specs.Days.{adjustments_of, bar_row, bars_of, days_of, fed}
-use Rattle.pl_rings.proofs.Fed.{find-miss, or-none, parts_fit, sessions_below}
+use Rattle.pl_rings.proofs.Fed.{or-none, parts_fit, sessions_below}
 use Rattle.pl_rings.proofs.Moves.{events_at-append}
 use Rattle.pl_rings.proofs.PartsWorld.{events_by-at}
 use Rattle.pl_feed.specs.Days.{bar_at, col_due, day_at, events_due, fed_day, fed_days, fed_world, start_of_world}
@@ -76,13 +77,13 @@ cell-front : (old new : List BarRow) (col : ℕ) (c : Column) (s : ℕ) → All 
 unfolding cell_at
 cell-front old new col c s miss =
     ap (λ (o : Option BarRow). unwrap_or (option_map (cell_of c) o) MISSING)
-    (find-append (is_at col s) old new ∙ ap (option_or (find (is_at col s) old)) (find-miss (is_at col s) new miss) ∙ or-none (find (is_at col s) old))
+    (find-append (is_at col s) old new ∙ ap (option_or (find (is_at col s) old)) (find-nothing (is_at col s) new miss) ∙ or-none (find (is_at col s) old))
 
 cell-back : (old new : List BarRow) (col : ℕ) (c : Column) (s : ℕ) → All (λ b. is_at col s b ≡ false) old → cell_at (old ++ new) col c s ≡ cell_at new col c s
 unfolding cell_at
 cell-back old new col c s miss =
     ap (λ (o : Option BarRow). unwrap_or (option_map (cell_of c) o) MISSING)
-    (find-append (is_at col s) old new ∙ ap (λ (o : Option BarRow). option_or o (find (is_at col s) new)) (find-miss (is_at col s) old miss))
+    (find-append (is_at col s) old new ∙ ap (λ (o : Option BarRow). option_or o (find (is_at col s) new)) (find-nothing (is_at col s) old miss))
 
 abbrev session_bars : List BarRow → ℕ → ℕ → List BarRow
 session_bars rows assets n = map (bar_row n) (map (bar_at rows n) (range_with_len 0 assets))

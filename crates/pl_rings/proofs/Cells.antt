@@ -8,6 +8,7 @@ use Rattle.std.proofs.lemmas.List.{ext_get_or, map-append, append-nil, take_more
 use Rattle.std.proofs.lemmas.List.Elements.{filter-append, filter_map-append}
 use Rattle.std.proofs.lemmas.List.Folds.{find-append}
 use Rattle.std.proofs.lemmas.List.Sums.{fold-append}
+use Rattle.std.proofs.lemmas.Simd.{get_or-zip2, length-zip2}
 use Rattle.circular_buffer.specs.Buffer.{buffer}
 use Rattle.pl_spec.specs.declared.AdjustmentKind.{AdjustmentKind}
 use Rattle.pl_spec.specs.declared.Column.{Column}
@@ -16,6 +17,7 @@ use Rattle.pl_spec.specs.Window.{Effect, after_all, changed as change, effect, c
 use Rattle.pl_spec.specs.World.{Event, Change}
 use Rattle.pl_spec.specs.World.Change.{Scale, Overwrite}
 use Rattle.pl_bars.specs.Bars.{cell_of}
+use Rattle.pl_bars.proofs.BarSearch.{find-nothing}
 use Rattle.pl_adjust.specs.Events.{event_of}
 use Rattle.pl_adjust.specs.Columns.{events_at}
 use Rattle.pl_rings.specs.declared.day.DayBar.{DayBar}
@@ -23,7 +25,7 @@ use Rattle.pl_rings.specs.declared.day.DayEvent.{DayEvent}
 use Rattle.pl_rings.specs.Days.{bar_row, cell_brought}
 use Rattle.pl_rings.specs.Rings.{acting, changed_cells, known_days, scales, scaling}
 use Rattle.pl_rings.specs.Changes.{Ring, AreRings, IsRing, ring_at, changed, column_event}
-use Rattle.pl_rings.proofs.Fed.{find-miss, or-none}
+use Rattle.pl_rings.proofs.Fed.{or-none}
 use Rattle.pl_rings.proofs.Moves.{events_at-append}
 
 pub set_at : {X : Type 0} (xs : List X) (i j : ℕ) (x d : X) → i < length xs → get_or (slice_set xs i x) j d ≡ (if i == j then x else get_or xs j d)
@@ -32,9 +34,6 @@ set_at xs i j x d h = elim (cases_eq i j) [
   | inr other ↦ let t : (i == j) ≡ false = ne_eqb i j other in rw t (get_or-set_other xs i j x d (λ e. other (sym e)))
 ]
 
-pub length-set_at : {X : Type 0} (xs : List X) (i : ℕ) (x : X) → length (slice_set xs i x) ≡ length xs
-length-set_at xs i x = length-set xs i x
-
 -- ---- cells and events
 
 pub length-known : (n : ℕ) (days : List ℤ) → length (known_days n days) ≡ length days
@@ -42,10 +41,7 @@ length-known n [] = refl
 length-known n (x ∷ xs) = ap suc (length-known n xs)
 
 pub length-changed : (c : Column) (es : List Event) (os : List (Option ℤ)) (xs : List ℤ) → length os ≡ length xs → length (changed_cells c es os xs) ≡ length xs
-length-changed c es [] [] h = refl
-length-changed c es [] (x ∷ xs) h = absurd (omega (arith, h))
-length-changed c es (o ∷ os) [] h = absurd (omega (arith, h))
-length-changed c es (o ∷ os) (x ∷ xs) h = ap suc (length-changed c es os xs (omega (arith, h)))
+length-changed c es os xs h = length-zip2 (λ o x. after_all x (acting c o es)) os xs h ∙ h
 
 -- a day that was fed, and one that was not
 pub known_late : (n : ℕ) (days : List ℤ) (k : ℕ) (d : ℤ) → k < length days → length days ≤ k + n → get_or (known_days n days) k None ≡ Some (get_or days k d)
@@ -60,10 +56,7 @@ known_early n (x ∷ xs) (suc k) h = known_early n xs k (omega (arith, h))
 
 pub changed_at : (c : Column) (es : List Event) (os : List (Option ℤ)) (xs : List ℤ) (k : ℕ) → length os ≡ length xs → k < length xs
     → get_or (changed_cells c es os xs) k (pos 0) ≡ after_all (get_or xs k (pos 0)) (acting c (get_or os k None) es)
-changed_at c es [] xs k same h = absurd (omega (arith, same, h))
-changed_at c es (o ∷ os) [] k same h = absurd (omega (arith, h))
-changed_at c es (o ∷ os) (x ∷ xs) zero same h = refl
-changed_at c es (o ∷ os) (x ∷ xs) (suc k) same h = changed_at c es os xs k (omega (arith, same)) (omega (arith, h))
+changed_at c es os xs k same h = get_or-zip2 (λ o x. after_all x (acting c o es)) os xs k None (pos 0) (pos 0) (omega (arith, same, h)) h
 
 -- one event's effects on the bar of a day
 pub acting_one : (c : Column) (bar : ℤ) (e : Event) → acting c (Some bar) (e ∷ []) ≡ option_to_list (effect c bar e)
@@ -101,7 +94,7 @@ pub record IsBegun (to : List ℤ) (i : ℕ) (old now : List ℤ) : Type 0 where
 
 pub begun_more : (to : List ℤ) (i : ℕ) (old now : List ℤ) (x : ℤ) → IsBegun to i old now → i < length old → x ≡ get_or to i (pos 0) → IsBegun to (i + 1) old (slice_set now i x)
 begun_more to i old now x begun inside is = record {
-  count = length-set_at now i x ∙ begun.count;
+  count = length-set now i x ∙ begun.count;
   front = λ k h. set_at now i k x (pos 0) (omega (arith, inside, begun.count)) ∙ in_front k h (i == k) refl;
   rest = λ k h. set_at now i k x (pos 0) (omega (arith, inside, begun.count)) ∙ behind k h;
 }
@@ -211,7 +204,7 @@ ring_set c es days k e i old now b inside is within made so_far =
 
 pub rings_set : (assets capacity col : ℕ) (rings : List Ring) (b : Ring) → AreRings assets capacity rings → IsRing capacity b → col < assets → AreRings assets capacity (slice_set rings col b)
 rings_set assets capacity col rings b are is within = record {
-  count = length-set_at rings col b ∙ are.count;
+  count = length-set rings col b ∙ are.count;
   each = λ i h. rw (set_at rings col i b (buffer [] 0) (omega (arith, within, are.count))) (here (col == i) i h);
 }
   where
@@ -220,10 +213,6 @@ rings_set assets capacity col rings b are is within = record {
     here false i h = are.each i h
 
 -- ---- bars
-
-pub brought_none : (c : Column) (i : ℕ) → cell_brought c [] i ≡ MISSING
-unfolding cell_brought
-brought_none c i = refl
 
 -- what one bar more brings
 pub brought_more : (c : Column) (bars : List DayBar) (k : ℕ) (b : DayBar) (i : ℕ) → AllPairs (λ a b. a.col < b.col) bars → k < length bars → b ≡ get_or bars k b
@@ -249,7 +238,7 @@ brought_more c bars k b i up inside is =
         ≡ (if t then cell_of c (bar_row 0 b) else unwrap_or (option_map (λ (b : DayBar). cell_of c (bar_row 0 b)) (find (λ (b : DayBar). b.col == i) (take k bars))) MISSING)
     here true t =
         let col : b.col ≡ i = eqb-true b.col i t in
-        rw (t, find-miss (λ (b : DayBar). b.col == i) (take k bars) (λ j d h. let l : (get_or (take k bars) j d).col < b.col = below j d h in ne_eqb _ i (λ e. omega (arith, l, col, e)))) refl
+        rw (t, find-nothing (λ (b : DayBar). b.col == i) (take k bars) (λ j d h. let l : (get_or (take k bars) j d).col < b.col = below j d h in ne_eqb _ i (λ e. omega (arith, l, col, e)))) refl
     here false t = rw (t, or-none (find (λ (b : DayBar). b.col == i) (take k bars))) refl
 
 -- the row after one bar more

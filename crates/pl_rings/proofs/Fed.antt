@@ -18,6 +18,7 @@ use Rattle.pl_spec.specs.World.{Bar, Event, cell_of, bar_cell, events_of, day_of
 use Rattle.pl_spec.proofs.Signed.{lt-is-le, le-lt}
 use Rattle.pl_spec.proofs.Lists.{no-pairs}
 use Rattle.pl_spec.proofs.Labels.{labels-of_days}
+use Rattle.pl_bars.proofs.BarSearch.{find-nothing}
 use Rattle.pl_rings.proofs.PartsWorld.{parts_are_a_world}
 use Rattle.pl_rings.specs.Days.{Start, FedDay, fed, bar_row, bars_behind, days_of, bars_of, adjustments_of, last_day, IsStart, IsLaterThan, AreFed}
 use Rattle.pl_rings.specs.Laws.{FedIsAWorld, FedAgrees}
@@ -127,10 +128,6 @@ fed_is_a_world g days start are = parts_are_a_world (days_of days) g.assets g.la
 
 -- ---- one more day
 
-pub find-miss : {X : Type 0} (p : X → Bool) (xs : List X) → All (λ x. p x ≡ false) xs → find p xs ≡ None
-find-miss p [] h = refl
-find-miss p (x ∷ xs) h = rw (h 0 x (omega arith)) (find-miss p xs (λ k d l. h (suc k) d (omega arith)))
-
 pub or-none : {X : Type 0} (o : Option X) → option_or o None ≡ o
 or-none None = refl
 or-none (Some x) = refl
@@ -147,7 +144,7 @@ module _ (g : Start) (now next : FedDay) (earlier : List FedDay) (start : IsStar
       sym (ap (λ o. unwrap_or (option_map (cell_of c) o) MISSING)
       (ap (find p) (map-append (bar_of g.assets) (bars_of (now ∷ earlier)) (map (bar_row (length earlier)) next.bars))
       ∙ find-append p (map (bar_of g.assets) (bars_of (now ∷ earlier))) new
-      ∙ ap (option_or (find p (map (bar_of g.assets) (bars_of (now ∷ earlier))))) (find-miss p new miss)
+      ∙ ap (option_or (find p (map (bar_of g.assets) (bars_of (now ∷ earlier))))) (find-nothing p new miss)
       ∙ or-none _))
     where
       other : (b : Bool) → (b && length earlier == s) ≡ false

@@ -10,6 +10,7 @@ use Rattle.std.proofs.lemmas.Option.{slice_get-get_or}
 use Rattle.std.proofs.lemmas.List.Elements.{All-map, All-filter, filter-append, filter_map-append}
 use Rattle.std.proofs.lemmas.List.Folds.{find-append}
 use Rattle.std.proofs.lemmas.List.Sums.{fold-append}
+use Rattle.std.proofs.lemmas.Simd.{zip2-map}
 use Rattle.circular_buffer.specs.Buffer.{keep_last}
 use Rattle.circular_buffer.proofs.Places.{slice_get-append_left, slice_get-append_right}
 use Rattle.pl_spec.specs.declared.Column.{Column}
@@ -21,12 +22,13 @@ use Rattle.pl_spec.specs.Window.{effect, changed, is_between, after_all, before,
 use Rattle.pl_spec.proofs.Lists.{filter-same}
 use Rattle.pl_spec.proofs.Windows.{length-downward, no-effects}
 use Rattle.pl_bars.specs.Bars.{cell_of, is_at, cell_at}
+use Rattle.pl_bars.proofs.BarSearch.{find-nothing}
 use Rattle.pl_bars.proofs.BarWorlds.{cells_raw}
 use Rattle.pl_rings.specs.declared.day.DayBar.{DayBar}
 use Rattle.pl_rings.specs.Days.{Start, FedDay, fed, bar_row, days_of, bars_of, adjustments_of, IsStart, AreFed, cell_brought, day_back, day_window}
 use Rattle.pl_rings.specs.Rings.{acting, bar_ring, changed_cells}
 use Rattle.pl_rings.specs.Laws.{BarRingsMove, DaysAreFed}
-use Rattle.pl_rings.proofs.Fed.{all_before, parts_fit, agrees, length-days, sessions_below, find-miss}
+use Rattle.pl_rings.proofs.Fed.{all_before, parts_fit, agrees, length-days, sessions_below}
 use Rattle.pl_rings.proofs.PartsWorld.{events_by-at}
 use Rattle.pl_adjust.specs.Columns.{events_at}
 
@@ -68,18 +70,13 @@ abbrev pub with_newest : {X : Type 0} → X → (ℕ → X) → ℕ → X
 with_newest x f zero = x
 with_newest x f (suc m) = f m
 
-changed_over : (c : Column) (es : List Event) (days : ℕ → Option ℤ) (h : ℕ → ℤ) (size : ℕ)
-    → changed_cells c es (map days (downward size)) (map h (downward size)) ≡ map (λ m. after_all (h m) (acting c (days m) es)) (downward size)
-changed_over c es days h zero = refl
-changed_over c es days h (suc size) = ap (λ l. after_all (h size) (acting c (days size) es) ∷ l) (changed_over c es days h size)
-
 -- and was then changed
 moves_on : (c : Column) (es : List Event) (days : ℕ → Option ℤ) (size : ℕ) (f g : ℕ → ℤ) (x : ℤ)
     → g 0 ≡ after_all x (acting c (days 0) es) → ((m : ℕ) → g (suc m) ≡ after_all (f m) (acting c (days (suc m)) es))
     → map g (downward size) ≡ changed_cells c es (map days (downward size)) (keep_last size (map f (downward size) ++ x ∷ []))
 moves_on c es days size f g x e h =
     ap (λ k. map k (downward size)) (fun_ext each)
-    ∙ sym (changed_over c es days (with_newest x f) size)
+    ∙ sym (zip2-map (λ o y. after_all y (acting c o es)) days (with_newest x f) (downward size))
     ∙ ap (changed_cells c es (map days (downward size))) (slides size f (with_newest x f) x refl (λ m. refl))
   where
     each : (m : ℕ) → g m ≡ after_all (with_newest x f m) (acting c (days m) es)
@@ -101,7 +98,7 @@ below_none n = omega (arith, ints)
 begins : (g : Start) (c : Column) (size col : ℕ) → bar_ring g [] c size col ≡ replicate size MISSING
 begins g c size col = constant _ MISSING size (λ n. ap (λ s. seen_cell (fed g []) (sid_at g.assets col) c s (negsuc 0)) (below_none (suc n)) ∙ seen_below (fed g []) (sid_at g.assets col) c (suc n) (negsuc 0))
 
-none_brought : (c : Column) (bars : List DayBar) (col : ℕ) → bars ≡ [] → cell_brought c bars col ≡ MISSING
+pub none_brought : (c : Column) (bars : List DayBar) (col : ℕ) → bars ≡ [] → cell_brought c bars col ≡ MISSING
 unfolding cell_brought
 none_brought c bars col none = rw none refl
 
@@ -247,7 +244,7 @@ module _ (g : Start) (start : IsStart g) (c : Column) (col : ℕ) (inside : col 
         ∙ ap (λ o. unwrap_or (option_map (cell_of c) o) MISSING)
         (find-append (is_at col n) (bars_of (now ∷ earlier)) (map (bar_row n) next.bars)
         ∙ ap (λ o. option_or o (find (is_at col n) (map (bar_row n) next.bars)))
-        (find-miss (is_at col n) (bars_of (now ∷ earlier)) (λ k d l. other ((get_or (bars_of (now ∷ earlier)) k d).col == col) _ (sessions_below g now earlier are.0.0 k d l))))
+        (find-nothing (is_at col n) (bars_of (now ∷ earlier)) (λ k d l. other ((get_or (bars_of (now ∷ earlier)) k d).col == col) _ (sessions_below g now earlier are.0.0 k d l))))
         ∙ ap (λ o. unwrap_or (option_map (cell_of c) o) MISSING) (in_rows next.bars)
         ∙ at_last (find (λ (b : DayBar). b.col == col) next.bars)
       where

@@ -1,6 +1,7 @@
 -- What the rings hold: windows that end with the last day, in the world of the days that were fed. Sessions
 -- below 0 have no bar and no asset, so a ring is full from the start on.
 use Rattle.std.specs.Prelude.{ℕ, Bool, false, ℤ, List, [], ◌∷◌, length, filter, filter_map, Option, Some, None, is_some, nat_lt, if◌then◌else◌}
+use Rattle.std.specs.Simd.Lanes.{zip2}
 use Rattle.pl_spec.specs.declared.Column.{Column}
 use Rattle.pl_spec.specs.declared.AdjustmentKind.{AdjustmentKind}
 use Rattle.pl_spec.specs.Parts.{sid_at}
@@ -22,9 +23,7 @@ acting c (Some bar) es = filter_map (effect c bar) es
 
 -- the cells of the sessions of these days, each changed by the events
 abbrev pub changed_cells : Column → List Event → List (Option ℤ) → List ℤ → List ℤ
-changed_cells c es [] xs = []
-changed_cells c es (o ∷ os) [] = []
-changed_cells c es (o ∷ os) (x ∷ xs) = after_all x (acting c o es) ∷ changed_cells c es os xs
+changed_cells c es days cells = zip2 (λ day cell. after_all cell (acting c day es)) days cells
 
 -- days of which only the last ones were fed
 abbrev pub known_days : ℕ → List ℤ → List (Option ℤ)
