@@ -1,6 +1,6 @@
 -- The rows of the adjustments.
 use Rattle.std.proofs.Common.{◌≡◌, ℕ, ◌+◌, ◌-◌, ◌*◌, ◌≤◌, ℤ, pos, negsuc, ◌*ℤ◌, List, [], ◌∷◌, ◌++◌, length, map, get_or, refl, sym, ap, subst, ◌∙◌, arith, length-append, FitsSigned, w64}
-use Rattle.std.specs.Prelude.{slice_get, Option, Some, None, Result, Ok, Err, IfSome}
+use Rattle.std.specs.Prelude.{slice_get, Some, Result, Ok, Err, IfSome}
 use Rattle.std.specs.List.{range_with_len, All}
 use Rattle.std.proofs.lemmas.Int.{ints, fits_signed_mul}
 use Rattle.std.proofs.lemmas.List.{length-map}
@@ -14,30 +14,20 @@ use Rattle.pl_generate.proofs.Grids.{map-more, within}
 use Rattle.pl_spec.specs.declared.AssetRow.{AssetRow}
 use Rattle.pl_spec.specs.declared.RawAdjust.{RawAdjust}
 use Rattle.pl_spec.specs.Dates.{IsDay}
-use Rattle.pl_spec.specs.Order.{adjustments_of}
 use Rattle.pl_spec.specs.Parts.{ColumnAdjustment}
 use Rattle.pl_adjust.specs.declared.error.AdjustError.{AdjustError}
 use Rattle.pl_adjust.specs.declared.error.AdjustError.TheVariants.{Memory}
-use Rattle.pl_adjust.specs.Columns.{by_column, in_column}
+use Rattle.pl_adjust.specs.Columns.{by_place}
 use Rattle.pl_adjust.specs.Faults.{fault_of}
 use Rattle.pl_adjust.specs.Rules.{AreRight, IsEffective, HasRatio}
-use Rattle.pl_adjust.specs.Tables.{adjustments_in, ok_unless}
-use Rattle.pl_adjust.specs.Walk.{Fault, TableRow, walk, in_table, first_fault}
+use Rattle.pl_adjust.specs.Tables.{of_walk}
+use Rattle.pl_adjust.specs.Walk.{Fault, TableRow, walk, in_table}
 use Rattle.pl_generate.specs.Draws.{behind, drawn}
 use Rattle.pl_generate.specs.StatedWorld.{adjust, split, merger, dividend, in_turn, turn, stated_days, stated_assets, adjustments_from}
 use Rattle.pl_generate.proofs.Days.{are_days, length-stated_days}
 use Rattle.pl_generate.proofs.Sequences.{number-below}
 
 -- ---- tables of right rows
-
-ok-is : {A F : Type 0} (o : Option F) (x y : A) → ok_unless o x ≡ Ok y → y ≡ x
-ok-is None x y e = (let same : Ok x ≡ Ok y = e in cc)
-ok-is (Some f) x y e = absurd (let bad : Err f ≡ Ok y = e in cc)
-
-pub kept : (assets : List AssetRow) (splits mergers dividends : List RawAdjust) (xs : List ColumnAdjustment) → adjustments_in assets splits mergers dividends ≡ Ok xs
-    → xs ≡ by_column (map (in_column assets) (adjustments_of assets splits mergers dividends))
-unfolding adjustments_in
-kept assets splits mergers dividends xs e = ok-is (first_fault 0 (walk splits mergers dividends)) _ xs e
 
 pub memory-alone : (e : AdjustError) (r : Result (List ColumnAdjustment) Fault) (xs : List ColumnAdjustment) → r ≡ Ok xs → IfSome (fault_of e) (λ f. r ≡ Err f) → e ≡ Memory
 memory-alone Memory r xs o f = refl
@@ -115,13 +105,9 @@ pub dividend-at : (s t id : ℕ) (z : ℤ) (r : RawAdjust) → r ≡ adjust t z 
 dividend-at s t id z r e at is = e ∙ ap (λ (x : ℕ). adjust x z (pos (1000 - drawn x 2 30)) (pos 1000)) at ∙ ap (λ (x : ℤ). adjust s x (pos (1000 - drawn s 2 30)) (pos 1000)) is
 
 pub adjustments-are : (s : ℕ) (a b d : List RawAdjust) (xs : List ColumnAdjustment) (assets : List AssetRow) → a ≡ in_turn (split s) → b ≡ in_turn (merger s) → d ≡ in_turn (dividend s)
-    → assets ≡ stated_assets → xs ≡ by_column (map (in_column assets) (adjustments_of assets a b d)) → xs ≡ adjustments_from s
+    → assets ≡ stated_assets → xs ≡ by_place (of_walk assets a b d) → xs ≡ adjustments_from s
 unfolding adjustments_from
-adjustments-are s a b d xs assets e f g h is = is
-    ∙ ap (λ (q : List AssetRow). by_column (map (in_column q) (adjustments_of q a b d))) h
-    ∙ ap (λ (x : List RawAdjust). by_column (map (in_column stated_assets) (adjustments_of stated_assets x b d))) e
-    ∙ ap (λ (x : List RawAdjust). by_column (map (in_column stated_assets) (adjustments_of stated_assets (in_turn (split s)) x d))) f
-    ∙ ap (λ (x : List RawAdjust). by_column (map (in_column stated_assets) (adjustments_of stated_assets (in_turn (split s)) (in_turn (merger s)) x))) g
+adjustments-are s a b d xs assets e f g h is = is ∙ rw (e, f, g, h) refl
 
 pub right-over : (s : ℕ) (a b d : List RawAdjust) → a ≡ in_turn (split s) → b ≡ in_turn (merger s) → d ≡ in_turn (dividend s) → AreRight (walk a b d)
 right-over s a b d e f g =

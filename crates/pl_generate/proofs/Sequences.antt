@@ -21,6 +21,3 @@ number-below state m h = omega arith
 
 pub drawn-next : (s n at to : ℕ) → at ≡ behind s n → to ≡ next_state at → to ≡ behind s (n + 1)
 drawn-next s n at to e f = f ∙ ap next_state e ∙ sym (behind-next s n)
-
-pub behind-at : (s a b : ℕ) → a ≡ b → behind s a ≡ behind s b
-behind-at s a b e = ap (behind s) e

@@ -8,12 +8,12 @@ use Rattle.std.specs.Int.RustNames.{int_lt}
 use Rattle.pl_spec.specs.declared.AssetRow.{AssetRow}
 use Rattle.pl_spec.specs.declared.BarRow.{BarRow}
 use Rattle.pl_spec.specs.declared.RawAdjust.{RawAdjust}
-use Rattle.pl_spec.specs.Order.{adjustments_of}
 use Rattle.pl_spec.specs.Parts.{ColumnLabel, ColumnAdjustment, world_of}
 use Rattle.pl_spec.specs.Rounding.{MILLION, div_round}
 use Rattle.pl_spec.specs.World.{World}
 use Rattle.pl_assets.specs.Labels.{LabelTable, table_of}
-use Rattle.pl_adjust.specs.Columns.{by_column, in_column}
+use Rattle.pl_adjust.specs.Columns.{by_place}
+use Rattle.pl_adjust.specs.Tables.{of_walk}
 use Rattle.pl_world.specs.declared.owned.OwnedWorld.{OwnedWorld}
 use Rattle.pl_generate.specs.Draws.{behind, drawn}
 
@@ -120,11 +120,11 @@ dividend state k =
 abbrev pub in_turn : (ℕ → RawAdjust) → List RawAdjust
 in_turn row = map row (range_with_len 0 100)
 
--- in the order in which they act, column by column
+-- by column and day
 unfoldable pub adjustments_from : ℕ → List ColumnAdjustment
 adjustments_from state =
-    by_column (map (in_column stated_assets)
-    (adjustments_of stated_assets (in_turn (split state)) (in_turn (merger state)) (in_turn (dividend state))))
+    by_place
+    (of_walk stated_assets (in_turn (split state)) (in_turn (merger state)) (in_turn (dividend state)))
 
 -- ---- the world
 

@@ -1,8 +1,8 @@
 //! The adjustments.
 
-ghost use Rattle.std.specs.Prelude.{◌≡◌, ◌-◌, ◌<◌, pos, length, map, All, IfOk};
-ghost use Rattle.pl_spec.specs.Order.{adjustments_of};
-ghost use Rattle.pl_adjust.specs.Columns.{by_column, in_column};
+ghost use Rattle.std.specs.Prelude.{◌≡◌, ◌-◌, ◌<◌, pos, length, All, IfOk};
+ghost use Rattle.pl_adjust.specs.Columns.{by_place};
+ghost use Rattle.pl_adjust.specs.Tables.{of_walk};
 ghost use Rattle.pl_adjust.specs.declared.error.AdjustError.TheVariants as AdjustError;
 ghost use Rattle.pl_adjust.specs.Rules.{AreRight};
 ghost use Rattle.pl_adjust.specs.Walk.{walk};
@@ -87,8 +87,8 @@ fn adjustments_of(
     dividends: &[RawAdjust],
 ) -> Result<Adjustments, Memory>
     requires { AreRight (walk splits.now mergers.now dividends.now) }
-    ensures adjustments { IfOk result (λ a. a ≡ by_column (map (in_column assets.now)
-        (adjustments_of assets.now splits.now mergers.now dividends.now))) }
+    ensures adjustments { IfOk result (λ a. a
+        ≡ by_place (of_walk assets.now splits.now mergers.now dividends.now)) }
     ensures cols { IfOk result (All (λ x. x.col < length assets.now)) }
 {
     tables_in_plain_words();

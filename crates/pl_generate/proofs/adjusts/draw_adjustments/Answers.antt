@@ -4,7 +4,7 @@ use Rattle.std.proofs.lemmas.Int.{ints}
 use Rattle.std.proofs.lemmas.Result.{IfOk-weaker}
 use Rattle.pl_generate.specs.Draws.{behind}
 use Rattle.pl_generate.specs.StatedWorld.{split, merger, dividend}
-use Rattle.pl_generate.proofs.Sequences.{behind-none, behind-more, behind-at}
+use Rattle.pl_generate.proofs.Sequences.{behind-none, behind-more}
 use Rattle.pl_generate.proofs.AdjustRows.{rows-more, adjust-at, dividend-at, adjustments-are, right-over}
 use Rattle.pl_generate.proofs.adjusts.draw_adjustments.Goals as goal
 
@@ -33,7 +33,7 @@ loop-turn-preserved c =
           (adjust-at (behind (behind s (7 * k)) 2) c.draw_adjust.new.draws (3 * k + 1) _ _ _ c.draw_adjust-in-loop-turn.result c.draw_adjust-in-loop-turn.ensures.row second (omega (arith, ints, c.from-id.ensures))) c.in_ok-push-2.ensures.items;
       dividends = rows-more (dividend s) k c.loop-turn.dividends.items _ c.draw_dividend.result c.loop-turn.invariant.dividends
           (dividend-at (behind (behind s (7 * k)) 4) c.draw_adjust-in-loop-turn.new.draws (3 * k + 2) _ c.draw_dividend.result c.draw_dividend.ensures.row third (omega (arith, ints, c.from-id.ensures))) c.in_ok-push-3.ensures.items;
-      draws = last ∙ behind-at s (7 * k + 7) (7 * (k + 1)) e;
+      draws = last ∙ ap (behind s) e;
     }
 
 pub adjustments_of-requires : goal.adjustments_of-requires

@@ -2,10 +2,10 @@ use Rattle.std.proofs.Common.{◌≡◌, ◌+◌, ◌*◌, ◌++◌, ◌∙◌, 
 use Rattle.std.specs.List.{range_with_len}
 use Rattle.std.proofs.lemmas.Int.{ints, to_z-of_z}
 use Rattle.std.proofs.lemmas.List.{append-nil}
-use Rattle.pl_generate.specs.Draws.{number_at}
+use Rattle.pl_generate.specs.Draws.{behind, number_at}
 use Rattle.pl_generate.specs.StatedWorld.{bar}
 use Rattle.pl_generate.proofs.Prices.{prices-small}
-use Rattle.pl_generate.proofs.Sequences.{behind-none, behind-at, drawn-next}
+use Rattle.pl_generate.proofs.Sequences.{behind-none, drawn-next}
 use Rattle.pl_generate.proofs.BarRows.{first-price, later-price, later-volume, bar-made, asset-more}
 use Rattle.pl_generate.proofs.bars.draw_asset.Goals as goal
 
@@ -28,7 +28,7 @@ loop-session-preserved c =
     let at = drawn-next s0 (1 + 2 * s) c.loop-session.draws c.draw-in-loop-session.new.self c.loop-session.invariant.draws c.draw-in-loop-session.ensures.state in
     let e : 1 + 2 * s + 1 ≡ 2 + 2 * s = omega arith in
     let f : 2 + 2 * s + 1 ≡ 1 + 2 * (s + 1) = omega arith in
-    let behind_change = at ∙ behind-at s0 (1 + 2 * s + 1) (2 + 2 * s) e in
+    let behind_change = at ∙ ap (behind s0) e in
     let behind_volume = drawn-next s0 (2 + 2 * s) c.draw-in-loop-session.new.self c.draw-in-loop-session-2.new.self behind_change c.draw-in-loop-session-2.ensures.state in
     let fr : FitsSigned w64 c.next_price-price.result = search rules in
     let changes = c.draw-in-loop-session.ensures.number ∙ ap (λ (n : ℕ). number_at n 401) at in
@@ -39,7 +39,7 @@ loop-session-preserved c =
           (bar-made s0 c.args.col s _ _ price (later-volume s0 s c.draw-in-loop-session-2.result _ trades (omega (arith, ints, c.from-in-loop-session.ensures, c.draw-in-loop-session-2.ensures.within))))
           c.in_ok-push.ensures.items;
       price = price;
-      draws = behind_volume ∙ behind-at s0 (2 + 2 * s + 1) (1 + 2 * (s + 1)) f;
+      draws = behind_volume ∙ ap (behind s0) f;
     }
 
 pub returns-clause-rows : goal.returns-clause-rows

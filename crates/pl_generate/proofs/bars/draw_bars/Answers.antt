@@ -1,6 +1,6 @@
 use Rattle.std.proofs.Common.{◌≡◌, ◌+◌, ◌*◌, ◌∙◌, ap, sym, ℕ, arith}
 use Rattle.pl_generate.specs.Draws.{behind}
-use Rattle.pl_generate.proofs.Sequences.{behind-none, behind-more, behind-at}
+use Rattle.pl_generate.proofs.Sequences.{behind-none, behind-more}
 use Rattle.pl_generate.proofs.BarRows.{are_bars, bars-all, bars-more}
 use Rattle.pl_generate.proofs.bars.draw_bars.Goals as goal
 
@@ -28,4 +28,4 @@ returns-clause-bars c =
 pub returns-clause-draws : goal.returns-clause-draws
 returns-clause-draws c =
     let all : c.loop-col.col ≡ 400 = omega arith in
-    c.loop-col.invariant.draws ∙ behind-at c.args.draws.now (1201 * c.loop-col.col) 480400 (ap (λ (n : ℕ). 1201 * n) all)
+    c.loop-col.invariant.draws ∙ ap (λ (n : ℕ). behind c.args.draws.now (1201 * n)) all
