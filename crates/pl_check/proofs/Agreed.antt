@@ -23,9 +23,11 @@ use Rattle.pl_check.specs.Trees.{Meaning, Forest, After, after, with_trees, cons
 use Rattle.pl_check.specs.Numbering.{tree_column, HasMany, AreNumbered, TypedAreTrees, FaultsAreTrees, TypedUnlessMany}
 use Rattle.pl_check.proofs.Unnumbered.{unnumbered, storable-bare, filter-bare}
 use Rattle.pl_check.proofs.Rooted.{tree_of, meaning_of, IsIn}
-use Rattle.pl_check.proofs.Extended.{IsOver, let-extends, column-extends, head-extends, statements-extend, ended-extends}
+use Rattle.std.specs.Result.{IfOk}
+use Rattle.std.proofs.lemmas.Result.{IfOk-at_ok}
+use Rattle.pl_check.proofs.Extended.{IsOver, of_meaning, of_judged, let-grows, column-grows, head-grows, statements-grow, ended-grows}
 use Rattle.pl_check.proofs.Counted.{Same, Means, factor-settles, factor-over}
-use Rattle.pl_check.proofs.Followed.{of_meaning, of_judged, Agrees, then-agrees, weaker, AreMeant, meant-later, defined-is, worth-agrees}
+use Rattle.pl_check.proofs.Followed.{Agrees, then-agrees, weaker, AreMeant, meant-later, defined-is, worth-agrees}
 use Rattle.pl_check.specs.Standing.{ColumnsAreInGraph}
 use Rattle.pl_check.proofs.Stated.{columns-kept}
 use Rattle.pl_spec.proofs.Each.{each_both, each_more, map_each}
@@ -79,7 +81,7 @@ stored-agrees p v s f w i = require-agrees of_meaning (Stored s) _ p (is_storabl
 
     here : is_storable v ≡ true → (o : Option (Value × Graph)) → factor_value s.graph v ≡ o
         → Agrees of_meaning (Stored s) (or_fault TooManyTerms p o >>= λ q. Ok (found q.0 (record { graph = q.1; names = s.names }))) (Ok result)
-    here e None h = inl (refl, λ y q. subst (λ (x : After Meaning). IsOver x.forest) (let z : result ≡ y = (let k : Ok result ≡ Ok y = q in cc) in z) (factor-over s f v w h))
+    here e None h = inl (refl, factor-over s f v w h)
     here e (Some q) h =
         let k = factor-settles s f v q w i h in
         (result, refl, (record { later = k.later; inside = k.inside; is = k.is; same = k.same }, storable-tree s.graph v e))
@@ -189,9 +191,9 @@ stored-after s r m p h =
 
 head-agrees : (v : ℕ) (j : typed.Judged) (k : by_tree.Judged) (h : Head) (r : Found Value) (m : After Meaning) → SameJudged j k → Means j.terms r m → Agrees of_judged SameJudged (head_judged v j h r) (by_tree.head_judged v k h m)
 head-agrees version j k (LetHead p n) r m w v =
-    then-agrees of_meaning of_judged (Stored j.terms) SameJudged (stored p r) (by_tree.stored p m) _ _ (stored-after j.terms r m p v) (λ q x y. let-agrees version j k p n q x w y.0) (λ x z e. let-extends version k p n x z e)
+    then-agrees of_meaning of_judged (Stored j.terms) SameJudged (stored p r) (by_tree.stored p m) _ _ (stored-after j.terms r m p v) (λ q x y. let-agrees version j k p n q x w y.0) (λ x. let-grows version k p n x)
 head-agrees version j k (ColumnHead p n) r m w v =
-    then-agrees of_meaning of_judged (Stored j.terms) SameJudged (stored p r) (by_tree.stored p m) _ _ (stored-after j.terms r m p v) (λ q x y. column-agrees j k p n q x w y) (λ x z e. column-extends k p n x z e)
+    then-agrees of_meaning of_judged (Stored j.terms) SameJudged (stored p r) (by_tree.stored p m) _ _ (stored-after j.terms r m p v) (λ q x y. column-agrees j k p n q x w y) (λ x. column-grows k p n x)
 head-agrees version j k (ScreenHead p) r m w v = screen-agrees j k p r m w v
 
 -- ---- all statements
@@ -200,13 +202,13 @@ statement-agrees : (v : ℕ) (j : typed.Judged) (k : by_tree.Judged) (s : Statem
 unfolding statement_judged
 statement-agrees v j k s w =
     then-agrees of_meaning of_judged (Means j.terms) SameJudged (worth v j.definitions s.tree j.terms) (meaning v k.definitions s.tree k.forest) _ _ (worth-agrees v j.definitions k.definitions s.tree j.terms k.forest w.same w.meant)
-    (λ r m h. head-agrees v j k s.head r m w h) (λ m z e. head-extends v k s.head m z e)
+    (λ r m h. head-agrees v j k s.head r m w h) (λ m. head-grows v k s.head m)
 
 statements-agree : (v : ℕ) (j : typed.Judged) (k : by_tree.Judged) (ss : List Statement) → SameJudged j k → Agrees of_judged SameJudged (statements_judged v j ss) (by_tree.statements_judged v k ss)
 unfolding statements_judged by_tree.statements_judged
 statements-agree v j k [] w = (k, refl, w)
 statements-agree v j k (s ∷ ss) w =
-    then-agrees of_judged of_judged SameJudged SameJudged (statement_judged v j s) (by_tree.statement_judged v k s) _ _ (statement-agrees v j k s w) (λ x y h. statements-agree v x y ss h) (λ y z e. statements-extend v y ss z e)
+    then-agrees of_judged of_judged SameJudged SameJudged (statement_judged v j s) (by_tree.statement_judged v k s) _ _ (statement-agrees v j k s w) (λ x y h. statements-agree v x y ss h) (λ y. statements-grow v y ss)
 
 nothing-same : SameJudged typed.nothing by_tree.nothing
 nothing-same = record {
@@ -242,9 +244,9 @@ script-agrees : (s : Parsed) → Agrees of_judged Numbered (typed s) (script_tre
 unfolding typed script_trees
 script-agrees s =
     then-agrees of_judged of_judged SameJudged Numbered (statements_judged s.version typed.nothing s.statements) (by_tree.statements_judged s.version by_tree.nothing s.statements) _ _
-    (statements-agree s.version typed.nothing by_tree.nothing s.statements nothing-same) (λ j k w. ended-agrees s.end j k w) (λ k z e. ended-extends s.end k z e)
+    (statements-agree s.version typed.nothing by_tree.nothing s.statements nothing-same) (λ j k w. ended-agrees s.end j k w) (λ k. ended-grows s.end k)
 
-faults : (s : Parsed) (b : Broken) → typed s ≡ Err b → ((b.fault ≡ TooManyTerms) × ((t : by_tree.Judged) → script_trees s ≡ Ok t → IsOver t.forest)) ⊎ (script_trees s ≡ Err b)
+faults : (s : Parsed) (b : Broken) → typed s ≡ Err b → ((b.fault ≡ TooManyTerms) × IfOk (script_trees s) (λ t. IsOver t.forest)) ⊎ (script_trees s ≡ Err b)
 unfolding Numbered
 faults s b h = subst (λ r. Agrees of_judged Numbered r (script_trees s)) h (script-agrees s)
 
@@ -262,4 +264,4 @@ typed-unless-many s t h = here (typed s) refl
   where
     here : (r : Result Pipeline Broken) → typed s ≡ r → ((p : Pipeline) × (typed s ≡ Ok p)) ⊎ ((b : Broken) × (typed s ≡ Err b) × (b.fault ≡ TooManyTerms) × HasMany t.forest.trees)
     here (Ok p) e = inl (p, e)
-    here (Err b) e = elim (faults s b e) [ inl x ↦ inr (b, e, x.0, x.1 t h) | inr x ↦ absurd (let no : Err b ≡ Ok t = sym x ∙ h in cc) ]
+    here (Err b) e = elim (faults s b e) [ inl x ↦ inr (b, e, x.0, IfOk-at_ok _ h x.1) | inr x ↦ absurd (let no : Err b ≡ Ok t = sym x ∙ h in cc) ]

@@ -1,5 +1,5 @@
 -- Putting terms into the graph, and into the list of their trees.
-use Rattle.std.proofs.Common.{◌≡◌, ℕ, ℤ, ◌<◌, ◌≤◌, Bool, true, false, cond, ◌⊎◌, List, [], ◌∷◌, ◌++◌, length, map, Option, Some, None, option_map, refl, sym, ap, subst, ◌∙◌, arith, inl, inr, append_assoc, append-nil, length-append}
+use Rattle.std.proofs.Common.{◌≡◌, ℕ, ℤ, ◌<◌, ◌≤◌, Bool, true, false, cond, ◌⊎◌, List, [], ◌∷◌, ◌++◌, length, map, Option, Some, None, option_map, refl, sym, ap, ap₂, subst, ◌∙◌, arith, inl, inr, append_assoc, append-nil, length-append}
 use Rattle.std.specs.Prelude.{filter_map, option_and_then, option_to_list}
 use Rattle.std.specs.Option.{option_or}
 use Rattle.std.specs.List.{Contains, cons_option}
@@ -264,12 +264,6 @@ few-inputs-of : (o : Operation) (bs : List Bound) (names : List (List ℕ)) → 
 unfolding node_for
 few-inputs-of o bs names = few-inputs o bs
 
-abbrev meaning_with : Value → Option Term → Meaning
-meaning_with v t = record { value = v; tree = t }
-
-meanings : {v w : Value} {t u : Option Term} → v ≡ w → t ≡ u → meaning_with v t ≡ meaning_with w u
-meanings a b = cc
-
 node-means : (o : Operation) (bs : List Bound) (s : Terms) (f : Forest) (r : Found Value) (i : Option Interned) → Same s f → AllIn s.graph (values bs) → interned s.graph (node_for o bs s.names) ≡ i → with_node o bs s.names i ≡ Some r
     → Means s r (by_tree.with_node o (map bare bs) (map (tree_of s.graph) (values bs)) f)
 node-means o bs s f r None w k e h = absurd (let no : None ≡ Some r = h in cc)
@@ -283,7 +277,7 @@ node-means o bs s f r (Some i) w k e h =
     subst (λ (x : Found Value). Means s x (by_tree.with_node o (map bare bs) ts f)) same (record {
       later = p.later;
       inside = λ x q. subst (λ y. y < length i.graph) (let y : Some i.number ≡ Some x = sym (result-term o bs i.number) ∙ q in let z : i.number ≡ x = cc in z) p.there;
-      is = meanings (result-bare o bs i.number) (ap Some (sym (p.tree ∙ tree)) ∙ sym (ap (option_map (term_at i.graph)) (result-term o bs i.number)));
+      is = ap₂ (λ x t. record { value = x; tree = t }) (result-bare o bs i.number) (ap Some (sym (p.tree ∙ tree)) ∙ sym (ap (option_map (term_at i.graph)) (result-term o bs i.number)));
       same = record { graph = kept.graph; firsts = kept.firsts; names = sym (names-bare o bs s.names) ∙ ap (names_after o (map bare bs)) w.names; few = kept.few };
     })
 

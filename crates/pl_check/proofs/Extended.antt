@@ -1,7 +1,6 @@
 -- The trees of a script only grow: what is judged later comes last.
-use Rattle.std.proofs.Common.{◌≡◌, ℕ, Bool, true, false, cond, List, [], ◌∷◌, ◌++◌, length, map, Option, Some, None, Result, Ok, Err, refl, sym, ap, subst, ◌∙◌, append_assoc, append-nil}
+use Rattle.std.proofs.Common.{◌≡◌, ℕ, false, List, [], ◌∷◌, ◌++◌, length, map, Option, Result, refl, sym, ap, subst, ◌∙◌, append_assoc, append-nil}
 use Rattle.std.specs.Prelude.{filter_map, option_to_list, not, is_some, nat_le, nat_lt, bytes_eq}
-use Rattle.std.specs.Option.{option_or}
 use Rattle.std.specs.List.{list_any}
 use Rattle.pl_spec.specs.Limits.{most_columns}
 use Rattle.std.proofs.lemmas.List.Elements.{Contains-append_left}
@@ -12,17 +11,18 @@ use Rattle.pl_grammar.specs.declared.PrefixSign.TheVariants.{Minus}
 use Rattle.pl_grammar.specs.declared.BinarySign.{BinarySign}
 use Rattle.pl_grammar.specs.Tree.{Tree, number, text, name, call, prefix, binary, member, method, Args, no_args, arg}
 use Rattle.pl_grammar.specs.Script.{Head, LetHead, ColumnHead, ScreenHead, Statement}
-use Rattle.pl_check.specs.declared.fault.CheckFault.{CheckFault}
 use Rattle.pl_check.specs.declared.fault.CheckFault.TheVariants.{UnknownName, BadArgument}
 use Rattle.pl_check.specs.declared.operation.Operation.{Operation}
-use Rattle.pl_check.specs.Faults.{Broken, ◌>>=◌, or_fault, unless}
+use Rattle.pl_check.specs.Faults.{Broken, ◌>>=◌, or_fault}
 use Rattle.pl_check.specs.Values.{Value, Number, Bound}
 use Rattle.pl_check.specs.Operations.{function_named, member_named, without_parentheses, operator}
 use Rattle.pl_check.specs.Rules.{form, broken}
 use Rattle.pl_check.specs.Typed.{is_storable, is_term_filter, bar_column, object_of, operands_of}
-use Rattle.pl_check.specs.Trees.{Meaning, Forest, After, after, with_trees, constant_of, factor_of, constant_in, settled, settled_trees, tree_for, Arguments, made, applied, called, prefixed, combined, member_of, method_of, Definition, meaning_named, with_argument, meaning, arguments, TreeColumn, Judged, is_taken, stored, let_judged, column_judged, screen_judged, head_judged, statement_judged, statements_judged, ended}
+use Rattle.pl_check.specs.Trees.{Meaning, Forest, After, constant_of, constant_in, settled, settled_trees, tree_for, Arguments, no_arguments, made, applied, called, prefixed, combined, member_of, method_of, Definition, meaning_named, with_argument, meaning, arguments, TreeColumn, Judged, is_taken, stored, let_judged, column_judged, screen_judged, head_judged, statement_judged, statements_judged, ended}
 use Rattle.pl_check.specs.Numbering.{HasMany}
-use Rattle.pl_check.proofs.Walk.{then-ok, require-ok}
+use Rattle.std.specs.Result.{IfOk}
+use Rattle.std.proofs.lemmas.Result.{IfOk-weaker}
+use Rattle.pl_check.proofs.Chained.{then-ok, found-ok, unless-ok, require-ok, either-ok}
 
 pub many-later : (ts us : List Term) → HasMany ts → HasMany (ts ++ us)
 many-later ts us h = record { some = h.some; many = h.many; different = h.different; among = λ k l. Contains-append_left ts us (tree_at h.some k) (h.among k l) }
@@ -44,139 +44,115 @@ same-extends f = ([], sym (append-nil f.trees))
 pub extends-further : (f g h : Forest) → Extends f g → Extends g h → Extends f h
 extends-further f g h a b = (a.0 ++ b.0, b.1 ∙ ap (λ x. x ++ b.0) a.1 ∙ append_assoc f.trees a.0 b.0)
 
-abbrev answer : {A : Type 0} → A → Result A Broken
-answer x = Ok x
+abbrev pub of_meaning : After Meaning → Forest
+of_meaning m = m.forest
 
-found-extends : {A : Type 0} (v : A) (f : Forest) (r : After A) → answer (after v f) ≡ Ok r → Extends f r.forest
-found-extends {A} v f r h = subst (λ (x : After A). Extends f x.forest) (let q : after v f ≡ r = cc in q) (same-extends f)
+abbrev pub of_arguments : After Arguments → Forest
+of_arguments m = m.forest
 
-made-extends : (o : Operation) (bs : List Bound) (ts : List (Option Term)) (f : Forest) → Extends f (made o bs ts f).forest
-unfolding made
-made-extends o bs ts f = (filter_map constant_in bs ++ tree_for o (map settled bs) (settled_trees bs ts) f.names ∷ [], append_assoc f.trees (filter_map constant_in bs) (tree_for o (map settled bs) (settled_trees bs ts) f.names ∷ []))
+abbrev pub of_judged : Judged → Forest
+of_judged j = j.forest
 
-pub applied-extends : (p : Place) (o : Operation) (bs : List Bound) (ts : List (Option Term)) (f : Forest) (m : After Meaning) → applied p o bs ts f ≡ Ok m → Extends f m.forest
-unfolding applied
-applied-extends p o bs ts f m h = here (broken bs) h
-  where
-    here : (c : Option CheckFault) → unless c p (Ok (made o bs ts f)) ≡ Ok m → Extends f m.forest
-    here (Some k) e = absurd (let no : Err (record { fault = k; place = p }) ≡ Ok m = e in cc)
-    here None e = subst (λ (x : After Meaning). Extends f x.forest) (let s : Ok (made o bs ts f) ≡ Ok m = e in let q : made o bs ts f ≡ m = cc in q) (made-extends o bs ts f)
+-- what is answered has the forest's trees first
+abbrev pub Grows : {A : Type 0} → (A → Forest) → Forest → Result A Broken → Type 0
+Grows F f r = IfOk r (λ x. Extends f (F x))
 
-pub called-extends : (p : Place) (o : Operation) (object : List Bound) (ts : List (Option Term)) (ws : Arguments) (f : Forest) (m : After Meaning) → called p o object ts ws f ≡ Ok m → Extends f m.forest
+then-grows : {A B : Type 0} (F : A → Forest) (G : B → Forest) (f : Forest) (r : Result A Broken) (g : A → Result B Broken) → Grows F f r → ((x : A) → Grows G (F x) (g x)) → Grows G f (r >>= g)
+then-grows F G f r g h k = then-ok _ _ r g h (λ x e. IfOk-weaker (g x) _ _ (λ y l. extends-further f (F x) (G y) e l) (k x))
+
+applied-grows : (p : Place) (o : Operation) (bs : List Bound) (ts : List (Option Term)) (f : Forest) → Grows of_meaning f (applied p o bs ts f)
+unfolding applied made
+applied-grows p o bs ts f =
+    unless-ok _ (broken bs) p _ (λ e. (filter_map constant_in bs ++ tree_for o (map settled bs) (settled_trees bs ts) f.names ∷ [], append_assoc f.trees (filter_map constant_in bs) (tree_for o (map settled bs) (settled_trees bs ts) f.names ∷ [])))
+
+called-grows : (p : Place) (o : Operation) (object : List Bound) (ts : List (Option Term)) (ws : Arguments) (f : Forest) → Grows of_meaning f (called p o object ts ws f)
 unfolding called
-called-extends p o object ts ws f m h =
-    let r = then-ok (or_fault BadArgument p (form o false object ws.written)) (λ bs. applied p o bs (ts ++ ws.trees) f) m h in
-    applied-extends p o r.0 (ts ++ ws.trees) f m r.2
+called-grows p o object ts ws f = found-ok _ BadArgument p (form o false object ws.written) _ (λ bs e. applied-grows p o bs (ts ++ ws.trees) f)
 
-pub prefixed-extends : (p : Place) (sign : PrefixSign) (v : Value) (t : Option Term) (f : Forest) (m : After Meaning) → prefixed p sign v t f ≡ Ok m → Extends f m.forest
+pub prefixed-grows : (p : Place) (sign : PrefixSign) (v : Value) (t : Option Term) (f : Forest) → Grows of_meaning f (prefixed p sign v t f)
 unfolding prefixed
-prefixed-extends p Minus (Number n) t f m h = found-extends _ f m h
-prefixed-extends p sign v t f m h = applied-extends p _ _ _ f m h
+prefixed-grows p Minus (Number n) t f = same-extends f
+prefixed-grows p sign v t f = applied-grows p _ _ _ f
 
-pub combined-extends : (p : Place) (sign : BinarySign) (l r : Meaning) (f : Forest) (m : After Meaning) → combined p sign l r f ≡ Ok m → Extends f m.forest
+pub combined-grows : (p : Place) (sign : BinarySign) (l r : Meaning) (f : Forest) → Grows of_meaning f (combined p sign l r f)
 unfolding combined
-combined-extends p sign l r f m h = applied-extends p (operator sign l.value) (operands_of (operator sign l.value) l.value r.value) (l.tree ∷ r.tree ∷ []) f m h
+combined-grows p sign l r f = applied-grows p (operator sign l.value) (operands_of (operator sign l.value) l.value r.value) (l.tree ∷ r.tree ∷ []) f
 
-pub member-extends : (p : Place) (v : Meaning) (f : Forest) (o : Operation) (m : After Meaning) → member_of p v f o ≡ Ok m → Extends f m.forest
-member-extends p v f o m h = here (without_parentheses o) h
-  where
-    here : (a : Bool) → cond a (applied p o (object_of o v.value) (v.tree ∷ []) f) (Err (record { fault = BadArgument; place = p })) ≡ Ok m → Extends f m.forest
-    here true e = applied-extends p o (object_of o v.value) (v.tree ∷ []) f m e
-    here false e = absurd (let no : Err (record { fault = BadArgument; place = p }) ≡ Ok m = e in cc)
+-- a name, and what it stands for is applied
+pub function-grows : (v : ℕ) (p : Place) (n : List ℕ) (ws : Arguments) (f : Forest) → Grows of_meaning f (or_fault UnknownName p (function_named v n) >>= λ o. called p o [] [] ws f)
+function-grows v p n ws f = found-ok _ UnknownName p (function_named v n) _ (λ o e. called-grows p o [] [] ws f)
 
-pub method-extends : (p : Place) (v : Meaning) (ws : Arguments) (f : Forest) (o : Operation) (m : After Meaning) → method_of p v ws f o ≡ Ok m → Extends f m.forest
-method-extends p v ws f o m h = here (without_parentheses o) h
-  where
-    here : (a : Bool) → cond a (Err (record { fault = BadArgument; place = p })) (called p o (object_of o v.value) (v.tree ∷ []) ws f) ≡ Ok m → Extends f m.forest
-    here true e = absurd (let no : Err (record { fault = BadArgument; place = p }) ≡ Ok m = e in cc)
-    here false e = called-extends p o (object_of o v.value) (v.tree ∷ []) ws f m e
+pub member-grows : (v : ℕ) (p : Place) (m : Meaning) (n : List ℕ) (f : Forest) → Grows of_meaning f (or_fault UnknownName p (member_named v n) >>= λ o. member_of p m f o)
+member-grows v p m n f =
+    found-ok _ UnknownName p (member_named v n) _ (λ o e. either-ok _ (without_parentheses o) _ _ (λ a. applied-grows p o (object_of o m.value) (m.tree ∷ []) f) (λ a. tt))
+
+pub method-grows : (v : ℕ) (p : Place) (m : Meaning) (n : List ℕ) (ws : Arguments) (f : Forest) → Grows of_meaning f (or_fault UnknownName p (member_named v n) >>= λ o. method_of p m ws f o)
+method-grows v p m n ws f =
+    found-ok _ UnknownName p (member_named v n) _ (λ o e. either-ok _ (without_parentheses o) _ _ (λ a. tt) (λ a. called-grows p o (object_of o m.value) (m.tree ∷ []) ws f))
 
 -- ---- expressions
+
+-- the right operand after the left one, and a method's arguments after its object
+pub right-grows : (v : ℕ) (ds : List Definition) (b : Tree) (p : Place) (sign : BinarySign) (l : After Meaning) → Grows of_meaning l.forest (meaning v ds b l.forest)
+    → Grows of_meaning l.forest (meaning v ds b l.forest >>= λ r. combined p sign l.value r.value r.forest)
+right-grows v ds b p sign l h = then-grows of_meaning of_meaning l.forest (meaning v ds b l.forest) _ h (λ r. combined-grows p sign l.value r.value r.forest)
+
+pub list-grows : (v : ℕ) (ds : List Definition) (ps : Args) (p : Place) (n : List ℕ) (m : After Meaning) → Grows of_arguments m.forest (arguments v ds no_arguments ps m.forest)
+    → Grows of_meaning m.forest (arguments v ds no_arguments ps m.forest >>= λ q. or_fault UnknownName p (member_named v n) >>= λ o. method_of p m.value q.value q.forest o)
+list-grows v ds ps p n m h = then-grows of_arguments of_meaning m.forest (arguments v ds no_arguments ps m.forest) _ h (λ q. method-grows v p m.value n q.value q.forest)
 
 mutual
   unfolding meaning arguments
 
-  pub meaning-extends : (v : ℕ) (ds : List Definition) (e : Tree) (f : Forest) (m : After Meaning) → meaning v ds e f ≡ Ok m → Extends f m.forest
-  meaning-extends v ds (number p n) f m h = found-extends _ f m h
-  meaning-extends v ds (text p t) f m h = found-extends _ f m h
-  meaning-extends v ds (name p n) f m h = let r = then-ok (or_fault UnknownName p (meaning_named ds n (bar_column n))) (λ x. Ok (after x f)) m h in found-extends r.0 f m r.2
-  meaning-extends v ds (call p n ps) f m h =
-      let r = then-ok (arguments v ds (record { written = []; trees = [] }) ps f) (λ r. or_fault UnknownName p (function_named v n) >>= λ o. called p o [] [] r.value r.forest) m h in
-      let o = then-ok (or_fault UnknownName p (function_named v n)) (λ o. called p o [] [] r.0.value r.0.forest) m r.2 in
-      extends-further f r.0.forest m.forest (arguments-extends v ds (record { written = []; trees = [] }) ps f r.0 r.1) (called-extends p o.0 [] [] r.0.value r.0.forest m o.2)
-  meaning-extends v ds (prefix p sign e) f m h =
-      let r = then-ok (meaning v ds e f) (λ r. prefixed p sign r.value.value r.value.tree r.forest) m h in
-      extends-further f r.0.forest m.forest (meaning-extends v ds e f r.0 r.1) (prefixed-extends p sign r.0.value.value r.0.value.tree r.0.forest m r.2)
-  meaning-extends v ds (binary p sign a b) f m h =
-      let l = then-ok (meaning v ds a f) (λ l. meaning v ds b l.forest >>= λ r. combined p sign l.value r.value r.forest) m h in
-      let r = then-ok (meaning v ds b l.0.forest) (λ r. combined p sign l.0.value r.value r.forest) m l.2 in
-      extends-further f l.0.forest m.forest (meaning-extends v ds a f l.0 l.1)
-      (extends-further l.0.forest r.0.forest m.forest (meaning-extends v ds b l.0.forest r.0 r.1) (combined-extends p sign l.0.value r.0.value r.0.forest m r.2))
-  meaning-extends v ds (member p e n) f m h =
-      let r = then-ok (meaning v ds e f) (λ r. or_fault UnknownName p (member_named v n) >>= λ o. member_of p r.value r.forest o) m h in
-      let o = then-ok (or_fault UnknownName p (member_named v n)) (λ o. member_of p r.0.value r.0.forest o) m r.2 in
-      extends-further f r.0.forest m.forest (meaning-extends v ds e f r.0 r.1) (member-extends p r.0.value r.0.forest o.0 m o.2)
-  meaning-extends v ds (method p e n ps) f m h =
-      let r = then-ok (meaning v ds e f) (λ r. arguments v ds (record { written = []; trees = [] }) ps r.forest >>= λ q. or_fault UnknownName p (member_named v n) >>= λ o. method_of p r.value q.value q.forest o) m h in
-      let q = then-ok (arguments v ds (record { written = []; trees = [] }) ps r.0.forest) (λ q. or_fault UnknownName p (member_named v n) >>= λ o. method_of p r.0.value q.value q.forest o) m r.2 in
-      let o = then-ok (or_fault UnknownName p (member_named v n)) (λ o. method_of p r.0.value q.0.value q.0.forest o) m q.2 in
-      extends-further f r.0.forest m.forest (meaning-extends v ds e f r.0 r.1)
-      (extends-further r.0.forest q.0.forest m.forest (arguments-extends v ds (record { written = []; trees = [] }) ps r.0.forest q.0 q.1) (method-extends p r.0.value q.0.value q.0.forest o.0 m o.2))
+  pub meaning-grows : (v : ℕ) (ds : List Definition) (e : Tree) (f : Forest) → Grows of_meaning f (meaning v ds e f)
+  meaning-grows v ds (number p n) f = same-extends f
+  meaning-grows v ds (text p t) f = same-extends f
+  meaning-grows v ds (name p n) f = found-ok _ UnknownName p (meaning_named ds n (bar_column n)) _ (λ m e. same-extends f)
+  meaning-grows v ds (call p n ps) f =
+      then-grows of_arguments of_meaning f (arguments v ds no_arguments ps f) _ (arguments-grow v ds no_arguments ps f) (λ r. function-grows v p n r.value r.forest)
+  meaning-grows v ds (prefix p sign e) f =
+      then-grows of_meaning of_meaning f (meaning v ds e f) _ (meaning-grows v ds e f) (λ r. prefixed-grows p sign r.value.value r.value.tree r.forest)
+  meaning-grows v ds (binary p sign a b) f =
+      then-grows of_meaning of_meaning f (meaning v ds a f) _ (meaning-grows v ds a f) (λ l. right-grows v ds b p sign l (meaning-grows v ds b l.forest))
+  meaning-grows v ds (member p e n) f = then-grows of_meaning of_meaning f (meaning v ds e f) _ (meaning-grows v ds e f) (λ r. member-grows v p r.value n r.forest)
+  meaning-grows v ds (method p e n ps) f =
+      then-grows of_meaning of_meaning f (meaning v ds e f) _ (meaning-grows v ds e f) (λ r. list-grows v ds ps p n r (arguments-grow v ds no_arguments ps r.forest))
 
-  pub arguments-extends : (v : ℕ) (ds : List Definition) (ws : Arguments) (ps : Args) (f : Forest) (m : After Arguments) → arguments v ds ws ps f ≡ Ok m → Extends f m.forest
-  arguments-extends v ds ws no_args f m h = found-extends ws f m h
-  arguments-extends v ds ws (arg n e ps) f m h =
-      let r = then-ok (meaning v ds e f) (λ r. arguments v ds (with_argument ws n r.value) ps r.forest) m h in
-      extends-further f r.0.forest m.forest (meaning-extends v ds e f r.0 r.1) (arguments-extends v ds (with_argument ws n r.0.value) ps r.0.forest m r.2)
+  pub arguments-grow : (v : ℕ) (ds : List Definition) (ws : Arguments) (ps : Args) (f : Forest) → Grows of_arguments f (arguments v ds ws ps f)
+  arguments-grow v ds ws no_args f = same-extends f
+  arguments-grow v ds ws (arg n e ps) f =
+      then-grows of_meaning of_arguments f (meaning v ds e f) _ (meaning-grows v ds e f) (λ r. arguments-grow v ds (with_argument ws n r.value) ps r.forest)
 
 -- ---- statements
 
-found-one : (x y : After Meaning) → answer x ≡ Ok y → x ≡ y
-found-one x y q = cc
-
-stored-extends : (p : Place) (r m : After Meaning) → stored p r ≡ Ok m → Extends r.forest m.forest
+stored-grows : (p : Place) (r : After Meaning) → Grows of_meaning r.forest (stored p r)
 unfolding stored
-stored-extends p r m h =
-    let t = constant_of r.value.value in
-    let v = after (record { value = factor_of r.value.value; tree = option_or t r.value.tree }) (with_trees r.forest (option_to_list t)) in
-    subst (λ (x : After Meaning). Extends r.forest x.forest) (found-one v m (require-ok (is_storable r.value.value) _ p (answer v) m h).1) (option_to_list t, refl)
+stored-grows p r = require-ok _ (is_storable r.value.value) _ p _ (λ e. (option_to_list (constant_of r.value.value), refl))
 
-judged-one : (x y : Judged) → answer x ≡ Ok y → Extends x.forest y.forest
-judged-one x y q = subst (λ (z : Judged). Extends x.forest z.forest) (let e : x ≡ y = cc in e) (same-extends x.forest)
-
-pub let-extends : (v : ℕ) (j : Judged) (p : Place) (n : List ℕ) (r : After Meaning) (k : Judged) → let_judged v j p n r ≡ Ok k → Extends r.forest k.forest
+pub let-grows : (v : ℕ) (j : Judged) (p : Place) (n : List ℕ) (r : After Meaning) → Grows of_judged r.forest (let_judged v j p n r)
 unfolding let_judged
-let-extends v j p n r k h = judged-one _ k (require-ok (not (is_taken v j.definitions n)) _ p (answer _) k h).1
+let-grows v j p n r = require-ok _ (not (is_taken v j.definitions n)) _ p _ (λ e. same-extends r.forest)
 
-pub column-extends : (j : Judged) (p : Place) (n : List ℕ) (r : After Meaning) (k : Judged) → column_judged j p n r ≡ Ok k → Extends r.forest k.forest
+pub column-grows : (j : Judged) (p : Place) (n : List ℕ) (r : After Meaning) → Grows of_judged r.forest (column_judged j p n r)
 unfolding column_judged
-column-extends j p n r k h =
-    judged-one _ k (require-ok (nat_lt (length j.columns) most_columns) _ p (answer _) k (require-ok (not (list_any (λ (c : TreeColumn). bytes_eq n c.name) j.columns)) _ p _ k h).1).1
+column-grows j p n r =
+    require-ok _ (not (list_any (λ (c : TreeColumn). bytes_eq n c.name) j.columns)) _ p _ (λ a. require-ok _ (nat_lt (length j.columns) most_columns) _ p _ (λ b. same-extends r.forest))
 
-screen-extends : (j : Judged) (p : Place) (r : After Meaning) (k : Judged) → screen_judged j p r ≡ Ok k → Extends r.forest k.forest
+screen-grows : (j : Judged) (p : Place) (r : After Meaning) → Grows of_judged r.forest (screen_judged j p r)
 unfolding screen_judged
-screen-extends j p r k h = judged-one _ k (require-ok (not (is_some j.screen)) _ p (answer _) k (require-ok (is_term_filter r.value.value) _ p _ k h).1).1
+screen-grows j p r = require-ok _ (is_term_filter r.value.value) _ p _ (λ a. require-ok _ (not (is_some j.screen)) _ p _ (λ b. same-extends r.forest))
 
-pub head-extends : (v : ℕ) (j : Judged) (h : Head) (r : After Meaning) (k : Judged) → head_judged v j h r ≡ Ok k → Extends r.forest k.forest
-head-extends v j (LetHead p n) r k h =
-    let a = then-ok (stored p r) (λ x. let_judged v j p n x) k h in
-    extends-further r.forest a.0.forest k.forest (stored-extends p r a.0 a.1) (let-extends v j p n a.0 k a.2)
-head-extends v j (ColumnHead p n) r k h =
-    let a = then-ok (stored p r) (λ x. column_judged j p n x) k h in
-    extends-further r.forest a.0.forest k.forest (stored-extends p r a.0 a.1) (column-extends j p n a.0 k a.2)
-head-extends v j (ScreenHead p) r k h = screen-extends j p r k h
+pub head-grows : (v : ℕ) (j : Judged) (h : Head) (r : After Meaning) → Grows of_judged r.forest (head_judged v j h r)
+head-grows v j (LetHead p n) r = then-grows of_meaning of_judged r.forest (stored p r) _ (stored-grows p r) (λ x. let-grows v j p n x)
+head-grows v j (ColumnHead p n) r = then-grows of_meaning of_judged r.forest (stored p r) _ (stored-grows p r) (λ x. column-grows j p n x)
+head-grows v j (ScreenHead p) r = screen-grows j p r
 
-pub statement-extends : (v : ℕ) (j : Judged) (s : Statement) (k : Judged) → statement_judged v j s ≡ Ok k → Extends j.forest k.forest
-statement-extends v j s k h =
-    let r = then-ok (meaning v j.definitions s.tree j.forest) (λ r. head_judged v j s.head r) k h in
-    extends-further j.forest r.0.forest k.forest (meaning-extends v j.definitions s.tree j.forest r.0 r.1) (head-extends v j s.head r.0 k r.2)
-
-pub statements-extend : (v : ℕ) (j : Judged) (ss : List Statement) (k : Judged) → statements_judged v j ss ≡ Ok k → Extends j.forest k.forest
+pub statements-grow : (v : ℕ) (j : Judged) (ss : List Statement) → Grows of_judged j.forest (statements_judged v j ss)
 unfolding statements_judged
-statements-extend v j [] k h = judged-one j k h
-statements-extend v j (s ∷ ss) k h =
-    let a = then-ok (statement_judged v j s) (λ x. statements_judged v x ss) k h in
-    extends-further j.forest a.0.forest k.forest (statement-extends v j s a.0 a.1) (statements-extend v a.0 ss k a.2)
+statements-grow v j [] = same-extends j.forest
+statements-grow v j (s ∷ ss) =
+    then-grows of_judged of_judged j.forest (statement_judged v j s) _ (then-grows of_meaning of_judged j.forest (meaning v j.definitions s.tree j.forest) _ (meaning-grows v j.definitions s.tree j.forest) (λ r. head-grows v j s.head r))
+    (λ k. statements-grow v k ss)
 
-pub ended-extends : (p : Place) (j k : Judged) → ended p j ≡ Ok k → Extends j.forest k.forest
-ended-extends p j k h = judged-one j k (require-ok (nat_le 1 (length j.columns)) _ p (answer j) k h).1
+pub ended-grows : (p : Place) (j : Judged) → Grows of_judged j.forest (ended p j)
+ended-grows p j = require-ok _ (nat_le 1 (length j.columns)) _ p _ (λ e. same-extends j.forest)

@@ -1,5 +1,5 @@
 -- A typed script follows its trees, expression by expression and statement by statement.
-use Rattle.std.proofs.Common.{◌≡◌, ℕ, Bool, true, false, ◌||◌, cond, ◌⊎◌, List, [], ◌∷◌, ◌++◌, map, Option, Some, None, option_map, Result, Ok, Err, refl, sym, ap, subst, ◌∙◌, inl, inr, append_assoc, append-nil, bytes_eq}
+use Rattle.std.proofs.Common.{◌≡◌, ℕ, Bool, true, false, ◌||◌, cond, ◌⊎◌, List, [], ◌∷◌, ◌++◌, map, Option, Some, None, option_map, Result, Ok, Err, refl, sym, ap, ap₂, subst, ◌∙◌, inl, inr, append_assoc, append-nil, bytes_eq}
 use Rattle.std.specs.Prelude.{is_some, option_and_then}
 use Rattle.std.proofs.lemmas.List.{map-append}
 use Rattle.pl_spec.specs.declared.Column.{Column}
@@ -24,32 +24,25 @@ use Rattle.pl_check.specs.Rules.{Written, parameter_of, has_all, form, broken}
 use Rattle.pl_check.specs.Typed.{Terms, Found, found, Definition, bar_column, defined, value_named, made, applied, called, object_of, prefixed, operands_of, combined, member_of, method_of, written, worth, args_worth}
 use Rattle.pl_check.specs.Typed as typed
 use Rattle.pl_check.specs.Trees as by_tree
-use Rattle.pl_check.specs.Trees.{Meaning, Forest, After, after, Arguments, meaning_named, with_argument, meaning, arguments}
+use Rattle.pl_check.specs.Trees.{Meaning, Forest, After, after, Arguments, no_arguments, meaning_named, with_argument, meaning, arguments}
 use Rattle.pl_check.proofs.Unnumbered.{unnumbered, bare, bare_written, broken-bare, form-bare, object-bare, operands-bare, operator-bare}
 use Rattle.pl_check.proofs.Rooted.{tree_of, meaning_of, IsIn, AllIn, values, in-later, tree-later, all-later, trees-later}
-use Rattle.pl_check.proofs.Walk.{then-ok}
-use Rattle.pl_check.proofs.Extended.{Extends, IsOver, over-later, extends-further, called-extends, prefixed-extends, combined-extends, member-extends, method-extends, meaning-extends, arguments-extends}
+use Rattle.std.specs.Result.{IfOk}
+use Rattle.std.proofs.lemmas.Result.{IfOk-weaker}
+use Rattle.pl_check.proofs.Chained.{then-ok}
+use Rattle.pl_check.proofs.Extended.{IsOver, over-later, of_meaning, of_arguments, Grows, function-grows, prefixed-grows, combined-grows, member-grows, method-grows, right-grows, list-grows, meaning-grows, arguments-grow}
 use Rattle.pl_check.proofs.Counted.{Same, Means, made-means, made-over}
-
-abbrev pub of_meaning : After Meaning → Forest
-of_meaning m = m.forest
-
-abbrev pub of_arguments : After Arguments → Forest
-of_arguments m = m.forest
-
-abbrev pub of_judged : by_tree.Judged → Forest
-of_judged j = j.forest
 
 -- Where there is a value, the other has one that is its; a fault is the same, unless the other's trees are
 -- too many.
 abbrev pub Agrees : {A B : Type 0} → (B → Forest) → (A → B → Type 0) → Result A Broken → Result B Broken → Type 0
 Agrees {A} {B} F R (Ok x) q = (y : B) × (q ≡ Ok y) × R x y
-Agrees {A} {B} F R (Err e) q = ((e.fault ≡ TooManyTerms) × ((y : B) → q ≡ Ok y → IsOver (F y))) ⊎ (q ≡ Err e)
+Agrees {A} {B} F R (Err e) q = ((e.fault ≡ TooManyTerms) × IfOk q (λ y. IsOver (F y))) ⊎ (q ≡ Err e)
 
 pub then-agrees : {A B C D : Type 0} (F : B → Forest) (G : D → Forest) (R : A → B → Type 0) (S : C → D → Type 0) (r : Result A Broken) (q : Result B Broken) (f : A → Result C Broken) (g : B → Result D Broken)
-    → Agrees F R r q → ((x : A) (y : B) → R x y → Agrees G S (f x) (g y)) → ((y : B) (z : D) → g y ≡ Ok z → Extends (F y) (G z)) → Agrees G S (r >>= f) (q >>= g)
+    → Agrees F R r q → ((x : A) (y : B) → R x y → Agrees G S (f x) (g y)) → ((y : B) → Grows G (F y) (g y)) → Agrees G S (r >>= f) (q >>= g)
 then-agrees F G R S (Ok x) q f g h k l = subst (λ z. Agrees G S (f x) (z >>= g)) (sym h.1) (k x h.0 h.2)
-then-agrees F G R S (Err e) q f g (inl t) k l = inl (t.0, λ z h. let x = then-ok q g z h in over-later (F x.0) (G z) (l x.0 z x.2) (t.1 x.0 x.1))
+then-agrees F G R S (Err e) q f g (inl t) k l = inl (t.0, then-ok _ _ q g t.1 (λ y o. IfOk-weaker (g y) _ _ (λ z e. over-later (F y) (G z) e o) (l y)))
 then-agrees F G R S (Err e) q f g (inr s) k l = inr (ap (λ z. z >>= g) s)
 
 -- the same thing is looked up
@@ -83,7 +76,7 @@ applied-agrees p o bs s f w i =
     tree = by_tree.made o (map bare bs) (map (tree_of s.graph) (values bs)) f
 
     one : (r : Option (Found Value)) → made o bs s ≡ r → Agrees of_meaning (Means s) (or_fault TooManyTerms p r) (Ok tree)
-    one None e = inl (refl, λ y q. subst (λ (x : After Meaning). IsOver x.forest) (let z : tree ≡ y = (let h : Ok tree ≡ Ok y = q in cc) in z) (made-over o bs s f w i e))
+    one None e = inl (refl, made-over o bs s f w i e)
     one (Some r) e = (tree, refl, made-means o bs s f r w i e)
 
     here : (c : Option CheckFault) → Agrees of_meaning (Means s) (unless c p (or_fault TooManyTerms p (made o bs s))) (unless c p (Ok tree))
@@ -252,23 +245,13 @@ pub record MeanAll (s : Terms) (r : Found (List Written)) (m : After Arguments) 
 all-behind : (s t : Terms) (r : Result (Found (List Written)) Broken) (q : Result (After Arguments) Broken) → Later s.graph t.graph → Agrees of_arguments (MeanAll t) r q → Agrees of_arguments (MeanAll s) r q
 all-behind s t r q l a = weaker of_arguments (MeanAll t) (MeanAll s) r q (λ x y k. record { later = later-still s.graph t.graph x.terms.graph l k.later; inside = k.inside; is = k.is; same = k.same }) a
 
-abbrev arguments_with : List Written → List (Option Term) → Arguments
-arguments_with ws ts = record { written = ws; trees = ts }
-
-both : {a b : List Written} {c d : List (Option Term)} → a ≡ b → c ≡ d → arguments_with a c ≡ arguments_with b d
-both e f = cc
-
 argument-is : (g h : Graph) (ws : List Written) (n : Option (List ℕ)) (v : Value) → Later g h → AllIn g (worths ws) → with_argument (arguments_of g ws) n (meaning_of h v) ≡ arguments_of h (ws ++ written n v ∷ [])
 argument-is g h ws n v l i =
-    both (sym (map-append bare_written ws (written n v ∷ [])))
+    ap₂ (λ xs ts. record { written = xs; trees = ts }) (sym (map-append bare_written ws (written n v ∷ [])))
     (ap (λ ts. ts ++ tree_of h v ∷ []) (sym (trees-later g h (worths ws) l i)) ∙ sym (map-append (tree_of h) (worths ws) (v ∷ [])) ∙ ap (map (tree_of h)) (sym (map-append (λ (w : Written). w.value) ws (written n v ∷ []))))
 
 argument-in : (g h : Graph) (ws : List Written) (n : Option (List ℕ)) (v : Value) → Later g h → AllIn g (worths ws) → IsIn h v → AllIn h (worths (ws ++ written n v ∷ []))
 argument-in g h ws n v l i k = subst (AllIn h) (sym (map-append (λ (w : Written). w.value) ws (written n v ∷ []))) (each_both (IsIn h) (worths ws) (v ∷ []) (all-later g h (worths ws) l i) (k, tt))
-
--- no arguments yet
-abbrev none : Arguments
-none = arguments_with [] []
 
 -- both operands
 both-agree : (p : Place) (sign : BinarySign) (s : Terms) (l r : Found Value) (m q : After Meaning) → Means s l m → Means l.terms r q
@@ -296,39 +279,34 @@ mutual
   worth-agrees v ds es (text p t) s f w a = (_, refl, found-means s f (Text t) _ w (λ k e. absurd (let no : None ≡ Some k = e in cc)) refl)
   worth-agrees v ds es (name p n) s f w a = named-agrees p ds es n s f w a
   worth-agrees v ds es (call p n ps) s f w a =
-      then-agrees of_arguments of_meaning (MeanAll s) (Means s) (args_worth v ds [] ps s) (arguments v es none ps f) _ _
-      (args-agrees v ds es [] none ps s f w a tt refl)
+      then-agrees of_arguments of_meaning (MeanAll s) (Means s) (args_worth v ds [] ps s) (arguments v es no_arguments ps f) _ _
+      (args-agrees v ds es [] no_arguments ps s f w a tt refl)
       (λ r m k. subst (λ x. Agrees of_meaning (Means s) (or_fault UnknownName p (function_named v n) >>= λ o. called p o [] r.value r.terms) (or_fault UnknownName p (function_named v n) >>= λ o. by_tree.called p o [] [] x m.forest)) (sym k.is)
       (looked-agrees of_meaning (Means s) UnknownName p (function_named v n) _ _ (λ o. behind s r.terms _ _ k.later (called-agrees p o [] r.value r.terms m.forest k.same tt k.inside))))
-      (λ m z h. let o = then-ok (or_fault UnknownName p (function_named v n)) (λ o. by_tree.called p o [] [] m.value m.forest) z h in called-extends p o.0 [] [] m.value m.forest z o.2)
+      (λ m. function-grows v p n m.value m.forest)
   worth-agrees v ds es (prefix p sign e) s f w a =
       then-agrees of_meaning of_meaning (Means s) (Means s) (worth v ds e s) (meaning v es e f) _ _ (worth-agrees v ds es e s f w a)
       (λ r m k. subst (λ (x : Meaning). Agrees of_meaning (Means s) (prefixed p sign r.value r.terms) (by_tree.prefixed p sign x.value x.tree m.forest)) (sym k.is)
       (behind s r.terms _ _ k.later (prefixed-agrees p sign r.value r.terms m.forest k.same k.inside)))
-      (λ m z h. prefixed-extends p sign m.value.value m.value.tree m.forest z h)
+      (λ m. prefixed-grows p sign m.value.value m.value.tree m.forest)
   worth-agrees v ds es (binary p sign x y) s f w a =
       then-agrees of_meaning of_meaning (Means s) (Means s) (worth v ds x s) (meaning v es x f) _ _ (worth-agrees v ds es x s f w a)
       (λ l m k. then-agrees of_meaning of_meaning (Means l.terms) (Means s) (worth v ds y l.terms) (meaning v es y m.forest) _ _ (worth-agrees v ds es y l.terms m.forest k.same (meant-later s.graph l.terms.graph ds es k.later a))
       (λ r q j. both-agree p sign s l r m q k j)
-      (λ q z h. combined-extends p sign m.value q.value q.forest z h))
-      (λ m z h.
-      let q = then-ok (meaning v es y m.forest) (λ q. by_tree.combined p sign m.value q.value q.forest) z h in
-      extends-further m.forest q.0.forest z.forest (meaning-extends v es y m.forest q.0 q.1) (combined-extends p sign m.value q.0.value q.0.forest z q.2))
+      (λ q. combined-grows p sign m.value q.value q.forest))
+      (λ m. right-grows v es y p sign m (meaning-grows v es y m.forest))
   worth-agrees v ds es (member p e n) s f w a =
       then-agrees of_meaning of_meaning (Means s) (Means s) (worth v ds e s) (meaning v es e f) _ _ (worth-agrees v ds es e s f w a)
       (λ r m k. subst (λ x. Agrees of_meaning (Means s) (or_fault UnknownName p (member_named v n) >>= λ o. member_of p r.value r.terms o) (or_fault UnknownName p (member_named v n) >>= λ o. by_tree.member_of p x m.forest o)) (sym k.is)
       (looked-agrees of_meaning (Means s) UnknownName p (member_named v n) _ _ (λ o. behind s r.terms _ _ k.later (member-agrees p r.value r.terms m.forest o k.same k.inside))))
-      (λ m z h. let o = then-ok (or_fault UnknownName p (member_named v n)) (λ o. by_tree.member_of p m.value m.forest o) z h in member-extends p m.value m.forest o.0 z o.2)
+      (λ m. member-grows v p m.value n m.forest)
   worth-agrees v ds es (method p e n ps) s f w a =
       then-agrees of_meaning of_meaning (Means s) (Means s) (worth v ds e s) (meaning v es e f) _ _ (worth-agrees v ds es e s f w a)
-      (λ r m k. then-agrees of_arguments of_meaning (MeanAll r.terms) (Means s) (args_worth v ds [] ps r.terms) (arguments v es none ps m.forest) _ _
-      (args-agrees v ds es [] none ps r.terms m.forest k.same (meant-later s.graph r.terms.graph ds es k.later a) tt refl)
+      (λ r m k. then-agrees of_arguments of_meaning (MeanAll r.terms) (Means s) (args_worth v ds [] ps r.terms) (arguments v es no_arguments ps m.forest) _ _
+      (args-agrees v ds es [] no_arguments ps r.terms m.forest k.same (meant-later s.graph r.terms.graph ds es k.later a) tt refl)
       (λ q b j. object-and-arguments v p n s r m q b k j)
-      (λ b z h. let o = then-ok (or_fault UnknownName p (member_named v n)) (λ o. by_tree.method_of p m.value b.value b.forest o) z h in method-extends p m.value b.value b.forest o.0 z o.2))
-      (λ m z h.
-      let b = then-ok (arguments v es none ps m.forest) (λ b. or_fault UnknownName p (member_named v n) >>= λ o. by_tree.method_of p m.value b.value b.forest o) z h in
-      let o = then-ok (or_fault UnknownName p (member_named v n)) (λ o. by_tree.method_of p m.value b.0.value b.0.forest o) z b.2 in
-      extends-further m.forest b.0.forest z.forest (arguments-extends v es none ps m.forest b.0 b.1) (method-extends p m.value b.0.value b.0.forest o.0 z o.2))
+      (λ b. method-grows v p m.value n b.value b.forest))
+      (λ m. list-grows v es ps p n m (arguments-grow v es no_arguments ps m.forest))
 
   pub args-agrees : (v : ℕ) (ds : List Definition) (es : List by_tree.Definition) (ws : List Written) (xs : Arguments) (ps : Args) (s : Terms) (f : Forest) → Same s f → AreMeant s.graph ds es → AllIn s.graph (worths ws) → xs ≡ arguments_of s.graph ws
       → Agrees of_arguments (MeanAll s) (args_worth v ds ws ps s) (arguments v es xs ps f)
@@ -338,4 +316,4 @@ mutual
       (λ r m k. all-behind s r.terms _ _ k.later (args-agrees v ds es (ws ++ written n r.value ∷ []) (with_argument xs n m.value) ps r.terms m.forest k.same (meant-later s.graph r.terms.graph ds es k.later a)
       (argument-in s.graph r.terms.graph ws n r.value k.later i k.inside)
       (ap (λ x. with_argument x n m.value) h ∙ ap (with_argument (arguments_of s.graph ws) n) k.is ∙ argument-is s.graph r.terms.graph ws n r.value k.later i)))
-      (λ m z q. arguments-extends v es (with_argument xs n m.value) ps m.forest z q)
+      (λ m. arguments-grow v es (with_argument xs n m.value) ps m.forest)

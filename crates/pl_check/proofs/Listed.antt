@@ -3,7 +3,9 @@ use Rattle.std.proofs.Common.{◌≡◌, ℕ, suc, ◌<◌, ◌≤◌, ◌==◌,
 use Rattle.std.specs.Prelude.{is_some}
 use Rattle.std.proofs.lemmas.Bool.{and_parts, and_from, or_right}
 use Rattle.std.proofs.lemmas.Bool.Decides.{nat_tests}
+use Rattle.std.specs.List.{list_any}
 use Rattle.std.proofs.lemmas.List.{length-map}
+use Rattle.std.proofs.Math.Bool.{or-true}
 use Rattle.pl_terms.specs.Sorts.{has_length}
 use Rattle.pl_check.specs.declared.operation.Operation.{Operation}
 use Rattle.pl_check.specs.declared.operation.Operation.TheVariants as op
@@ -56,13 +58,22 @@ last-given (b ∷ bs) p v =
     here true k = refl
     here false k = k
 
-unless-parts : (bs : List Bound) (o : Option Parameter) (p : Parameter) → unless_given bs o ≡ Some p → (o ≡ Some p) × (is_given bs p ≡ false)
+pub unless-parts : (bs : List Bound) (o : Option Parameter) (p : Parameter) → unless_given bs o ≡ Some p → (o ≡ Some p) × (is_given bs p ≡ false)
 unless-parts bs None p h = absurd (let no : None ≡ Some p = h in cc)
 unless-parts bs (Some q) p h = here (is_given bs q) refl h
   where
     here : (a : Bool) → is_given bs q ≡ a → cond a None (Some q) ≡ Some p → (Some q ≡ Some p) × (is_given bs p ≡ false)
     here true e k = absurd (let no : None ≡ Some p = k in cc)
     here false e k = let same : q ≡ p = cc in (k, subst (λ x. is_given bs x ≡ false) same e)
+
+pub named-has : (ps : List Parameter) (n : List ℕ) (p : Parameter) → named_in ps n ≡ Some p → list_any (same_parameter p) ps ≡ true
+unfolding named_in
+named-has [] n p h = absurd (let no : None ≡ Some p = h in cc)
+named-has (q ∷ qs) n p h = here (bytes_eq n (name_of q)) h (named-has qs n p)
+  where
+    here : (a : Bool) → cond a (Some q) (named_in qs n) ≡ Some p → (named_in qs n ≡ Some p → list_any (same_parameter p) qs ≡ true) → (same_parameter p q || list_any (same_parameter p) qs) ≡ true
+    here true e k = let is : q ≡ p = (let s : Some q ≡ Some p = e in cc) in ap (λ x. same_parameter p x || list_any (same_parameter p) qs) is ∙ ap (λ b. b || list_any (same_parameter p) qs) (same-self p)
+    here false e k = ap (λ b. same_parameter p q || b) (k e) ∙ or-true (same_parameter p q)
 
 -- ---- sids
 
@@ -89,12 +100,7 @@ sid-place bs p true e h = grind (arith, nat_tests)
 sid-place bs p false e h = absurd (let no : None ≡ Some p = h in cc)
 
 named-sid : (n : List ℕ) (p : Parameter) → named_in (parameters op.StaticSids) n ≡ Some p → p ≡ parameter.Sid
-unfolding parameters named_in name_of
-named-sid n p h = here (bytes_eq n []) h
-  where
-    here : (a : Bool) → cond a (Some parameter.Sid) None ≡ Some p → p ≡ parameter.Sid
-    here true k = let same : parameter.Sid ≡ p = cc in sym same
-    here false k = absurd (let no : None ≡ Some p = k in cc)
+named-sid n p h = sid-alone p (named-has (parameters op.StaticSids) n p h)
 
 sids-next : (begun : Bool) (bs : List Bound) (n : Option (List ℕ)) (p : Parameter) (v : Value) → each (λ p v. has op.StaticSids p) bs ≡ true → parameter_of op.StaticSids begun bs n ≡ Some p
     → is_few op.StaticSids (bs ++ bound p v ∷ []) ≡ true

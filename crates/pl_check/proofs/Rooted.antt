@@ -1,10 +1,10 @@
 -- What values and nodes of a graph are as trees.
-use Rattle.std.proofs.Common.{◌≡◌, ℕ, zero, suc, ◌<◌, ◌≤◌, Bool, true, false, cond, List, [], ◌∷◌, ◌++◌, length, map, Option, Some, None, option_map, slice_get, get_or, refl, sym, ap, subst, ◌∙◌, arith}
+use Rattle.std.proofs.Common.{◌≡◌, ℕ, zero, suc, ◌<◌, ◌≤◌, Bool, true, false, cond, List, [], ◌∷◌, ◌++◌, length, map, Option, Some, None, option_map, slice_get, get_or, refl, sym, ap, ◌∙◌, arith}
 use Rattle.std.specs.Prelude.{filter_map, option_and_then}
 use Rattle.std.specs.List.{cons_option}
 use Rattle.std.proofs.lemmas.List.{map-append}
 use Rattle.pl_spec.specs.declared.Column.{Column}
-use Rattle.pl_spec.proofs.Each.{Each, each_more, each_at, map_each}
+use Rattle.pl_spec.proofs.Each.{Each, each_of_map, each_more, map_each}
 use Rattle.pl_pipeline.specs.Kind.{Kind}
 use Rattle.pl_pipeline.specs.Term.{Term, absent, column, node, Input, BarColumn, TermInput, Graph, MentionsBelow, input_tree, number_tree, tree_over, trees, term_at}
 use Rattle.pl_terms.proofs.Interning.{Later}
@@ -16,6 +16,8 @@ use Rattle.pl_check.specs.Values.{Value, Bars, Factor, Filter, Labels, Numbers, 
 use Rattle.pl_check.specs.Operations.{parameters}
 use Rattle.pl_check.specs.Results.{columns_of, term_in, input_in, gives_input, input_for, inputs_for, term_given, node_for}
 use Rattle.pl_check.specs.Trees.{Meaning, tree_given, read_in, input_given, inputs_given, or_absent, tree_for}
+use Rattle.pl_check.proofs.Lists.{given-each}
+use Rattle.pl_check.proofs.Safe.{From, from-inputs}
 use Rattle.pl_check.proofs.Unnumbered.{unnumbered, bare, given-is, given-bare, kind-bare, window-for-bare}
 
 -- ---- values
@@ -134,13 +136,7 @@ tree-for g o bs names =
 -- ---- what it mentions is there
 
 given-in : (g : Graph) (bs : List Bound) (p : Parameter) (v : Value) → AllIn g (values bs) → given bs p ≡ Some v → IsIn g v
-unfolding given
-given-in g [] p v i h = absurd (let no : None ≡ Some v = h in cc)
-given-in g (b ∷ bs) p v i h = here (same_parameter b.parameter p) (sym (given-is b bs p) ∙ h) (given-in g bs p v i.1)
-  where
-    here : (a : Bool) → cond a (Some b.value) (given bs p) ≡ Some v → (given bs p ≡ Some v → IsIn g v) → IsIn g v
-    here true e k = subst (IsIn g) (let s : Some b.value ≡ Some v = e in let q : b.value ≡ v = cc in q) i.0
-    here false e k = k e
+given-in g bs p v i h = given-each (IsIn g) bs p v (each_of_map (IsIn g) (λ (b : Bound). b.value) bs i) h
 
 term-given-in : (g : Graph) (bs : List Bound) (p : Parameter) → AllIn g (values bs) → (k : ℕ) → term_given bs p ≡ Some k → k < length g
 term-given-in g bs p i k h = here (given bs p) refl h
@@ -149,45 +145,22 @@ term-given-in g bs p i k h = here (given bs p) refl h
     here None e q = absurd (let no : None ≡ Some k = q in cc)
     here (Some v) e q = given-in g bs p v i e k q
 
-abbrev IsRead : Graph → Input → Type 0
-IsRead g (BarColumn c) = Unit {0}
-IsRead g (TermInput k) = k < length g
-
-abbrev AllRead : Graph → List Input → Type 0
-AllRead g is = Each (IsRead g) is
-
-columns-in : (g : Graph) (cs : List Column) (is : List Input) → AllRead g is → AllRead g (map BarColumn cs ++ is)
-columns-in g [] is h = h
-columns-in g (c ∷ cs) is h = (tt, columns-in g cs is h)
-
-value-read : (g : Graph) (v : Value) (i : Input) → IsIn g v → input_in v ≡ Some i → IsRead g i
-value-read g (Bars c) i f h = subst (IsRead g) (let s : Some (BarColumn c) ≡ Some i = h in let q : BarColumn c ≡ i = cc in q) tt
-value-read g (Factor t x) i f h = subst (IsRead g) (let s : Some (TermInput t) ≡ Some i = h in let q : TermInput t ≡ i = cc in q) (f t refl)
-value-read g (Filter t) i f h = subst (IsRead g) (let s : Some (TermInput t) ≡ Some i = h in let q : TermInput t ≡ i = cc in q) (f t refl)
-value-read g (Labels t) i f h = subst (IsRead g) (let s : Some (TermInput t) ≡ Some i = h in let q : TermInput t ≡ i = cc in q) (f t refl)
-value-read g (Numbers t) i f h = subst (IsRead g) (let s : Some (TermInput t) ≡ Some i = h in let q : TermInput t ≡ i = cc in q) (f t refl)
-value-read g v i f h = absurd (let no : None ≡ Some i = h in cc)
-
-input-in : (g : Graph) (bs : List Bound) (p : Parameter) (i : Input) → AllIn g (values bs) → input_for bs p ≡ Some i → IsRead g i
-input-in g bs p i f h = here (gives_input p) (given bs p) refl h
-  where
-    here : (a : Bool) (o : Option Value) → given bs p ≡ o → cond a (option_and_then input_in o) None ≡ Some i → IsRead g i
-    here false o e q = absurd (let no : None ≡ Some i = q in cc)
-    here true None e q = absurd (let no : None ≡ Some i = q in cc)
-    here true (Some v) e q = value-read g v i (given-in g bs p v f e) q
-
-given-inputs-in : (g : Graph) (bs : List Bound) (ps : List Parameter) → AllIn g (values bs) → AllRead g (filter_map (input_for bs) ps)
-given-inputs-in g bs [] f = tt
-given-inputs-in g bs (p ∷ ps) f = here (input_for bs p) refl (given-inputs-in g bs ps f)
-  where
-    here : (o : Option Input) → input_for bs p ≡ o → AllRead g (filter_map (input_for bs) ps) → AllRead g (cons_option o (filter_map (input_for bs) ps))
-    here None e h = h
-    here (Some i) e h = (input-in g bs p i f e, h)
+-- a value that is an input, and no bar column, is a term
+input-term : (v : Value) (k : ℕ) → input_in v ≡ Some (TermInput k) → term_in v ≡ Some k
+input-term (Bars c) k h = absurd (let no : Some (BarColumn c) ≡ Some (TermInput k) = h in cc)
+input-term (Factor t s) k h = (let same : Some (TermInput t) ≡ Some (TermInput k) = h in cc)
+input-term (Filter t) k h = (let same : Some (TermInput t) ≡ Some (TermInput k) = h in cc)
+input-term (Labels t) k h = (let same : Some (TermInput t) ≡ Some (TermInput k) = h in cc)
+input-term (Numbers t) k h = (let same : Some (TermInput t) ≡ Some (TermInput k) = h in cc)
+input-term v k h = absurd (let no : None ≡ Some (TermInput k) = h in cc)
 
 pub node-mentions : (g : Graph) (o : Operation) (bs : List Bound) (names : List (List ℕ)) → AllIn g (values bs) → MentionsBelow (node_for o bs names) (length g)
 unfolding node_for
 node-mentions g o bs names f = record {
-  inputs = λ i k h. each_at (IsRead g) (inputs_for o bs) i (TermInput k) (columns-in g (columns_of o) _ (given-inputs-in g bs (parameters o) f)) h;
+  inputs = λ i k h. here k (from-inputs o bs i k h);
   mask = λ k h. term-given-in g bs Mask f k h;
   group = λ k h. term-given-in g bs Groupby f k h;
 }
+  where
+    here : (k : ℕ) → From bs (parameters o) k → k < length g
+    here k (p, v, own, gives, is, input) = given-in g bs p v f is k (input-term v k input)

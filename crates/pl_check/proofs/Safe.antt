@@ -6,7 +6,7 @@ use Rattle.std.proofs.Math.Bool.{or-true, not-or_self}
 use Rattle.pl_spec.specs.declared.Column.{Column}
 use Rattle.pl_pipeline.specs.Kind.{Kind}
 use Rattle.pl_pipeline.specs.Term.{Graph, Node, Input, BarColumn, TermInput}
-use Rattle.pl_terms.specs.Sorts.{is_windowed, is_safe_kind, is_safe_over, IsSafe, of_kind, of_inputs}
+use Rattle.pl_terms.specs.Sorts.{sort_of, is_windowed, is_safe_kind, is_safe_over, IsSafe, of_kind, of_inputs}
 use Rattle.pl_check.specs.declared.operation.Operation.{Operation}
 use Rattle.pl_check.specs.declared.operation.Operation.TheVariants as op
 use Rattle.pl_check.specs.declared.operation.Parameter.{Parameter}
@@ -15,7 +15,7 @@ use Rattle.pl_check.specs.Parameters.{same_parameter}
 use Rattle.pl_check.specs.Values.{Value, Bars, Factor, Filter, Labels, Numbers, Bound, given, is_safe, is_filter, is_bars}
 use Rattle.pl_check.specs.Operations.{parameters}
 use Rattle.pl_check.specs.Rules.{each, takes, is_safe_for}
-use Rattle.pl_check.specs.Results.{kind_for, result_for, columns_of, gives_input, input_in, input_for, inputs_for, all_safe}
+use Rattle.pl_check.specs.Results.{kind_for, result_for, columns_of, gives_input, input_in, input_for, inputs_for, all_safe, may_stand}
 use Rattle.pl_check.specs.Standing.{IsInGraph, AreInGraph}
 use Rattle.pl_check.proofs.Lists.{all-has, test-given, stand-given, same-self}
 
@@ -36,7 +36,7 @@ safe-kept g h k f (of_inputs n e s r) = of_inputs n (f k n e) s (λ i j q. safe-
 -- ---- the inputs of a node
 
 -- an input that is a term is what some parameter is given
-abbrev From : List Bound → List Parameter → ℕ → Type 0
+abbrev pub From : List Bound → List Parameter → ℕ → Type 0
 From bs ps j = (p : Parameter) × (v : Value) × (list_any (same_parameter p) ps ≡ true) × (gives_input p ≡ true) × (given bs p ≡ Some v) × (input_in v ≡ Some (TermInput j))
 
 later : (bs : List Bound) (q : Parameter) (ps : List Parameter) (j : ℕ) → From bs ps j → From bs (q ∷ ps) j
@@ -65,7 +65,7 @@ behind-columns [] is i j h = (i, h)
 behind-columns (c ∷ cs) is zero j h = absurd (let no : Some (BarColumn c) ≡ Some (TermInput j) = h in cc)
 behind-columns (c ∷ cs) is (suc i) j h = behind-columns cs is i j h
 
-from-inputs : (o : Operation) (bs : List Bound) (i j : ℕ) → slice_get (inputs_for o bs) i ≡ Some (TermInput j) → From bs (parameters o) j
+pub from-inputs : (o : Operation) (bs : List Bound) (i j : ℕ) → slice_get (inputs_for o bs) i ≡ Some (TermInput j) → From bs (parameters o) j
 from-inputs o bs i j h =
     let r = behind-columns (columns_of o) (filter_map (input_for bs) (parameters o)) i j h in
     from-parameters bs (parameters o) r.0 j r.1
@@ -143,19 +143,9 @@ is_like op.Downsample = true
 is_like o = false
 
 result-called : (o : Operation) (bs : List Bound) (names : List (List ℕ)) (t : ℕ) → is_like o ≡ false → SafeResult (kind_for o bs names) (all_safe bs) (result_for o bs t)
-unfolding kind_for result_for is_safe_kind is_safe_over
-result-called op.Demean bs names t h = not-or_self (all_safe bs)
-result-called op.Add bs names t h = not-or_self (all_safe bs)
-result-called op.Sub bs names t h = not-or_self (all_safe bs)
-result-called op.Mul bs names t h = not-or_self (all_safe bs)
-result-called op.Div bs names t h = not-or_self (all_safe bs)
-result-called op.Neg bs names t h = not-or_self (all_safe bs)
-result-called op.Abs bs names t h = not-or_self (all_safe bs)
-result-called op.Clip bs names t h = not-or_self (all_safe bs)
-result-called op.FillNa bs names t h = not-or_self (all_safe bs)
-result-called op.IfElse bs names t h = not-or_self (all_safe bs)
+unfolding kind_for result_for sort_of is_safe_kind is_safe_over
 result-called op.Downsample bs names t h = absurd (let no : true ≡ false = h in cc)
-result-called o bs names t h = refl
+result-called o bs names t h = not-or_self (may_stand (kind_for o bs names) (all_safe bs))
 
 called-cases : (s a b c : Bool) → s ≡ true → (not s || (a || (b && c))) ≡ true → (a ≡ true) ⊎ ((b ≡ true) × (c ≡ true))
 called-cases true true b c e h = inl refl

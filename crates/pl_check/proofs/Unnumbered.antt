@@ -3,6 +3,7 @@ use Rattle.std.proofs.Common.{◌≡◌, ℕ, Bool, true, false, ◌&&◌, ◌||
 use Rattle.std.specs.Prelude.{filter, is_some, option_and_then}
 use Rattle.std.proofs.lemmas.List.{length-map, map-append}
 use Rattle.std.specs.Int.RustNames.{int_le}
+use Rattle.pl_terms.specs.Sorts.{sort_of, is_safe_kind, is_safe_over}
 use Rattle.pl_pipeline.specs.Kind as kind
 use Rattle.pl_grammar.specs.declared.BinarySign.{BinarySign}
 use Rattle.pl_grammar.specs.declared.BinarySign.TheVariants as signs
@@ -14,7 +15,7 @@ use Rattle.pl_check.specs.Parameters.{same_parameter, is_optional}
 use Rattle.pl_check.specs.Values.{Value, Factor, Filter, Labels, Numbers, Bound, bound, is_safe, number_in, text_in, given, read_or}
 use Rattle.pl_check.specs.Operations.{parameters, operator}
 use Rattle.pl_check.specs.Rules.{Written, place_at, named_in, is_given, unless_given, parameter_of, has_all, form, takes, is_whole, is_percent, number_given, is_within, is_window, is_safe_for, each, broken}
-use Rattle.pl_check.specs.Results.{whole, percent_given, text_given, values_given, method_of, order_of, frequency_of, with_sid, sorted_sids, name_number, with_name, kind_for, names_after, window_of, window_for, all_safe, like, result_for}
+use Rattle.pl_check.specs.Results.{whole, percent_given, text_given, values_given, method_of, order_of, frequency_of, with_sid, sorted_sids, name_number, with_name, kind_for, names_after, window_of, window_for, all_safe, like, sorted, may_stand, result_for}
 use Rattle.pl_check.specs.Typed.{first_of, object_of, second_of, operands_of, is_storable, is_term_filter}
 use Rattle.pl_check.proofs.Lists.{given-cons, all-same}
 
@@ -197,21 +198,11 @@ like-bare (Some (Filter u)) s t = refl
 like-bare (Some v) s t = refl
 
 pub result-bare : (o : Operation) (bs : List Bound) (t : ℕ) → result_for o (map bare bs) 0 ≡ unnumbered (result_for o bs t)
-unfolding result_for
+unfolding result_for kind_for sort_of is_safe_kind is_safe_over
 result-bare op.Downsample bs t =
     ap (λ v. like v (all_safe (map bare bs)) 0) (given-bare bs parameter.AnyTerm) ∙ ap (λ s. like (option_map unnumbered (given bs parameter.AnyTerm)) s 0) (all-safe-bare bs)
     ∙ like-bare (given bs parameter.AnyTerm) (all_safe bs) t
-result-bare op.Demean bs t = ap (Factor 0) (all-safe-bare bs)
-result-bare op.Add bs t = ap (Factor 0) (all-safe-bare bs)
-result-bare op.Sub bs t = ap (Factor 0) (all-safe-bare bs)
-result-bare op.Mul bs t = ap (Factor 0) (all-safe-bare bs)
-result-bare op.Div bs t = ap (Factor 0) (all-safe-bare bs)
-result-bare op.Neg bs t = ap (Factor 0) (all-safe-bare bs)
-result-bare op.Abs bs t = ap (Factor 0) (all-safe-bare bs)
-result-bare op.Clip bs t = ap (Factor 0) (all-safe-bare bs)
-result-bare op.FillNa bs t = ap (Factor 0) (all-safe-bare bs)
-result-bare op.IfElse bs t = ap (Factor 0) (all-safe-bare bs)
-result-bare o bs t = refl
+result-bare o bs t = ap (λ safe. sorted (sort_of (kind_for o bs [])) (may_stand (kind_for o bs []) safe) 0) (all-safe-bare bs)
 
 -- ---- the form of arguments
 

@@ -6,6 +6,7 @@ use Rattle.pl_grammar.specs.declared.Place.{Place}
 use Rattle.pl_grammar.specs.declared.BinarySign.TheVariants as sign
 use Rattle.pl_grammar.specs.Tree.{number, binary}
 use Rattle.pl_grammar.specs.Script.{ColumnHead}
+use Rattle.pl_terms.specs.Sorts.{sort_of, is_safe_kind, is_safe_over}
 use Rattle.pl_check.specs.Typed.{asks_factor, object_of, bar_column}
 use Rattle.pl_check.specs.Rules.{broken, takes, is_within, is_window, is_safe_for}
 use Rattle.pl_check.specs.Results.{kind_for, result_for, gives_input, columns_of}
@@ -32,5 +33,5 @@ difference : script_trees (record {
       columns = record { name = codes "a"; tree = node (Point Sub) 1 one one absent absent absent } ∷ [];
       screen = None;
     })
-unfolding script_trees statements_judged meaning combined applied made tree_for tree_given stored column_judged asks_factor object_of bar_column broken takes is_within is_window is_safe_for kind_for result_for gives_input columns_of parameters number_of given
+unfolding script_trees statements_judged meaning combined applied made tree_for tree_given stored column_judged asks_factor object_of bar_column broken takes is_within is_window is_safe_for kind_for result_for sort_of is_safe_kind is_safe_over gives_input columns_of parameters number_of given
 difference = refl

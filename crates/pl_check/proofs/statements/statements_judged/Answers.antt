@@ -1,10 +1,12 @@
 use Rattle.std.proofs.Common.{◌+◌, drop, refl, sym, ap, subst, ◌∙◌, arith, rules}
 use Rattle.std.proofs.lemmas.List.{drop_all}
+use Rattle.std.proofs.lemmas.Result.{IfOk-at_ok}
 use Rattle.pl_syntax.specs.Statements.{statement_of, statements_of}
 use Rattle.pl_grammar.specs.Whole.{are_sound}
 use Rattle.pl_tokens.specs.Sound.{is_written}
 use Rattle.pl_check.specs.Answers.{Fails}
 use Rattle.pl_check.specs.Judging.{judged_of}
+use Rattle.pl_check.specs.Standing.{JudgedIsSound}
 use Rattle.pl_check.specs.Typed.{statements_judged}
 use Rattle.pl_check.proofs.Stated.{statement-kept, tree-sound, next-statement, judged-next, failed-next}
 use Rattle.pl_check.proofs.statements.statements_judged.Goals as goal
@@ -39,7 +41,7 @@ loop-statement-preserved c =
     let ss = statements_of (drop (c.loop-statement.statement-index + 1) c.args.statements.now) in
     let e = next-statement c.args.statements.now c.loop-statement.statement-index c.statement-item.result c.loop-statement-test.true c.statement-item.is in
     let y = tree-sound s ss (sym (ap (are_sound is_written) e) ∙ c.loop-statement.invariant.2) in
-    (judged-next c.args.version j k s ss c.in_ok-statement_judged.ensures ∙ sym (ap (statements_judged c.args.version j) e) ∙ c.loop-statement.invariant.0, statement-kept c.args.version j s k y.0 c.loop-statement.invariant.1 c.in_ok-statement_judged.ensures, y.1)
+    (judged-next c.args.version j k s ss c.in_ok-statement_judged.ensures ∙ sym (ap (statements_judged c.args.version j) e) ∙ c.loop-statement.invariant.0, IfOk-at_ok JudgedIsSound c.in_ok-statement_judged.ensures (statement-kept c.args.version j s y.0 c.loop-statement.invariant.1), y.1)
 
 pub returns : goal.returns
 unfolding statements_judged
