@@ -1,9 +1,8 @@
 -- What causes a status, and what is left of parts that are not used.
-use Rattle.std.proofs.Common.{◌≡◌, ℕ, ◌<◌, Bool, Option, Result, Ok, Err, IfErr, refl, arith}
+use Rattle.std.proofs.Common.{◌≡◌, ℕ, Bool, Option, Result, Ok, Err, IfErr, refl, arith}
 use Rattle.pl_outside.specs.Left.{Leaves, LeavesSink, IsUntouched}
 use Rattle.pl_judge.specs.declared.fault.Fault.{Fault}
-use Rattle.pl_judge.specs.declared.fault.Fault.TheVariants as faults
-use Rattle.pl_judge.specs.declared.fault.Fault.TheVariants.{Usage, Unread, Unloaded, Unwritten, Memory}
+use Rattle.pl_judge.specs.declared.fault.Fault.TheVariants.{Usage, Unread, Unloaded, Unwritten}
 use Rattle.pl_judge.specs.Faults.{status_of, judged_status}
 use Rattle.pl_cli.specs.declared.commands.Stats.{Stats}
 use Rattle.pl_cli.specs.Commands.{IsCaused, fault_of}
@@ -16,58 +15,28 @@ pub record IsCausedBy (usage shelf keeper out kept : Type 0) (status : ℕ) : Ty
   pub same : ¬ (status ≡ 0) → ¬ (status ≡ 9) → kept
 
 module _ (usage shelf keeper out kept : Type 0) where
-  -- the input was judged
-  judged : (n : ℕ) → 2 < n → n < 7 → kept → IsCausedBy usage shelf keeper out kept n
-  judged n a b h = record {
-    refused = λ e. absurd (omega arith);
-    unread = λ e. absurd (omega arith);
-    unloaded = λ e. absurd (omega arith);
-    unwritten = λ e. absurd (omega arith);
-    same = λ z w. h;
-  }
+  refused : (f : Fault) → IsCaused usage shelf keeper out kept f → status_of f ≡ 2 → usage
+  refused Usage h e = h.1
+  refused f h e = absurd (omega arith)
 
-  by-fault : (f : Fault) → IsCaused usage shelf keeper out kept f → IsCausedBy usage shelf keeper out kept (status_of f)
-  by-fault Usage h = record {
-    refused = λ e. h.1;
-    unread = λ e. absurd (omega arith);
-    unloaded = λ e. absurd (omega arith);
-    unwritten = λ e. absurd (omega arith);
-    same = λ z w. h.0;
-  }
-  by-fault (faults.Syntax place fault) h = judged 3 (omega arith) (omega arith) h
-  by-fault (faults.Rule place fault) h = judged 3 (omega arith) (omega arith) h
-  by-fault (faults.Data file line fault) h = judged 4 (omega arith) (omega arith) h
-  by-fault (faults.Row table id fault) h = judged 4 (omega arith) (omega arith) h
-  by-fault (faults.Passed limit) h = judged 6 (omega arith) (omega arith) h
-  by-fault (Unread file) h = record {
-    refused = λ e. absurd (omega arith);
-    unread = λ e. h.1;
-    unloaded = λ e. absurd (omega arith);
-    unwritten = λ e. absurd (omega arith);
-    same = λ z w. h.0;
-  }
-  by-fault (Unloaded table) h = record {
-    refused = λ e. absurd (omega arith);
-    unread = λ e. absurd (omega arith);
-    unloaded = λ e. h.1;
-    unwritten = λ e. absurd (omega arith);
-    same = λ z w. h.0;
-  }
-  by-fault Unwritten h = record {
-    refused = λ e. absurd (omega arith);
-    unread = λ e. absurd (omega arith);
-    unloaded = λ e. absurd (omega arith);
-    unwritten = λ e. h;
-    same = λ z w. absurd (w refl);
-  }
-  by-fault Memory h = record {
-    refused = λ e. absurd (omega arith);
-    unread = λ e. absurd (omega arith);
-    unloaded = λ e. absurd (omega arith);
-    unwritten = λ e. absurd (omega arith);
-    same = λ z w. h;
-  }
-  by-fault f h = judged 5 (omega arith) (omega arith) h
+  unread : (f : Fault) → IsCaused usage shelf keeper out kept f → status_of f ≡ 7 → shelf
+  unread (Unread file) h e = h.1
+  unread f h e = absurd (omega arith)
+
+  unloaded : (f : Fault) → IsCaused usage shelf keeper out kept f → status_of f ≡ 8 → keeper
+  unloaded (Unloaded table) h e = h.1
+  unloaded f h e = absurd (omega arith)
+
+  unwritten : (f : Fault) → IsCaused usage shelf keeper out kept f → status_of f ≡ 9 → out
+  unwritten Unwritten h e = h
+  unwritten f h e = absurd (omega arith)
+
+  same : (f : Fault) → IsCaused usage shelf keeper out kept f → ¬ (status_of f ≡ 9) → kept
+  same Usage h w = h.0
+  same (Unread file) h w = h.0
+  same (Unloaded table) h w = h.0
+  same Unwritten h w = absurd (w refl)
+  same f h w = h
 
   pub by-answer : (r : Result (Option Stats) Fault) (status : ℕ) → status ≡ judged_status (fault_of r) → IfErr r (IsCaused usage shelf keeper out kept)
       → IsCausedBy usage shelf keeper out kept status
@@ -80,7 +49,8 @@ module _ (usage shelf keeper out kept : Type 0) where
         unwritten = λ i. absurd (omega arith);
         same = λ z w. absurd (z zero);
       }
-  by-answer (Err f) status e h = rw e (by-fault f h)
+  by-answer (Err f) status e h =
+      rw e record { refused = refused f h; unread = unread f h; unloaded = unloaded f h; unwritten = unwritten f h; same = λ z. same f h }
 
 -- ---- what is left of parts that are not used
 
