@@ -12,7 +12,6 @@ use Rattle.pl_pipeline.specs.Term.Input.{BarColumn, TermInput}
 use Rattle.pl_spec.specs.Window.{bar_window}
 use Rattle.pl_spec.specs.World.{World}
 use Rattle.pl_pipeline.specs.Lows.{Reads}
-use Rattle.pl_laws.proofs.Uses.{lower}
 use Rattle.pl_assets.specs.Labels.{AreLabels}
 use Rattle.pl_terms.specs.declared.node.Node as code
 use Rattle.pl_terms.specs.declared.node.TermId.{TermId}
