@@ -169,14 +169,18 @@ kind_value w names (Label n) size operands a d = label_value (label_at w (name_a
 kind_value w names (kind.Number n) size operands a d = Number (known_number w (name_at names n) a d)
 kind_value w names (StaticSids sids) size operands a d = Number (truth (list_any (λ b. b == a) sids))
 kind_value w names (Window k) size operands a d =
-    Number (formula k (window_of w size operands.first a d) (window_of w size operands.second a d) (window_of w size operands.third a d))
+    Number
+    (formula k (window_of w size operands.first a d) (window_of w size operands.second a d)
+    (window_of w size operands.third a d))
 kind_value w names (Point k) size operands a d =
     let now : Part → ℤ = λ x. number_of (value_of_part x a d) in
     Number (pointwise k (now operands.first) (now operands.second) (now operands.third))
 kind_value w names (LabelTest k) size operands a d = test_value k (value_of_part operands.first a d)
 kind_value w names (Cross k) size operands a d =
     let list = eligible w k operands a d in
-    if list_any (λ e. e.0 == a) list then Number (cross k list a (number_of (value_of_part operands.first a d))) else empty (Cross k)
+    if list_any (λ e. e.0 == a) list
+    then Number (cross k list a (number_of (value_of_part operands.first a d)))
+    else empty (Cross k)
 kind_value w names (Downsample f) size operands a d = value_of_part operands.first a (period_start f w.days d)
 
 unfoldable pub value : World → List (List ℕ) → Term → Meaning

@@ -73,7 +73,8 @@ module _ (days : List ℤ) (s : ℕ) (g : Graph) (outputs : List ℕ) where
   abbrev IsReader : ℕ → ℕ → Type 0
   IsReader t l = ((contains outputs t ≡ true) × (l ≡ length g)) ⊎ (Used g outputs l × (contains (mentions_at g l) t ≡ true))
 
-  -- before the terms below k are asked, what is used is needed, and what the other used terms read is computed
+  -- before the terms below k are asked, what is used is needed, and what the other used terms read is
+  -- computed
   pub record AreGathered (k : ℕ) (us : List Use) : Type 0 where
     pub size : length us ≡ length g
     pub sound : (t : ℕ) → (use_at us t).used ≡ true → Needs days g outputs (pos s) t (pos s -ℤ pos (use_at us t).extra) × IsReader t (use_at us t).last
