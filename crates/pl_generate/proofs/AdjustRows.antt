@@ -110,4 +110,7 @@ unfolding adjustments_from
 adjustments-are s a b d xs assets e f g h is = is ∙ rw (e, f, g, h) refl
 
 pub right-over : (s : ℕ) (a b d : List RawAdjust) → a ≡ in_turn (split s) → b ≡ in_turn (merger s) → d ≡ in_turn (dividend s) → AreRight (walk a b d)
-right-over s a b d e f g = rw (e, f, g) (are_right s)
+right-over s a b d e f g =
+    subst (λ (x : List RawAdjust). AreRight (walk x b d)) (sym e)
+    (subst (λ (x : List RawAdjust). AreRight (walk (in_turn (split s)) x d)) (sym f)
+    (subst (λ (x : List RawAdjust). AreRight (walk (in_turn (split s)) (in_turn (merger s)) x)) (sym g) (are_right s)))
