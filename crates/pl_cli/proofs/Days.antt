@@ -1,5 +1,5 @@
 -- How a table that is computed session by session ends.
-use Rattle.std.proofs.Common.{◌≡◌, ℕ, ◌+◌, ◌≤◌, Option, Some, Result, Ok, Err, OnOk, refl, subst}
+use Rattle.std.proofs.Common.{◌≡◌, ℕ, Some, Result, refl, subst}
 use Rattle.pl_spec.specs.World.{World}
 use Rattle.pl_pipeline.specs.Table.{Pipeline}
 use Rattle.pl_terms.specs.Checked.{pipeline_of}
@@ -15,7 +15,6 @@ use Rattle.pl_load.specs.Views.{ShelfView, KeeperView, Change}
 use Rattle.pl_load.specs.declared.loading.Loaded.{Loaded}
 use Rattle.pl_load.specs.Loads.{IsLoadOf, IsLoad, IsLoaded}
 use Rattle.pl_world.specs.Worlds.{owned_world}
-use Rattle.pl_cli.specs.declared.commands.Stats.{Stats}
 use Rattle.pl_cli.specs.Texts.{text_of, TakesSteps}
 use Rattle.pl_cli.specs.Commands.{loaded_text, loaded_days}
 use Rattle.pl_cli.proofs.Loaded.{loaded-text}
@@ -47,15 +46,6 @@ days-text held q l h = loaded-text held q l h
 same-steps : (v w : World) (p r : Pipeline) (a b : ℕ) → v ≡ w → p ≡ r → a ≡ b → daily_steps w r b ≡ daily_steps v p a
 same-steps v w p r a b e f g = rw (e, f, g) refl
 
-days-steps : (held : Contents) (q : RunRequest) (l : Loaded) (P : ℕ → Type 0) → IsLoaded held q l → P (loaded_days l) → TakesSteps held (Some (Daily q)) P
+pub days-steps : (held : Contents) (q : RunRequest) (l : Loaded) (P : ℕ → Type 0) → IsLoaded held q l → P (loaded_days l) → TakesSteps held (Some (Daily q)) P
 days-steps held q l P h k =
     subst P (same-steps (world_known held q) (owned_world l.world) (pipeline_held held) (pipeline_of l.checked) (index_of (days_held held) q.to.day) l.plan.to h.world h.pipeline h.to) k
-
-pub ok-days : (q : RunRequest) (held : Contents) (l : Loaded) (before now : ℕ) (r : Result (Option Stats) Fault) → IsLoaded held q l → OnOk r (now ≡ before + loaded_days l)
-    → OnOk r (TakesSteps held (Some (Daily q)) (λ n. now ≡ before + n))
-ok-days q held l before now (Ok x) h cost = days-steps held q l (λ n. now ≡ before + n) h cost
-ok-days q held l before now (Err f) h cost = tt
-
-pub most-days : (q : RunRequest) (held : Contents) (l : Loaded) (before now : ℕ) → IsLoaded held q l → now ≤ before + loaded_days l
-    → TakesSteps held (Some (Daily q)) (λ n. now ≤ before + n)
-most-days q held l before now h most = days-steps held q l (λ n. now ≤ before + n) h most

@@ -31,17 +31,6 @@ pub seen-writes : {O : Type 0} {taken : O → Option (List ℕ)} {faults : O →
 seen-writes w =
     record { all = w.all; prefix = w.prefix; failed = w.failed; later = w.later; stays = w.stays; room_left = w.room_left; blameless = w.blameless }
 
--- a text that was written by a call with another answer
-pub seen-all : {O T E : Type 0} {taken : O → Option (List ℕ)} {faults : O → ℕ} {sound : O → Bool} {room : O → ℕ} {old new : O} {text : List ℕ} {x : T} {stats : Option Stats}
-    → Writes {E = E} taken faults sound room old new text (Ok x) → SinkWrites (sink_change taken sound faults room old new) text (Ok stats)
-seen-all w =
-    record { all = w.all; prefix = tt; failed = tt; later = w.later; stays = w.stays; room_left = w.room_left; blameless = λ s r. (refl, (w.blameless s r).1) }
-
-pub seen-part : {O T E : Type 0} {taken : O → Option (List ℕ)} {faults : O → ℕ} {sound : O → Bool} {room : O → ℕ} {old new : O} {text : List ℕ} {e : E} {fault : Fault}
-    → Writes {T = T} taken faults sound room old new text (Err e) → SinkWrites (sink_change taken sound faults room old new) text (Err fault)
-seen-part w =
-    record { all = tt; prefix = w.prefix; failed = w.failed; later = w.later; stays = w.stays; room_left = λ s. tt; blameless = λ s r. absurd (cc (w.blameless s r).0) }
-
 pub seen-same : {O : Type 0} {taken : O → Option (List ℕ)} {faults : O → ℕ} {sound : O → Bool} {room : O → ℕ} {old new : O} {text : List ℕ} {r : Result (Option Stats) Fault}
     → IsErrOf r Memory ⊎ Writes taken faults sound room old new text r → IsErrOf r Memory ⊎ SinkWrites (sink_change taken sound faults room old new) text r
 seen-same h = elim h [ inl m ↦ inl m | inr w ↦ inr (seen-writes w) ]

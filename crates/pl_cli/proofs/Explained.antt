@@ -1,5 +1,5 @@
 -- How the derivation of a cell ends.
-use Rattle.std.proofs.Common.{◌≡◌, ◌∙◌, inl, inr, ℕ, ◌<◌, ◌≤◌, pos, true, List, [], ◌∷◌, ◌++◌, length, Some, None, Result, Ok, Err, IfOk, IfErr, refl, sym, subst, ap, ap₂, unwrap_or}
+use Rattle.std.proofs.Common.{◌≡◌, ◌∙◌, inl, inr, ℕ, ◌<◌, ◌≤◌, pos, true, List, [], ◌∷◌, ◌++◌, length, Some, None, Result, Ok, Err, IfOk, IfErr, refl, sym, subst, subst₂, ap, ap₂, unwrap_or}
 use Rattle.std.proofs.lemmas.List.{length-map}
 use Rattle.pl_spec.specs.Limits.{most_lines}
 use Rattle.pl_spec.specs.World.{World}
@@ -61,33 +61,23 @@ module _ (q : ExplainRequest) (l : LoadedCell) (held : Contents) (h : IsCellHeld
       (short (owned_world l.world) (pipeline_of l.checked) q l.cell.term.0 l.cell.session h.term h.session
       (subst (λ a. length (facts_for (owned_world l.world) (pipeline_of l.checked) (TermValue l.cell.term.0 a (pos l.cell.session))) ≤ most_lines) sid-is few))
 
-same-derivation : (w v : World) (r p : Pipeline) (t u a b d k : ℕ) → w ≡ v → r ≡ p → t ≡ u → a ≡ b → d ≡ k → derivation w r t a (pos d) ≡ derivation v p u b (pos k)
-same-derivation w v r p t u a b d k e f g h i =
-    ap (λ x. derivation x r t a (pos d)) e ∙ ap (λ x. derivation v x t a (pos d)) f ∙ ap (λ x. derivation v p x a (pos d)) g
-    ∙ ap (λ x. derivation v p u x (pos d)) h ∙ ap (λ x. derivation v p u b (pos x)) i
-
-same-count : (w v : World) (p : Pipeline) (t a b d : ℕ) → w ≡ v → a ≡ b → length (facts_for w p (TermValue t a (pos d))) ≡ length (facts_for v p (TermValue t b (pos d)))
-same-count w v p t a b d e h = ap (λ x. length (facts_for x p (TermValue t a (pos d)))) e ∙ ap (λ x. length (facts_for v p (TermValue t x (pos d)))) h
-
 module _ (v : lent.World) (o : OwnedWorld) (p : Pipeline) (t col d : ℕ) (same : world_of v ≡ owned_world o) (assets : v.assets.now ≡ o.assets) where
   pub lent-lines : (r : Result (List Line) ExplainError) → IfOk r (λ ls. ls ≡ derivation (world_of v) p t (sid_at v.assets.now col) (pos d))
       → IfOk r (λ ls. ls ≡ derivation (owned_world o) p t (sid_at o.assets col) (pos d))
-  lent-lines (Ok ls) h = h ∙ same-derivation (world_of v) (owned_world o) p p t t (sid_at v.assets.now col) (sid_at o.assets col) d d same refl refl (ap (λ xs. sid_at xs col) assets) refl
-  lent-lines (Err e) h = tt
+  lent-lines r h = subst₂ (λ (w : World) (a : ℕ). IfOk r (λ ls. ls ≡ derivation w p t a (pos d))) same (ap (λ xs. sid_at xs col) assets) h
 
   pub lent-count : (r : Result (List Line) ExplainError) → IfErr r (λ e. e ≡ errors.TooLong → most_lines < length (facts_for (world_of v) p (TermValue t (sid_at v.assets.now col) (pos d))))
       → IfErr r (λ e. e ≡ errors.TooLong → most_lines < length (facts_for (owned_world o) p (TermValue t (sid_at o.assets col) (pos d))))
-  lent-count (Ok ls) h = tt
-  lent-count (Err e) h = λ is. subst (λ n. most_lines < n)
-      (same-count (world_of v) (owned_world o) p t (sid_at v.assets.now col) (sid_at o.assets col) d same (ap (λ xs. sid_at xs col) assets)) (h is)
+  lent-count r h =
+      subst₂ (λ (w : World) (a : ℕ). IfErr r (λ e. e ≡ errors.TooLong → most_lines < length (facts_for w p (TermValue t a (pos d))))) same (ap (λ xs. sid_at xs col) assets) h
 
 same-lines : (w v : World) (p r : Pipeline) (q : ExplainRequest) (t sid d : ℕ) (ls : List Line) → v ≡ w → p ≡ r → column_term r q.column ≡ Some t → session_of w.days q.date.day ≡ Some d
     → sid ≡ q.sid → ls ≡ derivation w r t sid (pos d) → lines.text_of ls ≡ derivation_text v p q
 same-lines w v p r q t sid d ls e f c s a is =
-    let term : column_term p q.column ≡ Some t = subst (λ (x : Pipeline). column_term x q.column ≡ Some t) (sym f) c in
-    let session : session_of v.days q.date.day ≡ Some d = subst (λ (x : World). session_of x.days q.date.day ≡ Some d) (sym e) s in
-    ap lines.text_of
-    (is ∙ same-derivation w v r p t (term_asked p q) sid q.sid d (index_of v.days q.date.day) (sym e) (sym f) (sym (ap (λ o. unwrap_or o 0) term)) a (sym (ap (λ o. unwrap_or o 0) session)))
+    let term : t ≡ term_asked r q = sym (ap (λ o. unwrap_or o 0) c) in
+    let session : d ≡ index_of w.days q.date.day = sym (ap (λ o. unwrap_or o 0) s) in
+    subst₂ (λ (x : World) (y : Pipeline). lines.text_of ls ≡ derivation_text x y q) (sym e) (sym f)
+    (ap lines.text_of (is ∙ ap (λ x. derivation w r x sid (pos d)) term ∙ ap₂ (λ x y. derivation w r (term_asked r q) x (pos y)) a session))
 
 pub lines-text : (held : Contents) (q : ExplainRequest) (l : LoadedCell) (ls : List Line) → IsCellHeld held q l → ls ≡ loaded_lines l → lines.text_of ls ≡ text_of held (Some (Explain q))
 unfolding text_of

@@ -1,6 +1,7 @@
 pub mod Keepers
 pub mod Counts
 pub mod PlanTexts
+pub mod Written
 pub mod Ended
 pub mod Loaded
 pub mod Finished

@@ -1,5 +1,5 @@
 -- What was loaded of a run, and the texts of scripts and pipelines.
-use Rattle.std.proofs.Common.{◌≡◌, ℕ, ◌+◌, ◌≤◌, Bool, cond, List, [], Option, Some, Result, Ok, Err, OnOk, IfOk, refl, sym, ap, ◌∙◌}
+use Rattle.std.proofs.Common.{◌≡◌, ℕ, Bool, cond, List, [], Some, refl, sym, ap, ◌∙◌}
 use Rattle.pl_spec.specs.declared.Format.{Format}
 use Rattle.pl_spec.specs.World.{World}
 use Rattle.pl_pipeline.specs.Table.{Pipeline, table}
@@ -11,7 +11,6 @@ use Rattle.pl_planner.specs.Plans.{Planned}
 use Rattle.pl_runner.specs.Runs.{run_steps}
 use Rattle.pl_words.specs.declared.request.InputFile.TheVariants as files
 use Rattle.pl_words.specs.Request.{Run, Fmt, Check, RunRequest}
-use Rattle.pl_judge.specs.declared.fault.Fault.{Fault}
 use Rattle.pl_judge.specs.Contents.{Contents}
 use Rattle.pl_judge.specs.Held.{script_in, pipeline_in, pipeline_held, world_held}
 use Rattle.pl_judge.specs.Known.{world_known}
@@ -19,9 +18,8 @@ use Rattle.pl_load.specs.declared.loading.Loaded.{Loaded}
 use Rattle.pl_load.specs.Loads.{IsLoaded}
 use Rattle.pl_world.specs.Worlds.{owned_world}
 use Rattle.pl_world.specs.Known.{ShowsSame}
-use Rattle.pl_cli.specs.declared.commands.Stats.{Stats}
 use Rattle.pl_cli.specs.Texts.{text_of, check_text, numbers_of, present_in, table_stats, run_stats, TakesSteps, TellsNumbers}
-use Rattle.pl_cli.specs.Commands.{loaded_text, loaded_steps, loaded_stats, stats_told}
+use Rattle.pl_cli.specs.Commands.{loaded_text, loaded_steps, loaded_stats}
 
 same-text : (format : Format) (v w : World) (p r : Pipeline) (a b from to : ℕ) → ShowsSame v w r from to → p ≡ r → a ≡ from → b ≡ to
     → text v r format (table v r from to) ≡ text w p format (table w p a b)
@@ -31,7 +29,7 @@ pub loaded-text : (held : Contents) (q : RunRequest) (l : Loaded) → IsLoaded h
 unfolding text_of
 loaded-text held q l h = same-text q.options.format (owned_world l.world) (world_held held q.world) (pipeline_held held) (pipeline_of l.checked) _ _ l.plan.from l.plan.to h.same h.pipeline h.from h.to
 
-loaded-steps : (held : Contents) (q : RunRequest) (l : Loaded) (P : ℕ → Type 0) → IsLoaded held q l → P (loaded_steps l q.options.chunk) → TakesSteps held (Some (Run q)) P
+pub loaded-steps : (held : Contents) (q : RunRequest) (l : Loaded) (P : ℕ → Type 0) → IsLoaded held q l → P (loaded_steps l q.options.chunk) → TakesSteps held (Some (Run q)) P
 loaded-steps held q l P h k =
     (l.plan, record { is = rw h.pipeline h.plan; from = sym h.from; to = sym h.to }, rw (h.world, h.pipeline) k)
 
@@ -47,7 +45,7 @@ same-steps : (v w : World) (p r : Pipeline) (plan : Planned) (size : ℕ) → v 
 same-steps v w p r plan size e c = rw (e, c) refl
 
 -- the numbers of what was loaded are those of the run
-loaded-numbers : (held : Contents) (q : RunRequest) (l : Loaded) (line : List ℕ) → IsLoaded held q l
+pub loaded-numbers : (held : Contents) (q : RunRequest) (l : Loaded) (line : List ℕ) → IsLoaded held q l
     → line ≡ loaded_stats q.options.stats l q.options.chunk → TellsNumbers held (Some (Run q)) line
 loaded-numbers held q l line h e = (
   l.plan,
@@ -64,17 +62,3 @@ fmt-text name bytes script e held h = rw (e, h) refl
 pub check-text : (name : List ℕ) (p : Pipeline) (held : Contents) → pipeline_in (held.file files.Pipeline) ≡ p → check_text p ≡ text_of held (Some (Check name))
 unfolding text_of
 check-text name p held h = rw h refl
-
-pub ok-steps : (held : Contents) (q : RunRequest) (l : Loaded) (before now : ℕ) (r : Result (Option Stats) Fault) → IsLoaded held q l
-    → OnOk r (now ≡ before + loaded_steps l q.options.chunk) → OnOk r (TakesSteps held (Some (Run q)) (λ n. now ≡ before + n))
-ok-steps held q l before now (Ok x) h cost = loaded-steps held q l (λ n. now ≡ before + n) h cost
-ok-steps held q l before now (Err f) h cost = tt
-
-pub ok-numbers : (held : Contents) (q : RunRequest) (l : Loaded) (r : Result (Option Stats) Fault) → IsLoaded held q l
-    → IfOk r (λ stats. stats_told stats ≡ loaded_stats q.options.stats l q.options.chunk) → IfOk r (λ stats. TellsNumbers held (Some (Run q)) (stats_told stats))
-ok-numbers held q l (Ok x) h told = loaded-numbers held q l (stats_told x) h told
-ok-numbers held q l (Err f) h told = tt
-
-pub most-steps : (held : Contents) (q : RunRequest) (l : Loaded) (before now : ℕ) → IsLoaded held q l → now ≤ before + loaded_steps l q.options.chunk
-    → TakesSteps held (Some (Run q)) (λ n. now ≤ before + n)
-most-steps held q l before now h most = loaded-steps held q l (λ n. now ≤ before + n) h most

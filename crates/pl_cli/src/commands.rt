@@ -1,6 +1,6 @@
 //! The commands. Each reads and judges what it is asked for, and writes its text.
 
-ghost use Rattle.std.specs.Prelude.{◌≡◌, ◌≤◌, ◌+◌, ◌⊎◌, ℕ, if◌then◌else◌, [], None, Some, OnOk, IfOk, IfErr, IsErrOf};
+ghost use Rattle.std.specs.Prelude.{◌≡◌, ◌≤◌, ◌+◌, ◌⊎◌, ℕ, if◌then◌else◌, [], None, Some, OnOk, IfOk, IfErr, IsErrOf, flat_map};
 ghost use Rattle.pl_outside.specs.Taken.{Writes};
 ghost use Rattle.pl_words.specs.Request.{Run, Fmt, Check, Plan, IsChunk};
 ghost use Rattle.pl_words.specs.Views.{run_of, plan_of};
@@ -16,7 +16,7 @@ use itoa::Buffer;
 use pl_fixed::Steps;
 use pl_judge::Fault;
 use pl_load::{Loaded, load, load_plan, read_checked, read_script};
-use pl_outside::{AdjustKeeper, Failed, Shelf, Sink, write_bytes, write_pieces};
+use pl_outside::{AdjustKeeper, Shelf, Sink, write_bytes, write_pieces};
 use pl_plan_text::plan_text;
 use pl_runner::{RunError, RunReport, run_table};
 use pl_syntax::print;
@@ -150,10 +150,7 @@ pub fn check_command<S: Shelf, O: Sink>(
         (unchanged steps) (Some (Check name.now)) result }
 {
     let checked = read_checked(alloc, shelf, name)?;
-    match write_counts(&checked, out) {
-        Ok(()) => Ok(None),
-        Err(_) => Err(Fault::Unwritten),
-    }
+    write_counts(&checked, out)
 }
 
 /// Reads the pipeline file and the sessions of these names, and writes the plan of the pipeline as text. It
@@ -187,14 +184,29 @@ pub(crate) fn write_text<O: Sink>(out: &mut O, text: &[u8]) -> Result<Option<Sta
     }
 }
 
+// The same of a text in pieces.
+pub(crate) fn write_in_pieces<O: Sink>(out: &mut O, pieces: &[&str]) -> Result<Option<Stats>, Fault>
+    ensures writes { Writes O.taken O.faults O.sound O.room out.old out.new
+        (flat_map (λ p. p.now) pieces.now) result }
+    ensures quiet { IfOk result (λ stats. stats ≡ None) }
+    ensures unwritten { IfErr result (λ fault. fault ≡ Fault.Unwritten) }
+{
+    match write_pieces(out, pieces) {
+        Ok(()) => Ok(None),
+        Err(_) => Err(Fault::Unwritten),
+    }
+}
+
 // Writes how many terms and columns the pipeline has.
-fn write_counts<O: Sink>(checked: &Checked, out: &mut O) -> Result<(), Failed>
-    ensures { Writes O.taken O.faults O.sound O.room out.old out.new
+fn write_counts<O: Sink>(checked: &Checked, out: &mut O) -> Result<Option<Stats>, Fault>
+    ensures writes { Writes O.taken O.faults O.sound O.room out.old out.new
         (check_text (pipeline_of checked.now)) result }
+    ensures quiet { IfOk result (λ stats. stats ≡ None) }
+    ensures unwritten { IfErr result (λ fault. fault ≡ Fault.Unwritten) }
 {
     let mut terms = Buffer::new();
     let mut columns = Buffer::new();
     let terms = terms.format(checked.graph().len());
     let columns = columns.format(checked.columns());
-    write_pieces(out, &["ok: ", terms, " terms, ", columns, " columns\n"])
+    write_in_pieces(out, &["ok: ", terms, " terms, ", columns, " columns\n"])
 }

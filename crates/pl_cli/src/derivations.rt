@@ -12,13 +12,13 @@ ghost use Rattle.pl_load.specs.Derived.{IsDerivationLoad};
 ghost use Rattle.pl_cli.specs.Texts.{verdict_text};
 ghost use Rattle.pl_cli.specs.Commands.{IsAnswered, sink_change};
 
-use crate::commands::{Stats, write_text};
+use crate::commands::{Stats, write_in_pieces, write_text};
 use itoa::Buffer;
 use pl_explain::first_wrong;
 use pl_fixed::{Memory, Steps};
 use pl_judge::Fault;
 use pl_load::{LoadedDerivation, load_derivation};
-use pl_outside::{AdjustKeeper, Failed, Shelf, Sink, write_pieces};
+use pl_outside::{AdjustKeeper, Shelf, Sink};
 use pl_words::VerifyRequest;
 use std::alloc::Global;
 use std::marker::Brand;
@@ -94,25 +94,16 @@ fn write_verdict<O: Sink>(wrong: Option<u32>, out: &mut O) -> Result<Option<Stat
 {
     match wrong {
         None => write_text(out, b"yes\n"),
-        Some(line) => tell_wrong(line, out),
+        Some(line) => write_wrong(line, out),
     }
 }
 
-fn tell_wrong<O: Sink>(line: u32, out: &mut O) -> Result<Option<Stats>, Fault>
+fn write_wrong<O: Sink>(line: u32, out: &mut O) -> Result<Option<Stats>, Fault>
     ensures writes { Writes O.taken O.faults O.sound O.room out.old out.new
         (verdict_text (Some line)) result }
     ensures quiet { IfOk result (λ stats. stats ≡ None) }
     ensures unwritten { IfErr result (λ fault. fault ≡ Fault.Unwritten) }
 {
-    match write_wrong(line, out) {
-        Ok(()) => Ok(None),
-        Err(_) => Err(Fault::Unwritten),
-    }
-}
-
-fn write_wrong<O: Sink>(line: u32, out: &mut O) -> Result<(), Failed>
-    ensures { Writes O.taken O.faults O.sound O.room out.old out.new (verdict_text (Some line)) result }
-{
     let mut buffer = Buffer::new();
-    write_pieces(out, &["no ", buffer.format(line), "\n"])
+    write_in_pieces(out, &["no ", buffer.format(line), "\n"])
 }

@@ -1,14 +1,13 @@
-use Rattle.std.proofs.Common.{Some, None, Ok, Err, refl}
+use Rattle.std.proofs.Common.{Some, refl}
 use Rattle.std.proofs.lemmas.Result.{err_from_is_err_and}
 use Rattle.pl_outside.proofs.Pieces.{writes-over}
 use Rattle.pl_terms.specs.Checked.{pipeline_of}
 use Rattle.pl_words.specs.declared.request.InputFile.TheVariants.{Pipeline}
 use Rattle.pl_words.specs.Request.{Check}
-use Rattle.pl_judge.specs.declared.fault.Fault.TheVariants.{Unwritten}
 use Rattle.pl_judge.specs.Work.{work}
 use Rattle.pl_load.specs.Views.{unchanged}
 use Rattle.pl_load.proofs.Joined.{file-read, pipeline-one}
-use Rattle.pl_cli.proofs.Ended.{stopped, written, seen-all, seen-part, none, no-more}
+use Rattle.pl_cli.proofs.Ended.{stopped, written, seen-writes, none, no-more, quiet, when-ok}
 use Rattle.pl_cli.proofs.Loaded.{check-text}
 use Rattle.pl_cli.proofs.commands.check_command.Goals as goal
 
@@ -19,20 +18,12 @@ returns-in_err-checked g c = λ keeper steps.
     let q = Check c.args.name.now in
     rw (p.1, p.2) (stopped {q = q} _ steps (file-read keeper (Some q) Pipeline refl pipeline-one c.in_err-checked.ensures))
 
-pub returns-in-Ok : goal.returns-in-Ok
-unfolding work
-returns-in-Ok g c = λ keeper steps.
-    let q = Check c.args.name.now in
-    let h = file-read keeper (Some q) Pipeline refl pipeline-one c.in_ok-checked.ensures in
-    written {q = q} _ (unchanged steps) h (Ok None)
-    (seen-all (writes-over (check-text c.args.name.now (pipeline_of c.in_ok-checked.checked) h.held h.loaded) c.in-Ok.ensures)) tt
-    (none steps steps refl) (no-more steps steps refl) refl
-
 pub returns : goal.returns
 unfolding work
 returns g c = λ keeper steps.
+    let w = c.write_counts.ensures in
     let q = Check c.args.name.now in
     let h = file-read keeper (Some q) Pipeline refl pipeline-one c.in_ok-checked.ensures in
-    written {q = q} _ (unchanged steps) h (Err Unwritten)
-    (seen-part (writes-over (check-text c.args.name.now (pipeline_of c.in_ok-checked.checked) h.held h.loaded) c.in-Err.ensures)) refl
-    tt (no-more steps steps refl) tt
+    written {q = q} _ (unchanged steps) h c.write_counts.result
+    (seen-writes (writes-over (check-text c.args.name.now (pipeline_of c.in_ok-checked.checked) h.held h.loaded) w.writes)) w.unwritten
+    (when-ok c.write_counts.result (none steps steps refl)) (no-more steps steps refl) (quiet c.write_counts.result w.quiet)

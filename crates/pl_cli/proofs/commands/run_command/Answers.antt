@@ -1,11 +1,11 @@
-use Rattle.std.proofs.Common.{inr}
-use Rattle.std.proofs.lemmas.Result.{err_from_is_err_and}
+use Rattle.std.proofs.Common.{◌≡◌, ◌≤◌, ◌+◌, inr}
+use Rattle.std.proofs.lemmas.Result.{err_from_is_err_and, on_ok_weaker, IfOk-weaker}
 use Rattle.pl_words.specs.Request.{Run}
 use Rattle.pl_words.specs.Views.{run_of}
 use Rattle.pl_judge.specs.Work.{work}
-use Rattle.pl_cli.specs.Commands.{sink_view}
+use Rattle.pl_cli.specs.Commands.{sink_view, stats_told}
 use Rattle.pl_cli.proofs.Ended.{stopped, seen-or, kept-view, written-or}
-use Rattle.pl_cli.proofs.Loaded.{loaded-text, most-steps, ok-steps, ok-numbers}
+use Rattle.pl_cli.proofs.Loaded.{loaded-text, loaded-steps, loaded-numbers}
 use Rattle.pl_cli.proofs.commands.run_command.Goals as goal
 
 pub returns-in_err-loaded : goal.returns-in_err-loaded
@@ -24,5 +24,6 @@ returns g c =
     written-or {q = Run q} (sink_view g.O.Sink.taken g.O.Sink.sound g.O.Sink.faults g.O.Sink.room c.args.out.now) (sink_view g.O.Sink.taken g.O.Sink.sound g.O.Sink.faults g.O.Sink.room c.write_loaded.new.out) _ _ h c.write_loaded.result
     (seen-or (loaded-text h.held q l h.loaded) w.writes) w.fault
     (kept-view g.O.Sink.taken g.O.Sink.sound g.O.Sink.faults g.O.Sink.room _ _ _ _ _ w.memory)
-    (ok-steps h.held q l _ _ c.write_loaded.result h.loaded w.cost) (inr (most-steps h.held q l _ _ h.loaded w.most))
-    (ok-numbers h.held q l c.write_loaded.result h.loaded w.stats)
+    (on_ok_weaker c.write_loaded.result (loaded-steps h.held q l (λ n. c.write_loaded.new.steps ≡ c.args.steps.now + n) h.loaded) w.cost)
+    (inr (loaded-steps h.held q l (λ n. c.write_loaded.new.steps ≤ c.args.steps.now + n) h.loaded w.most))
+    (IfOk-weaker c.write_loaded.result _ _ (λ stats e. loaded-numbers h.held q l (stats_told stats) h.loaded e) w.stats)

@@ -1,10 +1,10 @@
-use Rattle.std.proofs.Common.{inr}
-use Rattle.std.proofs.lemmas.Result.{err_from_is_err_and}
+use Rattle.std.proofs.Common.{◌≡◌, ◌≤◌, ◌+◌, inr}
+use Rattle.std.proofs.lemmas.Result.{err_from_is_err_and, on_ok_weaker}
 use Rattle.pl_words.specs.Request.{Daily}
 use Rattle.pl_words.specs.Views.{run_of}
 use Rattle.pl_cli.specs.Commands.{sink_view}
 use Rattle.pl_cli.proofs.Ended.{stopped, seen-or, kept-view, quiet, written-or}
-use Rattle.pl_cli.proofs.Days.{days-load, days-text, most-days, ok-days}
+use Rattle.pl_cli.proofs.Days.{days-load, days-text, days-steps}
 use Rattle.pl_cli.proofs.daily.daily_command.Goals as goal
 
 pub returns-in_err-loaded : goal.returns-in_err-loaded
@@ -22,5 +22,6 @@ returns g c =
     written-or {q = Daily q} (sink_view g.O.Sink.taken g.O.Sink.sound g.O.Sink.faults g.O.Sink.room c.args.out.now) (sink_view g.O.Sink.taken g.O.Sink.sound g.O.Sink.faults g.O.Sink.room c.write_days.new.out) _ _ h c.write_days.result
     (seen-or (days-text h.held q l h.loaded) w.writes) w.fault
     (kept-view g.O.Sink.taken g.O.Sink.sound g.O.Sink.faults g.O.Sink.room _ _ _ _ _ w.memory)
-    (ok-days q h.held l _ _ c.write_days.result h.loaded w.cost) (inr (most-days q h.held l _ _ h.loaded w.most))
+    (on_ok_weaker c.write_days.result (days-steps h.held q l (λ n. c.write_days.new.steps ≡ c.args.steps.now + n) h.loaded) w.cost)
+    (inr (days-steps h.held q l (λ n. c.write_days.new.steps ≤ c.args.steps.now + n) h.loaded w.most))
     (quiet c.write_days.result w.quiet)

@@ -1,4 +1,5 @@
 use Rattle.std.proofs.Common.{inl, inr}
+use Rattle.pl_cli.proofs.Written.{writes-ok}
 use Rattle.pl_cli.proofs.daily.write_days.Goals as goal
 
 pub returns-in-Ok-clause-writes : goal.returns-in-Ok-clause-writes
@@ -6,7 +7,7 @@ returns-in-Ok-clause-writes g c =
     let either = rw (c.world-world.ensures.sessions, c.world-world.ensures.assets, c.world-world.ensures.labels, c.world-world.ensures.bars, c.world-world.ensures.adjustments, c.world-world.ensures.numbers) at c.in-Ok.ensures.writes in
     elim either [
       | inl m ↦ absurd (cc)
-      | inr w ↦ inr (record { all = w.all; prefix = tt; failed = tt; later = w.later; stays = w.stays; room_left = w.room_left; blameless = w.blameless })
+      | inr w ↦ inr (writes-ok w)
     ]
 
 pub returns-in-Ok-clause-cost : goal.returns-in-Ok-clause-cost

@@ -1,11 +1,8 @@
+use Rattle.pl_cli.proofs.Written.{writes-ok, writes-err}
 use Rattle.pl_cli.proofs.payouts.write_loaded_payouts.Goals as goal
 
 pub returns-in-Ok-clause-writes : goal.returns-in-Ok-clause-writes
-returns-in-Ok-clause-writes g c =
-    let w = c.in-Ok.ensures.writes in
-    record { all = w.all; prefix = tt; failed = tt; later = w.later; stays = w.stays; room_left = w.room_left; blameless = w.blameless }
+returns-in-Ok-clause-writes g c = writes-ok c.in-Ok.ensures.writes
 
 pub returns-in-Err-clause-writes : goal.returns-in-Err-clause-writes
-returns-in-Err-clause-writes g c =
-    let w = c.in-Err.ensures.writes in
-    record { all = tt; prefix = w.prefix; failed = w.failed; later = w.later; stays = w.stays; room_left = λ s. tt; blameless = λ s r. absurd (cc (w.blameless s r).0) }
+returns-in-Err-clause-writes g c = writes-err c.in-Err.ensures.writes

@@ -1,8 +1,9 @@
 use Rattle.std.proofs.Common.{inl, inr}
+use Rattle.pl_cli.proofs.Written.{writes-ok}
 use Rattle.pl_cli.proofs.stated.write_bench.Goals as goal
 
 pub returns-in-Ok-clause-writes : goal.returns-in-Ok-clause-writes
 returns-in-Ok-clause-writes g c = elim c.in-Ok.ensures.writes [
   | inl m ↦ absurd (cc)
-  | inr w ↦ inr (record { all = w.all; prefix = tt; failed = tt; later = w.later; stays = w.stays; room_left = w.room_left; blameless = w.blameless })
+  | inr w ↦ inr (writes-ok w)
 ]

@@ -1,15 +1,14 @@
 use Rattle.std.proofs.Common.{◌≡◌, ◌∙◌, ap, Option, Some, option_map, Bor}
 use Rattle.pl_words.specs.declared.request.Request.{Request as Code}
-use Rattle.pl_words.specs.Request.{Run, Fmt, Check, Plan, Bench, Payouts, Explain, Verify, Daily}
-use Rattle.pl_words.specs.Views.{request_of, run_of, plan_of, bench_of, payouts_of, explain_of, verify_of}
+use Rattle.pl_words.specs.Views.{request_of}
 use Rattle.pl_load.specs.Views.{shelf_view, keeper_view}
 use Rattle.pl_cli.specs.Commands.{sink_view}
 use Rattle.pl_cli.proofs.Ended.{no-command}
 use Rattle.pl_cli.proofs.top.answer.Goals as goal
 
 -- the request that is lent, as it reads
-lent : (o : Option (Bor Code)) (q : Bor Code) (r : Code) → o ≡ Some q → q.now ≡ r → option_map (λ (q : Bor Code). request_of q.now) o ≡ Some (request_of r)
-lent o q r here is = ap (option_map (λ (q : Bor Code). request_of q.now)) here ∙ ap (λ (r : Code). Some (request_of r)) is
+lent : {o : Option (Bor Code)} {q : Bor Code} {r : Code} → o ≡ Some q → q.now ≡ r → option_map (λ (q : Bor Code). request_of q.now) o ≡ Some (request_of r)
+lent here is = ap (option_map (λ (q : Bor Code). request_of q.now)) here ∙ ap (λ (r : Code). Some (request_of r)) is
 
 pub returns-in-None : goal.returns-in-None
 returns-in-None g c =
@@ -20,54 +19,45 @@ returns-in-None g c =
 
 pub returns-in-Some-Run : goal.returns-in-Some-Run
 returns-in-Some-Run g c =
-    let is = rw c.in-Some-Run.is at c.in-Some-Run.field-0-is in
-    let asked : option_map (λ (q : Bor Code). request_of q.now) c.args.asked ≡ Some (Run (run_of c.in-Some-Run.request)) = lent _ _ _ c.in-Some-Run.is is in
-    rw asked c.run_command.ensures
+    rw (lent c.in-Some-Run.is (rw c.in-Some-Run.is at c.in-Some-Run.field-0-is))
+    c.run_command.ensures
 
 pub returns-in-Some-Fmt : goal.returns-in-Some-Fmt
 returns-in-Some-Fmt g c =
-    let is = rw c.in-Some-Fmt.is at c.in-Some-Fmt.field-0-is in
-    let asked : option_map (λ (q : Bor Code). request_of q.now) c.args.asked ≡ Some (Fmt c.in-Some-Fmt.name.now) = lent _ _ _ c.in-Some-Fmt.is is in
-    rw asked (c.fmt_command.ensures (keeper_view g.K.AdjustKeeper.lists g.K.AdjustKeeper.sound g.K.AdjustKeeper.faults g.K.AdjustKeeper.calls c.args.keeper.now) c.args.steps.now)
+    rw (lent c.in-Some-Fmt.is (rw c.in-Some-Fmt.is at c.in-Some-Fmt.field-0-is))
+    (c.fmt_command.ensures (keeper_view g.K.AdjustKeeper.lists g.K.AdjustKeeper.sound g.K.AdjustKeeper.faults g.K.AdjustKeeper.calls c.args.keeper.now) c.args.steps.now)
 
 pub returns-in-Some-Check : goal.returns-in-Some-Check
 returns-in-Some-Check g c =
-    let is = rw c.in-Some-Check.is at c.in-Some-Check.field-0-is in
-    let asked : option_map (λ (q : Bor Code). request_of q.now) c.args.asked ≡ Some (Check c.in-Some-Check.name.now) = lent _ _ _ c.in-Some-Check.is is in
-    rw asked (c.check_command.ensures (keeper_view g.K.AdjustKeeper.lists g.K.AdjustKeeper.sound g.K.AdjustKeeper.faults g.K.AdjustKeeper.calls c.args.keeper.now) c.args.steps.now)
+    rw (lent c.in-Some-Check.is (rw c.in-Some-Check.is at c.in-Some-Check.field-0-is))
+    (c.check_command.ensures (keeper_view g.K.AdjustKeeper.lists g.K.AdjustKeeper.sound g.K.AdjustKeeper.faults g.K.AdjustKeeper.calls c.args.keeper.now) c.args.steps.now)
 
 pub returns-in-Some-Plan : goal.returns-in-Some-Plan
 returns-in-Some-Plan g c =
-    let is = rw c.in-Some-Plan.is at c.in-Some-Plan.field-0-is in
-    let asked : option_map (λ (q : Bor Code). request_of q.now) c.args.asked ≡ Some (Plan (plan_of c.in-Some-Plan.request)) = lent _ _ _ c.in-Some-Plan.is is in
-    rw asked (c.plan_command.ensures (keeper_view g.K.AdjustKeeper.lists g.K.AdjustKeeper.sound g.K.AdjustKeeper.faults g.K.AdjustKeeper.calls c.args.keeper.now) c.args.steps.now)
+    rw (lent c.in-Some-Plan.is (rw c.in-Some-Plan.is at c.in-Some-Plan.field-0-is))
+    (c.plan_command.ensures (keeper_view g.K.AdjustKeeper.lists g.K.AdjustKeeper.sound g.K.AdjustKeeper.faults g.K.AdjustKeeper.calls c.args.keeper.now) c.args.steps.now)
 
 pub returns-in-Some-Bench : goal.returns-in-Some-Bench
 returns-in-Some-Bench g c =
-    let is = rw c.in-Some-Bench.is at c.in-Some-Bench.field-0-is in
-    let asked : option_map (λ (q : Bor Code). request_of q.now) c.args.asked ≡ Some (Bench (bench_of c.in-Some-Bench.request)) = lent _ _ _ c.in-Some-Bench.is is in
-    rw asked (c.bench_command.ensures (shelf_view g.S.Shelf.holds g.S.Shelf.begun g.S.Shelf.sound g.S.Shelf.faults c.args.shelf.now) (keeper_view g.K.AdjustKeeper.lists g.K.AdjustKeeper.sound g.K.AdjustKeeper.faults g.K.AdjustKeeper.calls c.args.keeper.now))
+    rw (lent c.in-Some-Bench.is (rw c.in-Some-Bench.is at c.in-Some-Bench.field-0-is))
+    (c.bench_command.ensures (shelf_view g.S.Shelf.holds g.S.Shelf.begun g.S.Shelf.sound g.S.Shelf.faults c.args.shelf.now) (keeper_view g.K.AdjustKeeper.lists g.K.AdjustKeeper.sound g.K.AdjustKeeper.faults g.K.AdjustKeeper.calls c.args.keeper.now))
 
 pub returns-in-Some-Payouts : goal.returns-in-Some-Payouts
 returns-in-Some-Payouts g c =
-    let is = rw c.in-Some-Payouts.is at c.in-Some-Payouts.field-0-is in
-    let asked : option_map (λ (q : Bor Code). request_of q.now) c.args.asked ≡ Some (Payouts (payouts_of c.in-Some-Payouts.request)) = lent _ _ _ c.in-Some-Payouts.is is in
-    rw asked (c.payouts_command.ensures (keeper_view g.K.AdjustKeeper.lists g.K.AdjustKeeper.sound g.K.AdjustKeeper.faults g.K.AdjustKeeper.calls c.args.keeper.now) c.args.steps.now)
+    rw (lent c.in-Some-Payouts.is (rw c.in-Some-Payouts.is at c.in-Some-Payouts.field-0-is))
+    (c.payouts_command.ensures (keeper_view g.K.AdjustKeeper.lists g.K.AdjustKeeper.sound g.K.AdjustKeeper.faults g.K.AdjustKeeper.calls c.args.keeper.now) c.args.steps.now)
 
 pub returns-in-Some-Explain : goal.returns-in-Some-Explain
 returns-in-Some-Explain g c =
-    let is = rw c.in-Some-Explain.is at c.in-Some-Explain.field-0-is in
-    let asked : option_map (λ (q : Bor Code). request_of q.now) c.args.asked ≡ Some (Explain (explain_of c.in-Some-Explain.request)) = lent _ _ _ c.in-Some-Explain.is is in
-    rw asked (c.explain_command.ensures c.args.steps.now)
+    rw (lent c.in-Some-Explain.is (rw c.in-Some-Explain.is at c.in-Some-Explain.field-0-is))
+    (c.explain_command.ensures c.args.steps.now)
 
 pub returns-in-Some-Verify : goal.returns-in-Some-Verify
 returns-in-Some-Verify g c =
-    let is = rw c.in-Some-Verify.is at c.in-Some-Verify.field-0-is in
-    let asked : option_map (λ (q : Bor Code). request_of q.now) c.args.asked ≡ Some (Verify (verify_of c.in-Some-Verify.request)) = lent _ _ _ c.in-Some-Verify.is is in
-    rw asked (c.verify_command.ensures c.args.steps.now)
+    rw (lent c.in-Some-Verify.is (rw c.in-Some-Verify.is at c.in-Some-Verify.field-0-is))
+    (c.verify_command.ensures c.args.steps.now)
 
 pub returns-in-Some-Daily : goal.returns-in-Some-Daily
 returns-in-Some-Daily g c =
-    let is = rw c.in-Some-Daily.is at c.in-Some-Daily.field-0-is in
-    let asked : option_map (λ (q : Bor Code). request_of q.now) c.args.asked ≡ Some (Daily (run_of c.in-Some-Daily.request)) = lent _ _ _ c.in-Some-Daily.is is in
-    rw asked c.daily_command.ensures
+    rw (lent c.in-Some-Daily.is (rw c.in-Some-Daily.is at c.in-Some-Daily.field-0-is))
+    c.daily_command.ensures
