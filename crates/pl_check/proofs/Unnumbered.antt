@@ -5,6 +5,7 @@ use Rattle.std.proofs.lemmas.List.{length-map, map-append}
 use Rattle.std.specs.Int.RustNames.{int_le}
 use Rattle.pl_terms.specs.Sorts.{sort_of, is_safe_kind, is_safe_over}
 use Rattle.pl_pipeline.specs.Kind as kind
+use Rattle.pl_pipeline.specs.declared.WindowKind.TheVariants as window
 use Rattle.pl_grammar.specs.declared.BinarySign.{BinarySign}
 use Rattle.pl_grammar.specs.declared.BinarySign.TheVariants as signs
 use Rattle.pl_check.specs.declared.operation.Operation.{Operation}
@@ -144,10 +145,10 @@ broken-bare bs =
 
 pub kind-bare : (o : Operation) (bs : List Bound) (names : List (List ℕ)) → kind_for o (map bare bs) names ≡ kind_for o bs names
 unfolding kind_for
-kind-bare op.BollingerLower bs names = ap (λ n. kind.Window (kind.BollingerLower n)) (number-given bs parameter.K)
-kind-bare op.BollingerUpper bs names = ap (λ n. kind.Window (kind.BollingerUpper n)) (number-given bs parameter.K)
-kind-bare op.ExponentialWeightedMovingAverage bs names = ap (λ n. kind.Window (kind.ExponentialWeightedMovingAverage n)) (number-given bs parameter.Decay)
-kind-bare op.AtLeastN bs names = ap (λ n. kind.Window (kind.AtLeastN (whole n))) (number-given bs parameter.AtLeast)
+kind-bare op.BollingerLower bs names = ap (λ n. kind.Window (window.BollingerLower n)) (number-given bs parameter.K)
+kind-bare op.BollingerUpper bs names = ap (λ n. kind.Window (window.BollingerUpper n)) (number-given bs parameter.K)
+kind-bare op.ExponentialWeightedMovingAverage bs names = ap (λ n. kind.Window (window.ExponentialWeightedMovingAverage n)) (number-given bs parameter.Decay)
+kind-bare op.AtLeastN bs names = ap (λ n. kind.Window (window.AtLeastN (whole n))) (number-given bs parameter.AtLeast)
 kind-bare op.StaticSids bs names = ap kind.StaticSids (ap sorted_sids (values-given bs parameter.Sid) ∙ sids-bare (values_given bs parameter.Sid))
 kind-bare op.Label bs names = ap (λ t. kind.Label (name_number names t)) (text-given bs parameter.Name)
 kind-bare op.Number bs names = ap (λ t. kind.Number (name_number names t)) (text-given bs parameter.Name)

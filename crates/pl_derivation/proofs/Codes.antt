@@ -12,7 +12,8 @@ use Rattle.pl_spec.specs.declared.Column.{Column}
 use Rattle.pl_spec.specs.World.{World, exists}
 use Rattle.pl_spec.specs.Window.{downward, seen_cell}
 use Rattle.pl_spec.specs.Periods.{period_start}
-use Rattle.pl_pipeline.specs.Kind.{Kind, WindowKind, LabelKind, CrossKind}
+use Rattle.pl_pipeline.specs.Kind.{Kind, LabelKind, CrossKind}
+use Rattle.pl_pipeline.specs.declared.WindowKind.{WindowKind}
 use Rattle.pl_pipeline.specs.Kind.Kind.{Label, Window, Point, LabelTest, Cross, Downsample}
 use Rattle.pl_pipeline.specs.Term.{Term, Graph, Input, Node, IsGraph, tree_over, trees, term_at}
 use Rattle.pl_pipeline.specs.Term.Term.{absent, column, node}

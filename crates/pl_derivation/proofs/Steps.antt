@@ -4,7 +4,8 @@ use Rattle.std.proofs.lemmas.Int.{ints}
 use Rattle.pl_spec.specs.declared.Column.{Column}
 use Rattle.pl_spec.specs.World.{World, exists, living_sids}
 use Rattle.pl_spec.specs.Window.{before, downward}
-use Rattle.pl_pipeline.specs.Kind.{Kind, WindowKind, CrossKind}
+use Rattle.pl_pipeline.specs.Kind.{Kind, CrossKind}
+use Rattle.pl_pipeline.specs.declared.WindowKind.{WindowKind}
 use Rattle.pl_pipeline.specs.Kind.Kind.{Window, Point, LabelTest, Cross, Downsample}
 use Rattle.pl_spec.specs.Periods.{period_start}
 use Rattle.pl_pipeline.specs.Term.{Input, Node}

@@ -5,7 +5,7 @@ use Rattle.pl_spec.specs.Rounding.{IsCell, MISSING}
 use Rattle.pl_pipeline.specs.Formula.{formula}
 use Rattle.pl_pipeline.specs.Kind.{Kind}
 use Rattle.pl_pipeline.specs.Kind.Kind.{Window, LabelTest}
-use Rattle.pl_pipeline.specs.Kind.{WindowKind as window}
+use Rattle.pl_pipeline.specs.declared.WindowKind.TheVariants as window
 use Rattle.pl_pipeline.specs.Pointwise.{label_test}
 use Rattle.pl_terms.specs.declared.kind.LabelValue.{LabelValue}
 use Rattle.pl_terms.specs.declared.kind.LabelValue.TheVariants.{Number, Text}

@@ -5,7 +5,7 @@ ghost use Rattle.pl_spec.specs.Limits.{most_window};
 ghost use Rattle.pl_spec.specs.Rounding.{IsCell, is_present};
 ghost use Rattle.pl_spec.specs.Cells.{present_values, total, count, truth, is_true};
 ghost use Rattle.pl_pipeline.specs.Formula.{formula};
-ghost use Rattle.pl_pipeline.specs.Kind.{WindowKind as window};
+ghost use Rattle.pl_pipeline.specs.declared.WindowKind.TheVariants as window;
 ghost use Rattle.pl_terms.specs.Kinds.{kind_of};
 ghost use Rattle.pl_lanes.specs.Flags.{IsFlag};
 ghost use Rattle.pl_filters.specs.Filters.{IsWindowFilter, AreValues, filtered};

@@ -7,7 +7,8 @@ use Rattle.pl_pipeline.specs.declared.RankOrder.TheVariants.{Ascending, Descendi
 use Rattle.pl_spec.specs.Rounding.{IsCell, neg}
 use Rattle.pl_spec.specs.Cells.{is_true, count, least, greatest}
 use Rattle.pl_pipeline.specs.Formula.{mean, formula}
-use Rattle.pl_pipeline.specs.Kind.{WindowKind as window}
+use Rattle.pl_pipeline.specs.declared.WindowKind.{WindowKind}
+use Rattle.pl_pipeline.specs.declared.WindowKind.TheVariants as window
 use Rattle.pl_pipeline.specs.Kind.CrossKind.{Top, Bottom, PercentileBetween}
 use Rattle.pl_pipeline.specs.CrossFacts.{IsValueAt, edge_of, AreRanks, negated}
 use Rattle.pl_pipeline.specs.Cross.{Entry, values, precedes, ordinal, rank, value_at, edge, bin_of, cross}
@@ -79,7 +80,7 @@ abbrev pub GreatestIsLeast : Type 0
 GreatestIsLeast = (xs ys zs : List ℤ) → All IsCell xs → formula window.WindowMax xs ys zs ≡ neg (formula window.WindowMin (map neg xs) ys zs)
 
 -- the latest value, the mean, the sum and the extremes
-abbrev pub summaries : List window
+abbrev pub summaries : List WindowKind
 summaries = window.Latest ∷ window.SimpleMovingAverage ∷ window.BollingerMiddle ∷ window.WindowSum ∷ window.WindowMax ∷ window.WindowMin ∷ []
 
 -- over one session each of them is the cell itself

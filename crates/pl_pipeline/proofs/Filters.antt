@@ -5,7 +5,7 @@ use Rattle.std.proofs.lemmas.Bool.Decides.{nat_tests}
 use Rattle.std.proofs.lemmas.List.Sums.{count_by-le-length}
 use Rattle.pl_spec.specs.Cells.{truth, is_true}
 use Rattle.pl_pipeline.specs.Formula.{formula}
-use Rattle.pl_pipeline.specs.Kind.{WindowKind as window}
+use Rattle.pl_pipeline.specs.declared.WindowKind.TheVariants as window
 use Rattle.pl_spec.proofs.Counts.{count-cons}
 
 some_by_count : {A : Type 0} (p : A → Bool) (xs : List A) → nat_le 1 (count_by p xs) ≡ list_any p xs

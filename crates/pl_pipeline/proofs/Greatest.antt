@@ -9,7 +9,7 @@ use Rattle.std.proofs.Math.IntN.{neg_ℤ-neg_ℤ}
 use Rattle.pl_spec.specs.Rounding.{MISSING, LIMIT, IsCell, is_missing, is_present, neg}
 use Rattle.pl_spec.specs.Cells.{present_values}
 use Rattle.pl_pipeline.specs.Formula.{formula}
-use Rattle.pl_pipeline.specs.Kind.{WindowKind as window}
+use Rattle.pl_pipeline.specs.declared.WindowKind.TheVariants as window
 use Rattle.pl_spec.proofs.Within.{present-within, missing-far}
 
 neg-present : (x : ℤ) → unsigned_abs x ≤ LIMIT → is_missing (neg_ℤ x) ≡ false

@@ -1,20 +1,10 @@
 -- The kinds of terms, by families, each with its parameters. Numbers in ℤ are millionths.
 use Rattle.std.specs.Prelude.{ℕ, ℤ, List}
 use Rattle.pl_spec.specs.declared.Compare.{Compare}
+use Rattle.pl_pipeline.specs.declared.WindowKind.{WindowKind}
 use Rattle.pl_pipeline.specs.declared.RankMethod.{RankMethod}
 use Rattle.pl_pipeline.specs.declared.RankOrder.{RankOrder}
 use Rattle.pl_spec.specs.declared.Frequency.{Frequency}
-
-pub data WindowKind : Type 0 where
-  Latest SimpleMovingAverage LinearWeightedMovingAverage WindowSum WindowMax WindowMin WindowStd : WindowKind
-  BollingerMiddle : WindowKind
-  BollingerLower BollingerUpper : (k : ℤ) → WindowKind
-  Returns PercentChange RateOfChangePercentage RSI VWAP AverageDollarVolume : WindowKind
-  WeightedAverageValue FastStochasticOscillator TrueRange : WindowKind
-  ExponentialWeightedMovingAverage : (decay : ℤ) → WindowKind
-  AroonUp AroonDown All Any : WindowKind
-  AtLeastN : (n : ℕ) → WindowKind
-  AllPresent : WindowKind
 
 pub data PointKind : Type 0 where
   Add Sub Mul Div Neg : PointKind

@@ -9,9 +9,10 @@ use Rattle.pl_spec.specs.World.{World, exists, living_sids, label_at, known_numb
 use Rattle.pl_spec.specs.Window.{before, downward, bar_window}
 use Rattle.pl_spec.specs.Periods.{period_start}
 use Rattle.pl_pipeline.specs.Kind as kind
-use Rattle.pl_pipeline.specs.Kind.{Kind, WindowKind, PointKind, LabelKind, CrossKind}
+use Rattle.pl_pipeline.specs.Kind.{Kind, PointKind, LabelKind, CrossKind}
+use Rattle.pl_pipeline.specs.declared.WindowKind.{WindowKind}
 use Rattle.pl_pipeline.specs.Kind.Kind.{Constant, Label, StaticSids, Window, Point, LabelTest, Cross, Downsample}
-use Rattle.pl_pipeline.specs.Kind.WindowKind.{All, Any, AtLeastN, AllPresent}
+use Rattle.pl_pipeline.specs.declared.WindowKind.TheVariants.{All, Any, AtLeastN, AllPresent}
 use Rattle.pl_pipeline.specs.Kind.PointKind.{Add, Sub, Mul, Div, Neg, Abs, Clip, FillNa, IfElse}
 use Rattle.pl_pipeline.specs.Kind.CrossKind.{Top, Bottom, PercentileBetween, PeerCount}
 use Rattle.pl_spec.specs.Cells.{truth, is_true}

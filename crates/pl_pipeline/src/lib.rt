@@ -24,3 +24,35 @@ pub enum RankOrder {
     Ascending,
     Descending,
 }
+
+/// A formula or a filter over a window, with its parameters; docs/TERMS.md has the formulas. `k` and `decay` are
+/// millionths.
+#[derive(Clone, Copy, Debug)]
+pub enum WindowKind {
+    Latest,
+    SimpleMovingAverage,
+    LinearWeightedMovingAverage,
+    WindowSum,
+    WindowMax,
+    WindowMin,
+    WindowStd,
+    BollingerMiddle,
+    BollingerLower { k: i64 },
+    BollingerUpper { k: i64 },
+    Returns,
+    PercentChange,
+    RateOfChangePercentage,
+    RSI,
+    VWAP,
+    AverageDollarVolume,
+    WeightedAverageValue,
+    FastStochasticOscillator,
+    TrueRange,
+    ExponentialWeightedMovingAverage { decay: i64 },
+    AroonUp,
+    AroonDown,
+    All,
+    Any,
+    AtLeastN { n: u32 },
+    AllPresent,
+}

@@ -5,7 +5,9 @@ use Rattle.std.proofs.lemmas.Bool.{and_parts, true≢false, eqb-true, or_cases, 
 use Rattle.std.proofs.lemmas.Bool.Decides.{nat_tests}
 use Rattle.std.proofs.lemmas.Option.{slice_get_within}
 use Rattle.pl_pipeline.specs.Kind as kind
-use Rattle.pl_pipeline.specs.Kind.{Kind, WindowKind}
+use Rattle.pl_pipeline.specs.declared.WindowKind.TheVariants as window
+use Rattle.pl_pipeline.specs.Kind.{Kind}
+use Rattle.pl_pipeline.specs.declared.WindowKind.{WindowKind}
 use Rattle.pl_pipeline.specs.Table.{Pipeline, NamedColumn}
 use Rattle.pl_spec.specs.declared.Frequency.{Frequency}
 use Rattle.pl_spec.specs.Periods.{period_start}
@@ -44,14 +46,14 @@ exactly : (n w : ℕ) → 1 ≤ n → n ≤ 2 → (w == n) ≡ true → Fits w
 exactly n w h l e = let is : w ≡ n = eqb-true w n e in (omega arith, omega arith)
 
 window-fits : (k : WindowKind) (w : ℕ) → window_fits k w ≡ true → Fits w
-window-fits kind.Latest w e = exactly 1 w (omega arith) (omega arith) e
-window-fits kind.TrueRange w e = exactly 2 w (omega arith) (omega arith) e
-window-fits kind.Returns w e = between 2 w (omega arith) e
-window-fits kind.PercentChange w e = between 2 w (omega arith) e
-window-fits kind.RateOfChangePercentage w e = between 2 w (omega arith) e
-window-fits kind.RSI w e = between 2 w (omega arith) e
-window-fits kind.AroonUp w e = between 2 w (omega arith) e
-window-fits kind.AroonDown w e = between 2 w (omega arith) e
+window-fits window.Latest w e = exactly 1 w (omega arith) (omega arith) e
+window-fits window.TrueRange w e = exactly 2 w (omega arith) (omega arith) e
+window-fits window.Returns w e = between 2 w (omega arith) e
+window-fits window.PercentChange w e = between 2 w (omega arith) e
+window-fits window.RateOfChangePercentage w e = between 2 w (omega arith) e
+window-fits window.RSI w e = between 2 w (omega arith) e
+window-fits window.AroonUp w e = between 2 w (omega arith) e
+window-fits window.AroonDown w e = between 2 w (omega arith) e
 window-fits k w e = between 1 w (omega arith) e
 
 kind-fits : (k : Kind) (w : ℕ) → has_window k w ≡ true → Fits w

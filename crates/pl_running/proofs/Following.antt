@@ -9,7 +9,7 @@ use Rattle.pl_pipeline.specs.Formula.{faded, faded_mean, formula, mean}
 use Rattle.pl_spec.specs.Window.{downward}
 use Rattle.pl_pipeline.specs.Kind.{Kind}
 use Rattle.pl_pipeline.specs.Kind.Kind.{Window}
-use Rattle.pl_pipeline.specs.Kind.WindowKind.{ExponentialWeightedMovingAverage}
+use Rattle.pl_pipeline.specs.declared.WindowKind.TheVariants.{ExponentialWeightedMovingAverage}
 use Rattle.pl_factors.specs.Terms.{mean_by}
 use Rattle.pl_running.specs.Lanes.{AreGiven, AreValues, HasWindows, TakesLanes, weighted_at, window_at}
 use Rattle.pl_running.specs.Spans.{TakesSpans, after, before, takes_range}

@@ -5,7 +5,7 @@ use Rattle.std.proofs.lemmas.List.Elements.{All-get_or}
 use Rattle.pl_spec.specs.Rounding.{IsCell, MISSING}
 use Rattle.pl_pipeline.specs.Formula.{formula, oldest}
 use Rattle.pl_pipeline.specs.Kind.Kind.{Window}
-use Rattle.pl_pipeline.specs.Kind.WindowKind.{Latest}
+use Rattle.pl_pipeline.specs.declared.WindowKind.TheVariants.{Latest}
 use Rattle.pl_running.specs.Lanes.{AreValues, window_at}
 
 any_default : (xs : List ℤ) (x y : ℤ) → 0 < length xs → get_or xs 0 x ≡ get_or xs 0 y

@@ -5,9 +5,10 @@ use Rattle.pl_spec.specs.Cells.{present_values, total, count, greatest, least}
 use Rattle.pl_lanes.specs.Heights.{best_of}
 use Rattle.pl_factors.specs.Terms.{first_place}
 use Rattle.pl_pipeline.specs.Formula.{products, places, differences, gains, losses}
-use Rattle.pl_pipeline.specs.Kind.{Kind, WindowKind}
+use Rattle.pl_pipeline.specs.Kind.{Kind}
+use Rattle.pl_pipeline.specs.declared.WindowKind.{WindowKind}
 use Rattle.pl_pipeline.specs.Kind.Kind.{Window}
-use Rattle.pl_pipeline.specs.Kind.WindowKind.{SimpleMovingAverage, LinearWeightedMovingAverage, WindowSum, WindowMax, WindowMin, FastStochasticOscillator, AroonUp, AroonDown, WindowStd, BollingerMiddle, BollingerLower, BollingerUpper, RSI, VWAP, AverageDollarVolume, WeightedAverageValue, All, Any, AtLeastN, AllPresent}
+use Rattle.pl_pipeline.specs.declared.WindowKind.TheVariants.{SimpleMovingAverage, LinearWeightedMovingAverage, WindowSum, WindowMax, WindowMin, FastStochasticOscillator, AroonUp, AroonDown, WindowStd, BollingerMiddle, BollingerLower, BollingerUpper, RSI, VWAP, AverageDollarVolume, WeightedAverageValue, All, Any, AtLeastN, AllPresent}
 
 -- two sums and a count; which they are depends on the kind
 pub record Kept : Type 0 where

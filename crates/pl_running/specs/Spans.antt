@@ -5,7 +5,7 @@ use Rattle.pl_spec.specs.Limits.{most_window}
 use Rattle.pl_spec.specs.Rounding.{IsCell, is_missing}
 use Rattle.pl_pipeline.specs.Kind.{Kind}
 use Rattle.pl_pipeline.specs.Kind.Kind.{Window}
-use Rattle.pl_pipeline.specs.Kind.WindowKind.{FastStochasticOscillator}
+use Rattle.pl_pipeline.specs.declared.WindowKind.TheVariants.{FastStochasticOscillator}
 use Rattle.pl_factors.specs.Kinds.{IsWindowFactor, takes_pairs}
 use Rattle.pl_filters.specs.Filters.{IsWindowFilter, AreValues}
 

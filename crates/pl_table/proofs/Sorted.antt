@@ -6,7 +6,9 @@ use Rattle.pl_spec.specs.Decimals.{cell_text}
 use Rattle.pl_spec.specs.Cells.{is_true}
 use Rattle.pl_spec.specs.World.{World}
 use Rattle.pl_pipeline.specs.Kind as kind
-use Rattle.pl_pipeline.specs.Kind.{Kind, WindowKind, PointKind, CrossKind}
+use Rattle.pl_pipeline.specs.declared.WindowKind.TheVariants as window
+use Rattle.pl_pipeline.specs.Kind.{Kind, PointKind, CrossKind}
+use Rattle.pl_pipeline.specs.declared.WindowKind.{WindowKind}
 use Rattle.pl_pipeline.specs.Term as spec
 use Rattle.pl_pipeline.specs.Value.{Value, is_filter, is_window_filter, is_point_filter, is_cross_filter, holds}
 use Rattle.pl_pipeline.specs.Table.{Pipeline, value_of, in_array, is_kept}
@@ -59,7 +61,7 @@ abbrev IsSorted : Bool → Bool → Sort → Type 0
 IsSorted filter numbered r = (filter ≡ is_filters r) × (numbered ≡ is_numbers r)
 
 window-sorted : (k : WindowKind) → IsSorted (is_window_filter k) false (window_sort k)
-window-sorted kind.All = (refl, refl)
+window-sorted window.All = (refl, refl)
 window-sorted k = (refl, refl)
 
 point-sorted : (k : PointKind) → IsSorted (is_point_filter k) false (point_sort k)

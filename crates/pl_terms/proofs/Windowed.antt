@@ -3,7 +3,9 @@ use Rattle.std.proofs.Common.{◌≡◌, ℕ, zero, suc, ◌≤◌, ◌==◌, na
 use Rattle.std.proofs.lemmas.Bool.{and_parts}
 use Rattle.std.proofs.lemmas.Bool.Decides.{nat_tests}
 use Rattle.pl_pipeline.specs.Kind as kind
-use Rattle.pl_pipeline.specs.Kind.{Kind, WindowKind}
+use Rattle.pl_pipeline.specs.declared.WindowKind.TheVariants as window
+use Rattle.pl_pipeline.specs.Kind.{Kind}
+use Rattle.pl_pipeline.specs.declared.WindowKind.{WindowKind}
 use Rattle.pl_pipeline.specs.Table.{Pipeline}
 use Rattle.pl_pipeline.specs.Term.{Term, Graph, Node, Input, BarColumn, TermInput, tree_at, input_tree, number_tree, tree_over, trees_after, term_at}
 use Rattle.pl_pipeline.specs.Reaching.{HasWindows}
@@ -17,14 +19,14 @@ exactly : (n w : ℕ) → 1 ≤ n → (w == n) ≡ true → 1 ≤ w
 exactly n w h e = grind (arith, nat_tests)
 
 window-some : (k : WindowKind) (w : ℕ) → window_fits k w ≡ true → 1 ≤ w
-window-some kind.Latest w e = exactly 1 w (omega arith) e
-window-some kind.TrueRange w e = exactly 2 w (omega arith) e
-window-some kind.Returns w e = from-least 2 w (omega arith) e
-window-some kind.PercentChange w e = from-least 2 w (omega arith) e
-window-some kind.RateOfChangePercentage w e = from-least 2 w (omega arith) e
-window-some kind.RSI w e = from-least 2 w (omega arith) e
-window-some kind.AroonUp w e = from-least 2 w (omega arith) e
-window-some kind.AroonDown w e = from-least 2 w (omega arith) e
+window-some window.Latest w e = exactly 1 w (omega arith) e
+window-some window.TrueRange w e = exactly 2 w (omega arith) e
+window-some window.Returns w e = from-least 2 w (omega arith) e
+window-some window.PercentChange w e = from-least 2 w (omega arith) e
+window-some window.RateOfChangePercentage w e = from-least 2 w (omega arith) e
+window-some window.RSI w e = from-least 2 w (omega arith) e
+window-some window.AroonUp w e = from-least 2 w (omega arith) e
+window-some window.AroonDown w e = from-least 2 w (omega arith) e
 window-some k w e = from-least 1 w (omega arith) e
 
 some-window : (k : Kind) (w : ℕ) → has_window k w ≡ true → 1 ≤ w

@@ -2,9 +2,10 @@
 use Rattle.std.proofs.Common.{◌≡◌, ℕ, Bool, true, false, if◌then◌else◌, ℤ, pos, List, [], Some, refl, ◌∙◌, slice_get, ◌==◌, ◌&&◌, sym, ap, true≢false}
 use Rattle.std.specs.List.{list_any}
 use Rattle.pl_spec.specs.World.{World, exists}
-use Rattle.pl_pipeline.specs.Kind.{Kind, WindowKind, PointKind, LabelKind, CrossKind}
+use Rattle.pl_pipeline.specs.Kind.{Kind, PointKind, LabelKind, CrossKind}
+use Rattle.pl_pipeline.specs.declared.WindowKind.{WindowKind}
 use Rattle.pl_pipeline.specs.Kind.Kind.{Constant, StaticSids, Window, Point, LabelTest, Cross, Downsample}
-use Rattle.pl_pipeline.specs.Kind.WindowKind.{All, Any, AtLeastN, AllPresent}
+use Rattle.pl_pipeline.specs.declared.WindowKind.TheVariants.{All, Any, AtLeastN, AllPresent}
 use Rattle.pl_pipeline.specs.Kind.PointKind.{Comparison, And, Or, Not, IsNull, NotNull, NumberIs, NumberIsNot}
 use Rattle.pl_pipeline.specs.Kind.CrossKind.{Top, Bottom, PercentileBetween}
 use Rattle.pl_spec.specs.Cells.{truth}

@@ -8,9 +8,10 @@ use Rattle.std.proofs.lemmas.Bool.Decides.{nat_tests}
 use Rattle.pl_spec.specs.Rounding.{MILLION, IsCell}
 use Rattle.pl_spec.specs.World.{World}
 use Rattle.pl_spec.specs.Window.{before, downward, seen_cell}
-use Rattle.pl_pipeline.specs.Kind.{Kind, WindowKind}
+use Rattle.pl_pipeline.specs.Kind.{Kind}
+use Rattle.pl_pipeline.specs.declared.WindowKind.{WindowKind}
 use Rattle.pl_pipeline.specs.Kind.Kind.{Window}
-use Rattle.pl_pipeline.specs.Kind.WindowKind.{Latest, BollingerLower, BollingerUpper, VWAP, AverageDollarVolume, WeightedAverageValue, TrueRange, ExponentialWeightedMovingAverage, All as AllTrue, Any, AtLeastN, AllPresent}
+use Rattle.pl_pipeline.specs.declared.WindowKind.TheVariants.{Latest, BollingerLower, BollingerUpper, VWAP, AverageDollarVolume, WeightedAverageValue, TrueRange, ExponentialWeightedMovingAverage, All as AllTrue, Any, AtLeastN, AllPresent}
 use Rattle.pl_pipeline.specs.Formula.{formula}
 use Rattle.pl_pipeline.specs.Term.{Node, Input}
 use Rattle.pl_pipeline.specs.Term.Input.{BarColumn, TermInput}

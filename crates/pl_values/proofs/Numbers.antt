@@ -2,8 +2,9 @@
 use Rattle.std.proofs.Common.{◌≡◌, ℕ, Bool, true, false, ◌&&◌, if◌then◌else◌, ℤ, pos, List, Option, Some, refl, sym, subst, ◌∙◌, slice_get, ◌==◌, inl, ap, true≢false}
 use Rattle.std.specs.List.{list_any}
 use Rattle.pl_spec.specs.World.{World, exists}
-use Rattle.pl_pipeline.specs.Kind.{Kind, WindowKind, PointKind, LabelKind, CrossKind}
-use Rattle.pl_pipeline.specs.Kind.WindowKind.{All}
+use Rattle.pl_pipeline.specs.Kind.{Kind, PointKind, LabelKind, CrossKind}
+use Rattle.pl_pipeline.specs.declared.WindowKind.{WindowKind}
+use Rattle.pl_pipeline.specs.declared.WindowKind.TheVariants.{All}
 use Rattle.pl_pipeline.specs.Kind.PointKind.{Add}
 use Rattle.pl_pipeline.specs.Kind.CrossKind.{Demean}
 use Rattle.pl_pipeline.specs.Kind.Kind.{Label, Window, Point, LabelTest, Cross, Downsample}

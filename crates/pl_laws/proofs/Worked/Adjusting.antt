@@ -7,7 +7,7 @@ use Rattle.pl_spec.specs.World.{World, Change, Adjustment, events_of}
 use Rattle.pl_spec.specs.World.Change.{Scale, Overwrite}
 use Rattle.pl_spec.specs.Order.{day_of_time, adjustments_of, with_revisions}
 use Rattle.pl_spec.specs.Window.{effects_in, bar_window, applied_steps}
-use Rattle.pl_pipeline.specs.Kind.{WindowKind as kind}
+use Rattle.pl_pipeline.specs.declared.WindowKind.TheVariants as kind
 use Rattle.pl_pipeline.specs.Term.Term.{column}
 use Rattle.pl_pipeline.specs.Value.Value.{Number}
 use Rattle.pl_laws.proofs.Worked.Worlds.{opened, units, closed, closes, asset, alone, plain, split, gap, outgrown, no_tables, splits_of, row_at, row_on, window, at_close, latest, by_session, on}

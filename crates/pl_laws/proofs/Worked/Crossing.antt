@@ -4,7 +4,8 @@ use Rattle.pl_spec.specs.Rounding.{MISSING}
 use Rattle.pl_spec.specs.declared.Column.TheVariants.{Close}
 use Rattle.pl_pipeline.specs.declared.RankMethod.TheVariants as method
 use Rattle.pl_pipeline.specs.declared.RankOrder.TheVariants.{Ascending, Descending}
-use Rattle.pl_pipeline.specs.Kind.{WindowKind, CrossKind as kind}
+use Rattle.pl_pipeline.specs.Kind.{CrossKind as kind}
+use Rattle.pl_pipeline.specs.declared.WindowKind.TheVariants as WindowKind
 use Rattle.pl_pipeline.specs.Cross.{Entry, values, value_at, cross}
 use Rattle.pl_pipeline.specs.Term.Term.{absent}
 use Rattle.pl_pipeline.specs.Value.{Value}

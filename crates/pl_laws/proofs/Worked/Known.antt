@@ -5,7 +5,8 @@ use Rattle.pl_spec.specs.declared.Column.TheVariants.{Close}
 use Rattle.pl_spec.specs.Numbers.{NumberRow}
 use Rattle.pl_spec.specs.World.{World}
 use Rattle.pl_pipeline.specs.Kind as kind
-use Rattle.pl_pipeline.specs.Kind.{WindowKind, PointKind}
+use Rattle.pl_pipeline.specs.Kind.{PointKind}
+use Rattle.pl_pipeline.specs.declared.WindowKind.TheVariants as WindowKind
 use Rattle.pl_pipeline.specs.Term.{Term}
 use Rattle.pl_pipeline.specs.Term.Term.{absent, node}
 use Rattle.pl_pipeline.specs.Value.{Value, value}

@@ -8,7 +8,8 @@ use Rattle.pl_spec.specs.declared.Frequency.TheVariants.{YearStart, QuarterStart
 use Rattle.pl_spec.specs.Rounding.{MISSING}
 use Rattle.pl_spec.specs.Periods.{period, period_start}
 use Rattle.pl_spec.specs.World.{World}
-use Rattle.pl_pipeline.specs.Kind.{Kind, PointKind, WindowKind as kind}
+use Rattle.pl_pipeline.specs.Kind.{Kind, PointKind}
+use Rattle.pl_pipeline.specs.declared.WindowKind.TheVariants as kind
 use Rattle.pl_pipeline.specs.Term.{Term}
 use Rattle.pl_pipeline.specs.Term.Term.{absent, node}
 use Rattle.pl_pipeline.specs.Value.Value.{Number}

@@ -2,7 +2,8 @@
 use Rattle.std.specs.Prelude.{◌≡◌, ℕ, pos, negsuc, refl, List, [], ◌∷◌, map, Some}
 use Rattle.pl_spec.specs.declared.Column.TheVariants.{Close, Volume}
 use Rattle.pl_spec.specs.declared.Compare.TheVariants as compare
-use Rattle.pl_pipeline.specs.Kind.{Kind, WindowKind, PointKind}
+use Rattle.pl_pipeline.specs.Kind.{Kind, PointKind}
+use Rattle.pl_pipeline.specs.declared.WindowKind.TheVariants as WindowKind
 use Rattle.pl_pipeline.specs.Term.{Graph, term_at}
 use Rattle.pl_pipeline.specs.Graph.{reach, used_terms, live_terms, columns_at, bound}
 use Rattle.pl_laws.proofs.Worked.Worlds.{opened, plain, units, at_close, of_bars, of_terms, latest_close}

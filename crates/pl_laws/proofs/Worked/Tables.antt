@@ -6,7 +6,8 @@ use Rattle.pl_spec.specs.declared.Format.TheVariants as format
 use Rattle.pl_pipeline.specs.declared.RankMethod.{RankMethod}
 use Rattle.pl_pipeline.specs.declared.RankMethod.TheVariants as method
 use Rattle.pl_pipeline.specs.declared.RankOrder.TheVariants.{Ascending}
-use Rattle.pl_pipeline.specs.Kind.{Kind, WindowKind, PointKind, CrossKind}
+use Rattle.pl_pipeline.specs.Kind.{Kind, PointKind, CrossKind}
+use Rattle.pl_pipeline.specs.declared.WindowKind.TheVariants as WindowKind
 use Rattle.pl_pipeline.specs.Term.{Node}
 use Rattle.pl_pipeline.specs.Table.{Pipeline, table, sum_of_cells}
 use Rattle.pl_pipeline.specs.Text.{text}

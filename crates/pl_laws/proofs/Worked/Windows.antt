@@ -2,7 +2,7 @@
 use Rattle.std.specs.Prelude.{◌≡◌, pos, negsuc, refl, [], ◌∷◌, map, neg_ℤ}
 use Rattle.pl_spec.specs.Rounding.{MISSING, LIMIT}
 use Rattle.pl_spec.specs.declared.Column.TheVariants.{High, Low, Close, Volume}
-use Rattle.pl_pipeline.specs.Kind.{WindowKind as kind}
+use Rattle.pl_pipeline.specs.declared.WindowKind.TheVariants as kind
 use Rattle.pl_pipeline.specs.Formula.{formula}
 use Rattle.pl_pipeline.specs.Term.Term.{column}
 use Rattle.pl_pipeline.specs.Value.Value.{Number}

@@ -13,7 +13,9 @@ use Rattle.pl_spec.specs.Decimals.{cell_text}
 use Rattle.pl_spec.specs.World.{World, Bar, LabelRow}
 use Rattle.pl_spec.specs.Order.{adjustments_of}
 use Rattle.pl_spec.specs.Window.{seen_cell}
-use Rattle.pl_pipeline.specs.Kind.{Kind, WindowKind, PointKind, CrossKind}
+use Rattle.pl_pipeline.specs.Kind.{Kind, PointKind, CrossKind}
+use Rattle.pl_pipeline.specs.declared.WindowKind.{WindowKind}
+use Rattle.pl_pipeline.specs.declared.WindowKind.TheVariants.{Latest}
 use Rattle.pl_pipeline.specs.Formula.{formula}
 use Rattle.pl_pipeline.specs.Pointwise.{pointwise, label_test}
 use Rattle.pl_pipeline.specs.Cross.{cross}
@@ -162,7 +164,7 @@ abbrev pub at_close : WindowKind → ℕ → Term
 at_close k size = window k size (column Close ∷ [])
 
 abbrev pub latest : Column → Term
-latest c = window WindowKind.Latest 1 (column c ∷ [])
+latest c = window Latest 1 (column c ∷ [])
 
 -- a term of asset 1 on some sessions, and some terms of asset 1 on a session
 abbrev pub by_session : World → Term → List ℕ → List Value
@@ -192,7 +194,7 @@ pipeline graph columns = record { graph = graph; columns = columns; screen = Non
 
 -- the latest close in the column c
 abbrev pub latest_close : Pipeline
-latest_close = pipeline (of_bars WindowKind.Latest (Close ∷ []) 1 ∷ []) (named (99 ∷ []) 0 ∷ [])
+latest_close = pipeline (of_bars Latest (Close ∷ []) 1 ∷ []) (named (99 ∷ []) 0 ∷ [])
 
 abbrev pub csv : World → Pipeline → ℕ → ℕ → List ℕ
 csv w p from to = text w p format.Csv (table w p from to)
