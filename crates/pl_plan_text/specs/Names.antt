@@ -3,37 +3,8 @@ use Rattle.std.specs.Prelude.{ℕ, List, codes}
 use Rattle.pl_spec.specs.declared.Compare.{Compare}
 use Rattle.pl_spec.specs.declared.Compare.TheVariants.{Less, LessEqual, Greater, GreaterEqual, Equal, NotEqual}
 use Rattle.pl_pipeline.specs.Kind as kind
-use Rattle.pl_pipeline.specs.declared.WindowKind.TheVariants as window
+use Rattle.pl_terms.specs.Windows.{row_of}
 use Rattle.pl_pipeline.specs.Kind.{Kind, PointKind, LabelKind, CrossKind}
-use Rattle.pl_pipeline.specs.declared.WindowKind.{WindowKind}
-
-abbrev pub window_name : WindowKind → List ℕ
-window_name window.Latest = codes "Latest"
-window_name window.SimpleMovingAverage = codes "SimpleMovingAverage"
-window_name window.LinearWeightedMovingAverage = codes "LinearWeightedMovingAverage"
-window_name window.WindowSum = codes "WindowSum"
-window_name window.WindowMax = codes "WindowMax"
-window_name window.WindowMin = codes "WindowMin"
-window_name window.WindowStd = codes "WindowStd"
-window_name window.BollingerMiddle = codes "BollingerMiddle"
-window_name (window.BollingerLower k) = codes "BollingerLower"
-window_name (window.BollingerUpper k) = codes "BollingerUpper"
-window_name window.Returns = codes "Returns"
-window_name window.PercentChange = codes "PercentChange"
-window_name window.RateOfChangePercentage = codes "RateOfChangePercentage"
-window_name window.RSI = codes "RSI"
-window_name window.VWAP = codes "VWAP"
-window_name window.AverageDollarVolume = codes "AverageDollarVolume"
-window_name window.WeightedAverageValue = codes "WeightedAverageValue"
-window_name window.FastStochasticOscillator = codes "FastStochasticOscillator"
-window_name window.TrueRange = codes "TrueRange"
-window_name (window.ExponentialWeightedMovingAverage decay) = codes "ExponentialWeightedMovingAverage"
-window_name window.AroonUp = codes "AroonUp"
-window_name window.AroonDown = codes "AroonDown"
-window_name window.All = codes "All"
-window_name window.Any = codes "Any"
-window_name (window.AtLeastN n) = codes "AtLeastN"
-window_name window.AllPresent = codes "AllPresent"
 
 abbrev pub compare_name : Compare → List ℕ
 compare_name Less = codes "Less"
@@ -84,7 +55,7 @@ kind_name (kind.Constant cell) = codes "Const"
 kind_name (kind.Label name) = codes "Label"
 kind_name (kind.Number name) = codes "Number"
 kind_name (kind.StaticSids sids) = codes "StaticSids"
-kind_name (kind.Window k) = window_name k
+kind_name (kind.Window k) = (row_of k).name
 kind_name (kind.Point k) = point_name k
 kind_name (kind.LabelTest k) = label_name k
 kind_name (kind.Cross k) = cross_name k

@@ -1,12 +1,13 @@
 //! The names under which the text of a plan has bar columns and kinds.
 
-ghost use Rattle.std.specs.Prelude.{◌≡◌};
+ghost use Rattle.std.specs.Prelude.{◌≡◌, None};
 ghost use Rattle.pl_spec.specs.Names.{column_name};
 ghost use Rattle.pl_terms.specs.Kinds.{kind_of};
+ghost use Rattle.pl_terms.specs.Windows.{window_in};
 ghost use Rattle.pl_plan_text.specs.Names.{kind_name};
 
 use pl_spec::Column;
-use pl_terms::TermKind;
+use pl_terms::{TermKind, window_kind, window_row};
 
 pub(crate) fn column_name(column: Column) -> &'static str
     ensures { result.now ≡ column_name column }
@@ -21,41 +22,27 @@ pub(crate) fn column_name(column: Column) -> &'static str
 }
 
 /// The name of a kind, which is the same for all its parameters.
-#[tactic(auto, unfolding(crate::specs::Names::kind_name, pl_terms::specs::Kinds::kind_of))]
+#[tactic(auto, unfolding(crate::specs::Names::kind_name))]
 pub(crate) fn kind_name(kind: &TermKind) -> &'static str
+    ensures { result.now ≡ kind_name (kind_of kind.now) }
+{
+    match window_kind(kind) {
+        Some(window) => window_row(window).name,
+        None => other_name(kind),
+    }
+}
+
+// The name of a kind that is over no window.
+#[tactic(auto, unfolding(crate::specs::Names::kind_name, pl_terms::specs::Kinds::kind_of))]
+fn other_name(kind: &TermKind) -> &'static str
+    requires { window_in (kind_of kind.now) ≡ None }
     ensures { result.now ≡ kind_name (kind_of kind.now) }
 {
     match kind {
         TermKind::Const { .. } => "Const",
-        TermKind::Latest => "Latest",
         TermKind::Label { .. } => "Label",
         TermKind::Number { .. } => "Number",
         TermKind::StaticSids { .. } => "StaticSids",
-        TermKind::SimpleMovingAverage => "SimpleMovingAverage",
-        TermKind::LinearWeightedMovingAverage => "LinearWeightedMovingAverage",
-        TermKind::WindowSum => "WindowSum",
-        TermKind::WindowMax => "WindowMax",
-        TermKind::WindowMin => "WindowMin",
-        TermKind::WindowStd => "WindowStd",
-        TermKind::BollingerMiddle => "BollingerMiddle",
-        TermKind::BollingerLower { .. } => "BollingerLower",
-        TermKind::BollingerUpper { .. } => "BollingerUpper",
-        TermKind::Returns => "Returns",
-        TermKind::PercentChange => "PercentChange",
-        TermKind::RateOfChangePercentage => "RateOfChangePercentage",
-        TermKind::RSI => "RSI",
-        TermKind::VWAP => "VWAP",
-        TermKind::AverageDollarVolume => "AverageDollarVolume",
-        TermKind::WeightedAverageValue => "WeightedAverageValue",
-        TermKind::FastStochasticOscillator => "FastStochasticOscillator",
-        TermKind::TrueRange => "TrueRange",
-        TermKind::ExponentialWeightedMovingAverage { .. } => "ExponentialWeightedMovingAverage",
-        TermKind::AroonUp => "AroonUp",
-        TermKind::AroonDown => "AroonDown",
-        TermKind::All => "All",
-        TermKind::Any => "Any",
-        TermKind::AtLeastN { .. } => "AtLeastN",
-        TermKind::AllPresent => "AllPresent",
         TermKind::Add => "Add",
         TermKind::Sub => "Sub",
         TermKind::Mul => "Mul",
@@ -90,5 +77,6 @@ pub(crate) fn kind_name(kind: &TermKind) -> &'static str
         TermKind::EndsWith { .. } => "EndsWith",
         TermKind::ElementOf { .. } => "ElementOf",
         TermKind::Downsample { .. } => "Downsample",
+        _ => "",
     }
 }

@@ -5,9 +5,7 @@ use Rattle.std.proofs.lemmas.Bool.{and_parts, true≢false, eqb-true, or_cases, 
 use Rattle.std.proofs.lemmas.Bool.Decides.{nat_tests}
 use Rattle.std.proofs.lemmas.Option.{slice_get_within}
 use Rattle.pl_pipeline.specs.Kind as kind
-use Rattle.pl_pipeline.specs.declared.WindowKind.TheVariants as window
 use Rattle.pl_pipeline.specs.Kind.{Kind}
-use Rattle.pl_pipeline.specs.declared.WindowKind.{WindowKind}
 use Rattle.pl_pipeline.specs.Table.{Pipeline, NamedColumn}
 use Rattle.pl_spec.specs.declared.Frequency.{Frequency}
 use Rattle.pl_spec.specs.Periods.{period_start}
@@ -16,7 +14,10 @@ use Rattle.pl_pipeline.specs.Term.Input.{BarColumn, TermInput}
 use Rattle.pl_pipeline.specs.Graph.{contains, reads_at, Used}
 use Rattle.pl_pipeline.specs.Graph.Used.{output, mentioned}
 use Rattle.pl_pipeline.proofs.Contained.{in-alone}
-use Rattle.pl_terms.specs.Sorts.{has_window, window_fits, is_window_from, sort_at, Filters, places, all_fit, AnyTerm, is_downsampled}
+use Rattle.pl_terms.specs.Sorts.{has_window, length_fits, is_window_from, sort_at, Filters, places, all_fit, AnyTerm, is_downsampled}
+use Rattle.pl_terms.specs.declared.kind.WindowLength.{WindowLength}
+use Rattle.pl_terms.specs.declared.kind.WindowLength.TheVariants.{One, Two, FromOne, FromTwo}
+use Rattle.pl_terms.specs.Windows.{row_of}
 use Rattle.pl_terms.specs.Checked.{IsChecked}
 use Rattle.pl_terms.specs.Uses.{outputs}
 use Rattle.pl_terms.specs.Nodes.{node_of}
@@ -45,20 +46,15 @@ between least w h e =
 exactly : (n w : ℕ) → 1 ≤ n → n ≤ 2 → (w == n) ≡ true → Fits w
 exactly n w h l e = let is : w ≡ n = eqb-true w n e in (omega arith, omega arith)
 
-window-fits : (k : WindowKind) (w : ℕ) → window_fits k w ≡ true → Fits w
-window-fits window.Latest w e = exactly 1 w (omega arith) (omega arith) e
-window-fits window.TrueRange w e = exactly 2 w (omega arith) (omega arith) e
-window-fits window.Returns w e = between 2 w (omega arith) e
-window-fits window.PercentChange w e = between 2 w (omega arith) e
-window-fits window.RateOfChangePercentage w e = between 2 w (omega arith) e
-window-fits window.RSI w e = between 2 w (omega arith) e
-window-fits window.AroonUp w e = between 2 w (omega arith) e
-window-fits window.AroonDown w e = between 2 w (omega arith) e
-window-fits k w e = between 1 w (omega arith) e
+length-fits : (l : WindowLength) (w : ℕ) → length_fits l w ≡ true → Fits w
+length-fits One w e = exactly 1 w (omega arith) (omega arith) e
+length-fits Two w e = exactly 2 w (omega arith) (omega arith) e
+length-fits FromOne w e = between 1 w (omega arith) e
+length-fits FromTwo w e = between 2 w (omega arith) e
 
 kind-fits : (k : Kind) (w : ℕ) → has_window k w ≡ true → Fits w
 unfolding has_window
-kind-fits (kind.Window k) w e = window-fits k w e
+kind-fits (kind.Window k) w e = length-fits (row_of k).length w e
 kind-fits k w e = exactly 1 w (omega arith) (omega arith) e
 
 -- a node reads its inputs on the session itself, or it reads a term

@@ -37,32 +37,26 @@ pub fn family_of(kind: &TermKind) -> Family
         TermKind::Label { name } => Family::Label(*name),
         TermKind::Number { name } => Family::Number(*name),
         TermKind::StaticSids { .. } => Family::Sids,
-        TermKind::Latest
-        | TermKind::SimpleMovingAverage
-        | TermKind::LinearWeightedMovingAverage
-        | TermKind::WindowSum
-        | TermKind::WindowMax
-        | TermKind::WindowMin
-        | TermKind::WindowStd
-        | TermKind::BollingerMiddle
-        | TermKind::BollingerLower { .. }
-        | TermKind::BollingerUpper { .. }
-        | TermKind::Returns
-        | TermKind::PercentChange
-        | TermKind::RateOfChangePercentage
-        | TermKind::RSI
-        | TermKind::VWAP
-        | TermKind::AverageDollarVolume
-        | TermKind::WeightedAverageValue
-        | TermKind::FastStochasticOscillator
-        | TermKind::TrueRange
-        | TermKind::ExponentialWeightedMovingAverage { .. }
-        | TermKind::AroonUp
-        | TermKind::AroonDown
-        | TermKind::All
-        | TermKind::Any
-        | TermKind::AtLeastN { .. }
-        | TermKind::AllPresent => Family::Window,
+        TermKind::Add
+        | TermKind::Sub
+        | TermKind::Mul
+        | TermKind::Div
+        | TermKind::Neg
+        | TermKind::Less
+        | TermKind::LessEqual
+        | TermKind::Greater
+        | TermKind::GreaterEqual
+        | TermKind::Equal
+        | TermKind::NotEqual
+        | TermKind::And
+        | TermKind::Or
+        | TermKind::Not
+        | TermKind::Abs
+        | TermKind::Clip { .. }
+        | TermKind::FillNa
+        | TermKind::IsNull
+        | TermKind::NotNull
+        | TermKind::IfElse => Family::Point,
         TermKind::Rank { .. }
         | TermKind::Demean
         | TermKind::ZScore
@@ -76,7 +70,7 @@ pub fn family_of(kind: &TermKind) -> Family
         }
         TermKind::LabelIs { label } | TermKind::LabelIsNot { label } => compared(label),
         TermKind::Downsample { frequency } => Family::Downsample(*frequency),
-        _ => Family::Point,
+        _ => Family::Window,
     }
 }
 
