@@ -4,7 +4,7 @@ use Rattle.pl_terms.specs.declared.kind.LabelValue.{LabelValue}
 use Rattle.pl_terms.specs.declared.kind.LabelValue.TheVariants.{Number, Text}
 use Rattle.pl_terms.specs.Kinds.{kind_of, is_kind, is_not_kind}
 use Rattle.pl_plan_text.specs.Names.{kind_name}
-use Rattle.pl_plan_text.proofs.names.kind_name.Goals as goal
+use Rattle.pl_plan_text.proofs.names.other_name.Goals as goal
 
 -- a comparison has one name, be it with a text or with a number
 is-named : (l : LabelValue) → codes "LabelIs" ≡ kind_name (is_kind l)
