@@ -1,5 +1,5 @@
 -- What is known of each formula and filter over a window.
-use Rattle.std.specs.Prelude.{ℕ, Bool, true, false, List, [], ◌∷◌, codes, Option, Some, None, bytes_eq, find}
+use Rattle.std.specs.Prelude.{ℕ, pos, Bool, true, false, List, [], ◌∷◌, codes, Option, Some, None, bytes_eq, find}
 use Rattle.pl_spec.specs.declared.Column.{Column}
 use Rattle.pl_spec.specs.declared.Column.TheVariants.{High, Low, Close, Volume}
 use Rattle.pl_pipeline.specs.Kind.{Kind, Window}
@@ -55,9 +55,9 @@ abbrev pub window_in : Kind → Option WindowKind
 window_in (Window k) = Some k
 window_in k = None
 
--- the functions of the language without a number of their own
-abbrev pub plain_formulas : List WindowKind
-plain_formulas =
+-- the functions of the language over windows; the number that some are given is 0 here
+abbrev pub formulas : List WindowKind
+formulas =
     SimpleMovingAverage ∷
     LinearWeightedMovingAverage ∷
     WindowSum ∷
@@ -65,6 +65,8 @@ plain_formulas =
     WindowMin ∷
     WindowStd ∷
     BollingerMiddle ∷
+    BollingerLower (pos 0) ∷
+    BollingerUpper (pos 0) ∷
     Returns ∷
     PercentChange ∷
     RateOfChangePercentage ∷
@@ -74,10 +76,12 @@ plain_formulas =
     WeightedAverageValue ∷
     FastStochasticOscillator ∷
     TrueRange ∷
+    ExponentialWeightedMovingAverage (pos 0) ∷
     AroonUp ∷
     AroonDown ∷
     All ∷
     Any ∷
+    AtLeastN 0 ∷
     AllPresent ∷
     []
 
@@ -86,4 +90,4 @@ is_named n k = bytes_eq n (row_of k).name
 
 -- the one of a name
 unfoldable pub formula_named : List ℕ → Option WindowKind
-formula_named n = find (is_named n) plain_formulas
+formula_named n = find (is_named n) formulas
