@@ -8,6 +8,7 @@ use Rattle.std.proofs.lemmas.List.{length-map}
 use Rattle.std.proofs.Math.Bool.{or-true}
 use Rattle.pl_terms.specs.Sorts.{has_length}
 use Rattle.pl_check.specs.declared.operation.Operation.{Operation}
+use Rattle.pl_pipeline.specs.declared.WindowKind.TheVariants as window
 use Rattle.pl_check.specs.declared.operation.Operation.TheVariants as op
 use Rattle.pl_check.specs.declared.operation.Parameter.{Parameter}
 use Rattle.pl_check.specs.declared.operation.Parameter.TheVariants as parameter
@@ -23,12 +24,14 @@ use Rattle.pl_check.proofs.Lists.{same-one, true-false, needed, or-right, same-s
 -- ---- from the start
 
 pub few-none : (o : Operation) → is_few o [] ≡ true
-few-none op.All = refl
+few-none (op.Window window.Latest) = refl
+few-none (op.Window k) = refl
 few-none o = refl
 
 pub few-object : (o : Operation) (v : Value) → is_few o (object_of o v) ≡ true
 unfolding object_of parameters given number_of
-few-object op.All v = refl
+few-object (op.Window window.Latest) v = refl
+few-object (op.Window k) v = refl
 few-object o v = refl
 
 -- ---- one more

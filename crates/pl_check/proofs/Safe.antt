@@ -8,6 +8,7 @@ use Rattle.pl_pipeline.specs.Kind.{Kind}
 use Rattle.pl_pipeline.specs.Term.{Graph, Node, Input, BarColumn, TermInput}
 use Rattle.pl_terms.specs.Sorts.{sort_of, is_windowed, is_safe_kind, is_safe_over, IsSafe, of_kind, of_inputs}
 use Rattle.pl_check.specs.declared.operation.Operation.{Operation}
+use Rattle.pl_pipeline.specs.declared.WindowKind.TheVariants as window
 use Rattle.pl_check.specs.declared.operation.Operation.TheVariants as op
 use Rattle.pl_check.specs.declared.operation.Parameter.{Parameter}
 use Rattle.pl_check.specs.declared.operation.Parameter.TheVariants as parameter
@@ -89,7 +90,8 @@ in_window p = false
 
 window-parameters : (o : Operation) (bs : List Bound) (names : List (List ℕ)) → cond (is_windowed (kind_for o bs names)) (list_all (λ p. not (gives_input p) || in_window p) (parameters o)) true ≡ true
 unfolding kind_for parameters gives_input in_window
-window-parameters op.All bs names = refl
+window-parameters (op.Window window.Latest) bs names = refl
+window-parameters (op.Window k) bs names = refl
 window-parameters o bs names = refl
 
 not-or : (a b : Bool) → a ≡ true → (not a || b) ≡ true → b ≡ true
@@ -145,6 +147,8 @@ is_like o = false
 result-called : (o : Operation) (bs : List Bound) (names : List (List ℕ)) (t : ℕ) → is_like o ≡ false → SafeResult (kind_for o bs names) (all_safe bs) (result_for o bs t)
 unfolding kind_for result_for sort_of is_safe_kind is_safe_over
 result-called op.Downsample bs names t h = absurd (let no : true ≡ false = h in cc)
+result-called (op.Window window.Latest) bs names t h = not-or_self (may_stand (kind_for (op.Window window.Latest) bs names) (all_safe bs))
+result-called (op.Window k) bs names t h = not-or_self (may_stand (kind_for (op.Window k) bs names) (all_safe bs))
 result-called o bs names t h = not-or_self (may_stand (kind_for o bs names) (all_safe bs))
 
 called-cases : (s a b c : Bool) → s ≡ true → (not s || (a || (b && c))) ≡ true → (a ≡ true) ⊎ ((b ≡ true) × (c ≡ true))

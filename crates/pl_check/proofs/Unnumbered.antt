@@ -145,10 +145,11 @@ broken-bare bs =
 
 pub kind-bare : (o : Operation) (bs : List Bound) (names : List (List ℕ)) → kind_for o (map bare bs) names ≡ kind_for o bs names
 unfolding kind_for
-kind-bare op.BollingerLower bs names = ap (λ n. kind.Window (window.BollingerLower n)) (number-given bs parameter.K)
-kind-bare op.BollingerUpper bs names = ap (λ n. kind.Window (window.BollingerUpper n)) (number-given bs parameter.K)
-kind-bare op.ExponentialWeightedMovingAverage bs names = ap (λ n. kind.Window (window.ExponentialWeightedMovingAverage n)) (number-given bs parameter.Decay)
-kind-bare op.AtLeastN bs names = ap (λ n. kind.Window (window.AtLeastN (whole n))) (number-given bs parameter.AtLeast)
+kind-bare (op.Window (window.BollingerLower k)) bs names = ap (λ n. kind.Window (window.BollingerLower n)) (number-given bs parameter.K)
+kind-bare (op.Window (window.BollingerUpper k)) bs names = ap (λ n. kind.Window (window.BollingerUpper n)) (number-given bs parameter.K)
+kind-bare (op.Window (window.ExponentialWeightedMovingAverage d)) bs names = ap (λ n. kind.Window (window.ExponentialWeightedMovingAverage n)) (number-given bs parameter.Decay)
+kind-bare (op.Window (window.AtLeastN m)) bs names = ap (λ n. kind.Window (window.AtLeastN (whole n))) (number-given bs parameter.AtLeast)
+kind-bare (op.Window k) bs names = refl
 kind-bare op.StaticSids bs names = ap kind.StaticSids (ap sorted_sids (values-given bs parameter.Sid) ∙ sids-bare (values_given bs parameter.Sid))
 kind-bare op.Label bs names = ap (λ t. kind.Label (name_number names t)) (text-given bs parameter.Name)
 kind-bare op.Number bs names = ap (λ t. kind.Number (name_number names t)) (text-given bs parameter.Name)
@@ -203,6 +204,8 @@ unfolding result_for kind_for sort_of is_safe_kind is_safe_over
 result-bare op.Downsample bs t =
     ap (λ v. like v (all_safe (map bare bs)) 0) (given-bare bs parameter.AnyTerm) ∙ ap (λ s. like (option_map unnumbered (given bs parameter.AnyTerm)) s 0) (all-safe-bare bs)
     ∙ like-bare (given bs parameter.AnyTerm) (all_safe bs) t
+result-bare (op.Window window.Latest) bs t = ap (λ safe. sorted (sort_of (kind_for (op.Window window.Latest) bs [])) (may_stand (kind_for (op.Window window.Latest) bs []) safe) 0) (all-safe-bare bs)
+result-bare (op.Window k) bs t = ap (λ safe. sorted (sort_of (kind_for (op.Window k) bs [])) (may_stand (kind_for (op.Window k) bs []) safe) 0) (all-safe-bare bs)
 result-bare o bs t = ap (λ safe. sorted (sort_of (kind_for o bs [])) (may_stand (kind_for o bs []) safe) 0) (all-safe-bare bs)
 
 -- ---- the form of arguments
