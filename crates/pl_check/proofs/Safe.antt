@@ -16,7 +16,7 @@ use Rattle.pl_check.specs.Parameters.{same_parameter}
 use Rattle.pl_check.specs.Values.{Value, Bars, Factor, Filter, Labels, Numbers, Bound, given, is_safe, is_filter, is_bars}
 use Rattle.pl_check.specs.Operations.{parameters}
 use Rattle.pl_check.specs.Rules.{each, takes, is_safe_for}
-use Rattle.pl_check.specs.Results.{kind_for, result_for, columns_of, gives_input, input_in, input_for, inputs_for, all_safe, may_stand}
+use Rattle.pl_check.specs.Results.{kind_for, result_for, columns_of, gives_input, input_in, input_for, inputs_for, all_safe, is_window_safe}
 use Rattle.pl_check.specs.Standing.{IsInGraph, AreInGraph}
 use Rattle.pl_check.proofs.Lists.{all-has, test-given, stand-given, same-self}
 
@@ -147,9 +147,9 @@ is_like o = false
 result-called : (o : Operation) (bs : List Bound) (names : List (List ℕ)) (t : ℕ) → is_like o ≡ false → SafeResult (kind_for o bs names) (all_safe bs) (result_for o bs t)
 unfolding kind_for result_for sort_of is_safe_kind is_safe_over
 result-called op.Downsample bs names t h = absurd (let no : true ≡ false = h in cc)
-result-called (op.Window window.Latest) bs names t h = not-or_self (may_stand (kind_for (op.Window window.Latest) bs names) (all_safe bs))
-result-called (op.Window k) bs names t h = not-or_self (may_stand (kind_for (op.Window k) bs names) (all_safe bs))
-result-called o bs names t h = not-or_self (may_stand (kind_for o bs names) (all_safe bs))
+result-called (op.Window window.Latest) bs names t h = not-or_self (is_window_safe (kind_for (op.Window window.Latest) bs names) (all_safe bs))
+result-called (op.Window k) bs names t h = not-or_self (is_window_safe (kind_for (op.Window k) bs names) (all_safe bs))
+result-called o bs names t h = not-or_self (is_window_safe (kind_for o bs names) (all_safe bs))
 
 called-cases : (s a b c : Bool) → s ≡ true → (not s || (a || (b && c))) ≡ true → (a ≡ true) ⊎ ((b ≡ true) × (c ≡ true))
 called-cases true true b c e h = inl refl

@@ -16,7 +16,7 @@ use Rattle.pl_check.specs.Parameters.{same_parameter, is_optional}
 use Rattle.pl_check.specs.Values.{Value, Factor, Filter, Labels, Numbers, Bound, bound, is_safe, number_in, text_in, given, read_or}
 use Rattle.pl_check.specs.Operations.{parameters, operator}
 use Rattle.pl_check.specs.Rules.{Written, place_at, named_in, is_given, unless_given, parameter_of, has_all, form, takes, is_whole, is_percent, number_given, is_within, is_window, is_safe_for, each, broken}
-use Rattle.pl_check.specs.Results.{whole, percent_given, text_given, values_given, method_of, order_of, frequency_of, with_sid, sorted_sids, name_number, with_name, kind_for, names_after, window_of, window_for, all_safe, like, sorted, may_stand, result_for}
+use Rattle.pl_check.specs.Results.{whole, percent_given, text_given, values_given, method_of, order_of, frequency_of, with_sid, sorted_sids, name_number, with_name, kind_for, names_after, window_of, window_for, all_safe, like, sorted, is_window_safe, result_for}
 use Rattle.pl_check.specs.Typed.{first_of, object_of, second_of, operands_of, is_storable, is_term_filter}
 use Rattle.pl_check.proofs.Lists.{given-cons, all-same}
 
@@ -204,9 +204,9 @@ unfolding result_for kind_for sort_of is_safe_kind is_safe_over
 result-bare op.Downsample bs t =
     ap (λ v. like v (all_safe (map bare bs)) 0) (given-bare bs parameter.AnyTerm) ∙ ap (λ s. like (option_map unnumbered (given bs parameter.AnyTerm)) s 0) (all-safe-bare bs)
     ∙ like-bare (given bs parameter.AnyTerm) (all_safe bs) t
-result-bare (op.Window window.Latest) bs t = ap (λ safe. sorted (sort_of (kind_for (op.Window window.Latest) bs [])) (may_stand (kind_for (op.Window window.Latest) bs []) safe) 0) (all-safe-bare bs)
-result-bare (op.Window k) bs t = ap (λ safe. sorted (sort_of (kind_for (op.Window k) bs [])) (may_stand (kind_for (op.Window k) bs []) safe) 0) (all-safe-bare bs)
-result-bare o bs t = ap (λ safe. sorted (sort_of (kind_for o bs [])) (may_stand (kind_for o bs []) safe) 0) (all-safe-bare bs)
+result-bare (op.Window window.Latest) bs t = ap (λ safe. sorted (sort_of (kind_for (op.Window window.Latest) bs [])) (is_window_safe (kind_for (op.Window window.Latest) bs []) safe) 0) (all-safe-bare bs)
+result-bare (op.Window k) bs t = ap (λ safe. sorted (sort_of (kind_for (op.Window k) bs [])) (is_window_safe (kind_for (op.Window k) bs []) safe) 0) (all-safe-bare bs)
+result-bare o bs t = ap (λ safe. sorted (sort_of (kind_for o bs [])) (is_window_safe (kind_for o bs []) safe) 0) (all-safe-bare bs)
 
 -- ---- the form of arguments
 

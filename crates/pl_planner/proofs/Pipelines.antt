@@ -14,9 +14,9 @@ use Rattle.pl_pipeline.specs.Term.Input.{BarColumn, TermInput}
 use Rattle.pl_pipeline.specs.Graph.{contains, reads_at, Used}
 use Rattle.pl_pipeline.specs.Graph.Used.{output, mentioned}
 use Rattle.pl_pipeline.proofs.Contained.{in-alone}
-use Rattle.pl_terms.specs.Sorts.{has_window, length_fits, is_window_from, sort_at, Filters, places, all_fit, AnyTerm, is_downsampled}
-use Rattle.pl_terms.specs.declared.kind.WindowLength.{WindowLength}
-use Rattle.pl_terms.specs.declared.kind.WindowLength.TheVariants.{One, Two, FromOne, FromTwo}
+use Rattle.pl_terms.specs.Sorts.{has_window, form_fits, is_window_from, sort_at, Filters, places, all_fit, AnyTerm, is_downsampled}
+use Rattle.pl_terms.specs.declared.kind.WindowForm.{WindowForm}
+use Rattle.pl_terms.specs.declared.kind.WindowForm.TheVariants.{Bar, LongSeries, LongColumns, TwoColumns}
 use Rattle.pl_terms.specs.Windows.{row_of}
 use Rattle.pl_terms.specs.Checked.{IsChecked}
 use Rattle.pl_terms.specs.Uses.{outputs}
@@ -46,15 +46,16 @@ between least w h e =
 exactly : (n w : ℕ) → 1 ≤ n → n ≤ 2 → (w == n) ≡ true → Fits w
 exactly n w h l e = let is : w ≡ n = eqb-true w n e in (omega arith, omega arith)
 
-length-fits : (l : WindowLength) (w : ℕ) → length_fits l w ≡ true → Fits w
-length-fits One w e = exactly 1 w (omega arith) (omega arith) e
-length-fits Two w e = exactly 2 w (omega arith) (omega arith) e
-length-fits FromOne w e = between 1 w (omega arith) e
-length-fits FromTwo w e = between 2 w (omega arith) e
+form-fits : (f : WindowForm) (w : ℕ) → form_fits f w ≡ true → Fits w
+form-fits Bar w e = exactly 1 w (omega arith) (omega arith) e
+form-fits TwoColumns w e = exactly 2 w (omega arith) (omega arith) e
+form-fits LongSeries w e = between 2 w (omega arith) e
+form-fits LongColumns w e = between 2 w (omega arith) e
+form-fits f w e = between 1 w (omega arith) e
 
 kind-fits : (k : Kind) (w : ℕ) → has_window k w ≡ true → Fits w
 unfolding has_window
-kind-fits (kind.Window k) w e = length-fits (row_of k).length w e
+kind-fits (kind.Window k) w e = form-fits (row_of k).form w e
 kind-fits k w e = exactly 1 w (omega arith) (omega arith) e
 
 -- a node reads its inputs on the session itself, or it reads a term

@@ -4,13 +4,13 @@ use Rattle.std.proofs.lemmas.Bool.{and_parts}
 use Rattle.std.proofs.lemmas.Bool.Decides.{nat_tests}
 use Rattle.pl_pipeline.specs.Kind as kind
 use Rattle.pl_pipeline.specs.Kind.{Kind}
-use Rattle.pl_terms.specs.declared.kind.WindowLength.{WindowLength}
-use Rattle.pl_terms.specs.declared.kind.WindowLength.TheVariants.{One, Two, FromOne, FromTwo}
+use Rattle.pl_terms.specs.declared.kind.WindowForm.{WindowForm}
+use Rattle.pl_terms.specs.declared.kind.WindowForm.TheVariants.{Bar, LongSeries, LongColumns, TwoColumns}
 use Rattle.pl_terms.specs.Windows.{row_of}
 use Rattle.pl_pipeline.specs.Table.{Pipeline}
 use Rattle.pl_pipeline.specs.Term.{Term, Graph, Node, Input, BarColumn, TermInput, tree_at, input_tree, number_tree, tree_over, trees_after, term_at}
 use Rattle.pl_pipeline.specs.Reaching.{HasWindows}
-use Rattle.pl_terms.specs.Sorts.{has_window, length_fits, is_window_from}
+use Rattle.pl_terms.specs.Sorts.{has_window, form_fits, is_window_from}
 use Rattle.pl_terms.specs.Checked.{IsChecked}
 
 from-least : (least w : ℕ) → 1 ≤ least → is_window_from least w ≡ true → 1 ≤ w
@@ -19,15 +19,16 @@ from-least least w h e = let r = (and_parts (nat_le least w) (nat_le w 1260) e).
 exactly : (n w : ℕ) → 1 ≤ n → (w == n) ≡ true → 1 ≤ w
 exactly n w h e = grind (arith, nat_tests)
 
-length-some : (l : WindowLength) (w : ℕ) → length_fits l w ≡ true → 1 ≤ w
-length-some One w e = exactly 1 w (omega arith) e
-length-some Two w e = exactly 2 w (omega arith) e
-length-some FromOne w e = from-least 1 w (omega arith) e
-length-some FromTwo w e = from-least 2 w (omega arith) e
+form-some : (f : WindowForm) (w : ℕ) → form_fits f w ≡ true → 1 ≤ w
+form-some Bar w e = exactly 1 w (omega arith) e
+form-some TwoColumns w e = exactly 2 w (omega arith) e
+form-some LongSeries w e = from-least 2 w (omega arith) e
+form-some LongColumns w e = from-least 2 w (omega arith) e
+form-some f w e = from-least 1 w (omega arith) e
 
 some-window : (k : Kind) (w : ℕ) → has_window k w ≡ true → 1 ≤ w
 unfolding has_window
-some-window (kind.Window k) w e = length-some (row_of k).length w e
+some-window (kind.Window k) w e = form-some (row_of k).form w e
 some-window k w e = exactly 1 w (omega arith) e
 
 -- ---- trees one after another

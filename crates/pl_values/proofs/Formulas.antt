@@ -20,10 +20,10 @@ use Rattle.pl_pipeline.specs.NodeValue.{input_part}
 use Rattle.pl_pipeline.specs.Table.{Pipeline, value_of}
 use Rattle.pl_spec.proofs.Windows.{before-pos, map-downward}
 use Rattle.pl_terms.specs.Checked.{IsChecked}
-use Rattle.pl_terms.specs.declared.kind.WindowLength.{WindowLength}
-use Rattle.pl_terms.specs.declared.kind.WindowLength.TheVariants.{One, Two}
+use Rattle.pl_terms.specs.declared.kind.WindowForm.{WindowForm}
+use Rattle.pl_terms.specs.declared.kind.WindowForm.TheVariants.{Bar, TwoColumns}
 use Rattle.pl_terms.specs.Windows.{row_of}
-use Rattle.pl_terms.specs.Sorts.{Place, Filter, sort_at, places, window_places, length_fits, fits, all_fit, has_window, has_parameters, is_limited}
+use Rattle.pl_terms.specs.Sorts.{Place, Filter, sort_at, places, window_places, form_fits, fits, all_fit, has_window, has_parameters, is_limited}
 use Rattle.pl_lanes.specs.Flags.{IsFlag}
 use Rattle.pl_factors.specs.Kinds.{takes_pairs}
 use Rattle.pl_cross.specs.Arrays.{sid_in}
@@ -65,17 +65,17 @@ places-of : (k : Kind) (f : WindowKind) → k ≡ Window f → places k ≡ wind
 unfolding places
 places-of k f e = rw e refl
 
-window-of : (k : Kind) (f : WindowKind) (w : ℕ) → k ≡ Window f → has_window k w ≡ true → length_fits (row_of f).length w ≡ true
+window-of : (k : Kind) (f : WindowKind) (w : ℕ) → k ≡ Window f → has_window k w ≡ true → form_fits (row_of f).form w ≡ true
 unfolding has_window
 window-of k f w e h = rw e at h
 
 from-most : (least w : ℕ) → (nat_le least w && nat_le w 1260) ≡ true → w ≤ 1260
 from-most least w h = let m : nat_le w 1260 ≡ true = (and_parts (nat_le least w) (nat_le w 1260) h).1 in grind (arith, nat_tests)
 
-window-most : (l : WindowLength) (w : ℕ) → length_fits l w ≡ true → w ≤ 1260
-window-most One w h = let e : w ≡ 1 = grind (arith, nat_tests) in omega arith
-window-most Two w h = let e : w ≡ 2 = grind (arith, nat_tests) in omega arith
-window-most l w h = from-most _ w h
+form-most : (f : WindowForm) (w : ℕ) → form_fits f w ≡ true → w ≤ 1260
+form-most Bar w h = let e : w ≡ 1 = grind (arith, nat_tests) in omega arith
+form-most TwoColumns w h = let e : w ≡ 2 = grind (arith, nat_tests) in omega arith
+form-most f w h = from-most _ w h
 
 -- the window of an input as the definitions have it, sessions below 0 among them
 abbrev pub seen_window : World → Pipeline → List ℕ → Node → Option Input → ℕ → ℕ → List ℤ
@@ -95,7 +95,7 @@ module _ (w : World) (p : Pipeline) (sids : List ℕ) (ok : IsChecked p) (k : �
   fit = ap (λ ps. all_fit p.graph ps n.inputs) (sym (places-of n.kind f e)) ∙ (ok.nodes k n is).inputs
 
   pub most : n.window ≤ 1260
-  most = window-most (row_of f).length n.window (window-of n.kind f n.window e (ok.nodes k n is).window)
+  most = form-most (row_of f).form n.window (window-of n.kind f n.window e (ok.nodes k n is).window)
 
   -- there is a first window
   pub first-input : (x : Input) × (slice_get n.inputs 0 ≡ Some x)
