@@ -7,15 +7,14 @@
 
 mod commands;
 mod cut;
-mod names;
 mod options;
 mod read;
 mod request;
 mod text;
 
-pub use names::{adjustments_asked, column_asked, date_asked, name_asked};
 pub use read::read_words;
 pub use request::{
     BenchRequest, DateWord, ExplainRequest, InputFile, Options, PayoutsRequest, PlanRequest,
-    RangeDate, Request, RunRequest, VerifyRequest, WorldNames,
+    RangeDate, Request, RunRequest, VerifyRequest, WorldNames, adjustments_asked, column_asked,
+    date_asked, name_asked,
 };
