@@ -35,12 +35,13 @@ view_is rows cols adjusts e f = zip2_of_maps (λ col x. record { col = col; even
 abbrev pub Puts : ColumnAdjustment → Type 0
 Puts x = PutsCell x.event
 
-pub kept_from : (before : List ColumnAdjustment) (rows : List Row) (cols : List ℕ) (adjusts : List Adjust) → All Puts before → IsByPlace before (map row_of rows)
+pub kept_from : (rows : List Row) (cols : List ℕ) (adjusts : List Adjust)
+    → IsSorted place_cmp (map row_of rows) → All Puts (map row_of rows)
     → cols ≡ map (λ r. r.col) rows → adjusts ≡ map (λ r. r.adjust) rows → AreKept cols adjusts
-kept_from before rows cols adjusts puts h e f = record {
+kept_from rows cols adjusts sorted puts e f = record {
   as_many = ap length f ∙ length-map rows (λ (r : Row). r.adjust) ∙ sym (length-map rows (λ (r : Row). r.col)) ∙ ap length (sym e);
-  sorted = rw (view_is rows cols adjusts e f) h.sorted;
-  puts = rw (view_is rows cols adjusts e f) (All-permutation Puts before (map row_of rows) h.same puts);
+  sorted = rw (view_is rows cols adjusts e f) sorted;
+  puts = rw (view_is rows cols adjusts e f) puts;
 }
 
 -- ---- those of a column stand by day

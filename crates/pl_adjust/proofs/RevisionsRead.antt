@@ -1,7 +1,7 @@
 -- Revisions that are read: what is kept of all rows, and what a file says, in plain words.
-use Rattle.std.proofs.Common.{◌≡◌, ◌↔◌, ◌≤◌, ◌==◌, ◌&&◌, true, false, List, [], ◌∷◌, ◌++◌, Some, Ok, Err, refl, ap, ℤ, ◌<ℤ◌, ◌≤ℤ◌, arith, Any, eq-eqb, eqb-true}
+use Rattle.std.proofs.Common.{◌≡◌, ◌↔◌, ◌==◌, ◌&&◌, true, false, List, [], ◌∷◌, ◌++◌, Some, Ok, Err, refl, ap, ℤ, ◌<ℤ◌, ◌≤ℤ◌, arith, eq-eqb, eqb-true}
 use Rattle.std.specs.Prelude.{Contains}
-use Rattle.std.specs.List.{list_any, slice_get}
+use Rattle.std.specs.List.{slice_get}
 use Rattle.std.specs.Int.RustNames.{int_le}
 use Rattle.std.specs.Ordering.{int_eq}
 use Rattle.std.specs.Bool.{Decides}
@@ -61,9 +61,6 @@ whole x y h =
     let known : int_eq y.known x.known ≡ true = eq-int_eq _ _ h.known in
     rw (sid, day, column, known) refl
 
-same_tells : (before : List Revision) (x : Revision) → Decides (list_any (is_same x) before) (Any (AreOfOne x) before)
-same_tells before x = any-tells (is_same x) (AreOfOne x) (λ y. (parts x y, whole x y)) before
-
 module _ (days : List ℤ) (assets : List AssetRow) (ud : AreDays days) (ua : AreAssets assets) where
   tells : (before : List Revision) (r : Record) (q : Rule) → Decides (breaks days assets before r q) (Breaks days assets before r q)
   tells before r rules.BadHeader = (λ t. absurd (let bad : false ≡ true = t in cc), λ h. absurd h)
@@ -74,7 +71,9 @@ module _ (days : List ℤ) (assets : List AssetRow) (ud : AreDays days) (ua : Ar
   tells before r rules.Negative =
       has-tells revision_in IsRevisionRecord revision_form _ _ (λ x. (IsNegative-test x.value, is_negative-test x.value)) r
   tells before r rules.TooSoon = has-tells revision_in IsRevisionRecord revision_form _ _ soon_tells r
-  tells before r rules.Duplicate = has-tells revision_in IsRevisionRecord revision_form _ _ (same_tells before) r
+  tells before r rules.Duplicate =
+      has-tells revision_in IsRevisionRecord revision_form _ _
+      (λ x. any-tells (is_same x) (AreOfOne x) (λ y. (parts x y, whole x y)) before) r
 
   pub revisions_judged : Judges (IsNext days assets) (λ before r. IsFirstBroken rules.rules (Breaks days assets before r)) (revision_or_rule days assets)
   unfolding revision_or_rule

@@ -1,7 +1,9 @@
 -- One more row of a table.
-use Rattle.std.proofs.Common.{◌≡◌, ℕ, suc, ◌+◌, ◌<◌, ◌≤◌, true, false, List, [], ◌∷◌, ◌++◌, map, length, drop, get_or, Option, Some, None, refl, sym, ◌∙◌, ap, arith, unsigned_abs, IfSome, pos, append_assoc, add-zero, zero-add, length-append}
+use Rattle.std.proofs.Common.{◌≡◌, ℕ, suc, ◌+◌, ◌<◌, ◌≤◌, true, false, List, [], ◌∷◌, ◌++◌, map, length, drop, get_or, Option, Some, None, refl, sym, ◌∙◌, ap, arith, unsigned_abs, IfSome, IsErrAnd, Result, pos, append_assoc, add-zero, zero-add, length-append}
 use Rattle.std.proofs.lemmas.List.{at_drop_more, at_drop_all, map-append, length-map}
 use Rattle.std.specs.Option.{option_or}
+use Rattle.std.proofs.lemmas.Option.{IfSome_then}
+use Rattle.std.proofs.lemmas.Result.{err_from_is_err_and}
 use Rattle.pl_spec.specs.declared.AdjustmentKind.{AdjustmentKind}
 use Rattle.pl_spec.specs.declared.AssetRow.{AssetRow}
 use Rattle.pl_spec.specs.declared.RawAdjust.{RawAdjust}
@@ -10,7 +12,9 @@ use Rattle.pl_adjust.specs.declared.adjust.Adjust.{Adjust}
 use Rattle.pl_adjust.specs.declared.columns.Row.{Row}
 use Rattle.pl_outside.specs.declared.keeper.Table.{Table}
 use Rattle.pl_outside.specs.declared.keeper.Table.TheVariants.{Splits, Mergers, Dividends}
+use Rattle.pl_adjust.specs.declared.error.AdjustError.{AdjustError}
 use Rattle.pl_adjust.specs.Events.{event_of}
+use Rattle.pl_adjust.specs.Faults.{Tells, fault_of}
 use Rattle.pl_adjust.specs.Columns.{col_in, in_column}
 use Rattle.pl_adjust.specs.Rows.{row_of}
 use Rattle.pl_adjust.specs.Walk.{Fault, TableRow, fault_at, first_fault, in_table, walk}
@@ -35,14 +39,6 @@ pub fault_stops : (before i : ℕ) (table : Table) (raw : List RawAdjust) (d : R
 unfolding first_fault
 fault_stops before i table raw d f within some =
     at_drop_more (λ rows. first_fault (before + i) (in_table table rows)) raw i d within ∙ (rw some refl)
-
--- an error that tells the row's fault tells the table's
-pub fault_told : (before i : ℕ) (table : Table) (raw : List RawAdjust) (d : RawAdjust) (told : Option Fault) → i < length raw
-    → IfSome told (λ f. fault_at (before + i) (record { table = table; row = get_or raw i d }) ≡ Some f)
-    → first_fault (before + i) (in_table table (drop i raw)) ≡ first_fault before (in_table table raw)
-    → IfSome told (λ f. first_fault before (in_table table raw) ≡ Some f)
-fault_told before i table raw d None within some left = tt
-fault_told before i table raw d (Some f) within some left = sym left ∙ fault_stops before i table raw d f within some
 
 pub fault_ends : (before i : ℕ) (table : Table) (raw : List RawAdjust) → length raw ≤ i → first_fault (before + i) (in_table table (drop i raw)) ≡ None
 unfolding first_fault
@@ -84,7 +80,7 @@ first_fault-append n (x ∷ xs) ys = here (fault_at n x) (first_fault-append (su
 length-in_table : (table : Table) (raw : List RawAdjust) → length (in_table table raw) ≡ length raw
 length-in_table table raw = length-map raw (λ r. record { table = table; row = r })
 
-walk-faults : (splits mergers dividends : List RawAdjust) → first_fault 0 (walk splits mergers dividends)
+pub walk-faults : (splits mergers dividends : List RawAdjust) → first_fault 0 (walk splits mergers dividends)
     ≡ option_or (option_or (first_fault 0 (in_table Splits splits)) (first_fault (length splits) (in_table Mergers mergers))) (first_fault (length splits + length mergers) (in_table Dividends dividends))
 walk-faults splits mergers dividends =
     let long : length (in_table Splits splits) ≡ length splits = length-in_table Splits splits in
@@ -96,22 +92,9 @@ walk-faults splits mergers dividends =
     (first_fault-append 0 (in_table Splits splits) (in_table Mergers mergers)
     ∙ ap (λ n. option_or (first_fault 0 (in_table Splits splits)) (first_fault n (in_table Mergers mergers))) (zero-add _ ∙ long))
 
-pub told_first : (splits mergers dividends : List RawAdjust) (told : Option Fault) → IfSome told (λ f. first_fault 0 (in_table Splits splits) ≡ Some f)
-    → IfSome told (λ f. first_fault 0 (walk splits mergers dividends) ≡ Some f)
-told_first splits mergers dividends None some = tt
-told_first splits mergers dividends (Some f) some = walk-faults splits mergers dividends ∙ rw some refl
-
-pub told_second : (splits mergers dividends : List RawAdjust) (told : Option Fault) → first_fault 0 (in_table Splits splits) ≡ None → IfSome told (λ f. first_fault (length splits) (in_table Mergers mergers) ≡ Some f)
-    → IfSome told (λ f. first_fault 0 (walk splits mergers dividends) ≡ Some f)
-told_second splits mergers dividends None first some = tt
-told_second splits mergers dividends (Some f) first some = walk-faults splits mergers dividends ∙ rw (first, some) refl
-
-pub told_third : (splits mergers dividends : List RawAdjust) (told : Option Fault) → first_fault 0 (in_table Splits splits) ≡ None → first_fault (length splits) (in_table Mergers mergers) ≡ None
-    → IfSome told (λ f. first_fault (length splits + length mergers) (in_table Dividends dividends) ≡ Some f)
-    → IfSome told (λ f. first_fault 0 (walk splits mergers dividends) ≡ Some f)
-told_third splits mergers dividends None first second some = tt
-told_third splits mergers dividends (Some f) first second some = walk-faults splits mergers dividends ∙ rw (first, second, some) refl
-
-pub told_none : (splits mergers dividends : List RawAdjust) → first_fault 0 (in_table Splits splits) ≡ None → first_fault (length splits) (in_table Mergers mergers) ≡ None
-    → first_fault (length splits + length mergers) (in_table Dividends dividends) ≡ None → first_fault 0 (walk splits mergers dividends) ≡ None
-told_none splits mergers dividends first second third = walk-faults splits mergers dividends ∙ rw (first, second, third) refl
+-- an error that tells a fault tells what follows from it
+pub tells_then : {A : Type 0} (result : Result A AdjustError) (error : AdjustError) {part all : Option Fault}
+    → IsErrAnd result (λ e. e ≡ error) → IfSome (fault_of error) (λ f. part ≡ Some f)
+    → ((f : Fault) → part ≡ Some f → all ≡ Some f) → Tells result all
+tells_then result error is told follows =
+    let err = err_from_is_err_and result is in rw (err.1, err.2) (IfSome_then (fault_of error) told follows)

@@ -1,9 +1,8 @@
 //! The adjustments that are known by a day.
 
-ghost use Rattle.std.specs.Prelude.{◌≡◌, length, map, IfOk};
-ghost use Rattle.pl_spec.specs.AsOf.{adjustments_by};
-ghost use Rattle.pl_adjust.specs.Columns.{in_columns};
-ghost use Rattle.pl_adjust.specs.Rows.{row_of};
+ghost use Rattle.std.specs.Prelude.{◌≡◌, filter, IfOk};
+ghost use Rattle.std.specs.Int.RustNames.{int_le};
+ghost use Rattle.pl_adjust.specs.Rows.{rows_in};
 
 use crate::adjust::Adjust;
 use crate::columns::Row;
@@ -16,16 +15,15 @@ pub(crate) fn rows_by(
     adjusts: &[Adjust],
     day: i32,
 ) -> Result<Vec<Row>, AllocError>
-    requires { length adjusts.now ≡ length cols.now }
     ensures { IfOk result (λ rows.
-        map row_of rows.items ≡ adjustments_by day (in_columns cols.now adjusts.now)) }
+        rows.items ≡ filter (λ r. int_le r.adjust.day day) (rows_in cols.now adjusts.now)) }
 {
-    let mut rows = Vec::new(alloc);
-    for (i, col) in cols.iter().enumerate() {
-        let adjust = adjusts[i];
-        if adjust.day <= day {
-            rows.push(Row { col: *col, adjust })?;
-        }
-    }
-    Ok(rows)
+    cols.iter()
+        .zip(adjusts)
+        .map(|(col, adjust)| Row {
+            col: *col,
+            adjust: *adjust,
+        })
+        .filter(|row| row.adjust.day <= day)
+        .collect(alloc)
 }

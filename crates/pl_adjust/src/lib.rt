@@ -7,7 +7,8 @@ ghost use Rattle.pl_records.specs.Reading.{Answers};
 ghost use Rattle.pl_records.specs.Records.{csv_records};
 ghost use Rattle.pl_spec.specs.AsOf.{adjustments_by};
 ghost use Rattle.pl_adjust.specs.Events.{PutCells, PutsCell, event_of};
-ghost use Rattle.pl_adjust.specs.Columns.{IsByPlace, StandByDay, events_at};
+ghost use Rattle.std.specs.List.Sorted.{IsSorted};
+ghost use Rattle.pl_adjust.specs.Columns.{IsByPlace, StandByDay, events_at, place_cmp};
 ghost use Rattle.pl_adjust.specs.Faults.{fault_of};
 ghost use Rattle.pl_adjust.specs.Revised.{AreKnown, revised_by, revised_columns, revised_in};
 ghost use Rattle.pl_adjust.specs.RevisionFaults as revision_faults;
@@ -145,8 +146,17 @@ impl Adjustments {
         ensures { IfOk result (λ made. IsByPlace (map row_of rows.items) made) }
     {
         let sorted = columns::by_place(rows)?;
-        let cols = columns::cols_of(alloc, &sorted)?;
-        let adjusts = columns::adjusts_of(alloc, &sorted)?;
+        Adjustments::of_sorted(alloc, &sorted, count)
+    }
+
+    // The same of rows that stand by column and day.
+    fn of_sorted(alloc: Global, rows: &[Row], count: usize) -> Result<Adjustments, AllocError>
+        requires sorted { IsSorted place_cmp (map row_of rows.now) }
+        requires cells { All (λ x. PutsCell x.event) (map row_of rows.now) }
+        ensures { IfOk result (λ made. made ≡ map row_of rows.now) }
+    {
+        let cols = columns::cols_of(alloc, rows)?;
+        let adjusts = columns::adjusts_of(alloc, rows)?;
         let starts = columns::starts_of(alloc, &cols, count)?;
         Ok(Adjustments {
             cols,
@@ -161,14 +171,8 @@ impl Adjustments {
         ensures { IfOk result (λ a. a ≡ adjustments_by day self.now) }
     {
         let rows = cut::rows_by(alloc, &self.cols, &self.adjusts, day)?;
-        let cols = columns::cols_of(alloc, &rows)?;
-        let adjusts = columns::adjusts_of(alloc, &rows)?;
-        let starts = columns::starts_of(alloc, &cols, self.starts.len())?;
-        Ok(Adjustments {
-            cols,
-            starts,
-            adjusts,
-        })
+        let kept = Adjustments::of_sorted(alloc, &rows, self.starts.len())?;
+        Ok(kept)
     }
 
     /// How many adjustments there are. Those of an asset are by day, and what overwrites a cell is a cell.

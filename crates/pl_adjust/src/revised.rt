@@ -1,10 +1,10 @@
 //! The revisions of a file as adjustments with their columns.
 
-ghost use Rattle.std.specs.Prelude.{◌≡◌, ◌++◌, length, map, IfOk, OnOk};
-ghost use Rattle.pl_adjust.specs.Columns.{col_in, in_columns};
+ghost use Rattle.std.specs.Prelude.{◌≡◌, ◌++◌, map, IfOk, OnOk};
+ghost use Rattle.pl_adjust.specs.Columns.{col_in};
 ghost use Rattle.pl_adjust.specs.Events.{event_of};
 ghost use Rattle.pl_adjust.specs.Revised.{AreKnown, IsKnown, revised, revised_columns};
-ghost use Rattle.pl_adjust.specs.Rows.{row_of};
+ghost use Rattle.pl_adjust.specs.Rows.{row_of, rows_in};
 
 use crate::adjust::{Adjust, Change};
 use crate::columns::Row;
@@ -19,17 +19,15 @@ pub(crate) fn rows_of(
     cols: &[usize],
     adjusts: &[Adjust],
 ) -> Result<Vec<Row>, AllocError>
-    requires { length adjusts.now ≡ length cols.now }
-    ensures { IfOk result (λ rows. map row_of rows.items ≡ in_columns cols.now adjusts.now) }
+    ensures { IfOk result (λ rows. rows.items ≡ rows_in cols.now adjusts.now) }
 {
-    let mut rows = Vec::new(alloc);
-    for i in 0..cols.len() {
-        rows.push(Row {
-            col: cols[i],
-            adjust: adjusts[i],
-        })?;
-    }
-    Ok(rows)
+    cols.iter()
+        .zip(adjusts)
+        .map(|(col, adjust)| Row {
+            col: *col,
+            adjust: *adjust,
+        })
+        .collect(alloc)
 }
 
 // Puts the revisions after the rows.

@@ -40,31 +40,38 @@ printable-bytes (b ∷ bs) all =
 
 -- ---- the record
 
-pub IsLabelRecord-label_in : (r : Record) (l : LabelRow) → label_in r ≡ Some l → IsLabelRecord r l
-unfolding label_in
-IsLabelRecord-label_in r l e =
-    let it = when_some (length r == 4 && (is_name (field r 0) && is_printable (field r 3))) _ l e in
-    let p = and_parts (length r == 4) (is_name (field r 0) && is_printable (field r 3)) it.0 in
-    let q = and_parts (is_name (field r 0)) (is_printable (field r 3)) p.1 in
-    let s = and_then_some (sid_in (field r 1)) _ l it.1 in
-    let d = map_some (date_in (field r 2)) (λ start. record { name = field r 0; sid = s.0; start = start; text = field r 3 }) l s.2 in
-    let n = decimal-sid_in (field r 1) s.0 s.1 in
-    rw (← d.2) record {
-      four = eqb-true (length r) 4 p.0;
-      name = refl;
-      right_name = q.0;
-      small = n.0;
-      sid = n.1;
-      start = IsDate-date_in (field r 2) d.0 d.1;
-      text = refl;
-      printable = bytes-printable (field r 3) q.1;
-    }
-
-label_in-IsLabelRecord : (r : Record) (l : LabelRow) → IsLabelRecord r l → label_in r ≡ Some l
-unfolding label_in
-label_in-IsLabelRecord r l h =
-    let n : is_name l.name ≡ true = h.right_name in
-    rw (eq-eqb (length r) 4 h.four, h.name, h.text, n, printable-bytes l.text h.printable, sid_in-decimal (field r 1) l.sid h.small h.sid, date_in-IsDate (field r 2) l.start h.start) refl
-
 pub label_form : (r : Record) (l : LabelRow) → (label_in r ≡ Some l) ↔ IsLabelRecord r l
-label_form r l = (IsLabelRecord-label_in r l, label_in-IsLabelRecord r l)
+unfolding label_in
+label_form r l = (there, back)
+  where
+    there : label_in r ≡ Some l → IsLabelRecord r l
+    there e =
+        let it = when_some (length r == 4 && (is_name (field r 0) && is_printable (field r 3))) _ l e in
+        let p = and_parts (length r == 4) (is_name (field r 0) && is_printable (field r 3)) it.0 in
+        let q = and_parts (is_name (field r 0)) (is_printable (field r 3)) p.1 in
+        let s = and_then_some (sid_in (field r 1)) _ l it.1 in
+        let d = map_some (date_in (field r 2)) (λ start. record { name = field r 0; sid = s.0; start = start; text = field r 3 }) l s.2 in
+        let n = decimal-sid_in (field r 1) s.0 s.1 in
+        rw (← d.2) record {
+          four = eqb-true (length r) 4 p.0;
+          name = refl;
+          right_name = q.0;
+          small = n.0;
+          sid = n.1;
+          start = IsDate-date_in (field r 2) d.0 d.1;
+          text = refl;
+          printable = bytes-printable (field r 3) q.1;
+        }
+
+    back : IsLabelRecord r l → label_in r ≡ Some l
+    back h =
+        let n : is_name l.name ≡ true = h.right_name in
+        rw (
+          eq-eqb (length r) 4 h.four,
+          h.name,
+          h.text,
+          n,
+          printable-bytes l.text h.printable,
+          sid_in-decimal (field r 1) l.sid h.small h.sid,
+          date_in-IsDate (field r 2) l.start h.start,
+        ) refl

@@ -15,7 +15,7 @@ use Rattle.pl_assets.specs.Labels.{breaks, in_column, row_of, header, label_in, 
 use Rattle.pl_assets.specs.Labels as rules
 use Rattle.pl_spec.specs.Limits.{most_labels, most_label_bytes}
 use Rattle.pl_spec.proofs.Columns.{no_asset}
-use Rattle.pl_assets.proofs.LabelFields.{IsLabelRecord-label_in, printable-bytes}
+use Rattle.pl_assets.proofs.LabelFields.{label_form, printable-bytes}
 use Rattle.pl_assets.proofs.Dated.{once-more}
 use Rattle.pl_assets.proofs.LabelKeys.{labels}
 
@@ -34,7 +34,7 @@ read-more assets before r row h s =
     let l = and_then_some (label_in r) (λ l. option_map (in_column l) (col_in assets l.sid)) row at in
     let c = map_some (col_in assets l.0.sid) (in_column l.0) row l.2 in
     let col = position-Some (λ a. sid_of a == l.0.sid) assets c.0 no_asset c.1 in
-    let w = IsLabelRecord-label_in r l.0 l.1 in
+    let w = (label_form r l.0).0 l.1 in
     let short : nat_lt most_label_bytes (length l.0.text) ≡ false = rw l.1 at k.0.1.1.0 in
     let own : list_any (is_from row.name row.col row.start) before ≡ false = rw at at k.0.1.1.1.1.0 in
     let right : IsLabelRow (in_column l.0 c.0) = record { name = w.right_name; printable = printable-bytes l.0.text w.printable; short = fits (length l.0.text) short } in

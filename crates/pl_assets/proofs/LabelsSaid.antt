@@ -1,6 +1,5 @@
 -- What a record says of its label, in plain words.
-use Rattle.std.proofs.Common.{◌≡◌, ℕ, ◌<◌, ◌↔◌, nat_lt, true, false, List, length, Some, Any, Ok, Err, refl, arith}
-use Rattle.std.specs.List.{list_any}
+use Rattle.std.proofs.Common.{◌≡◌, ℕ, ◌<◌, ◌↔◌, nat_lt, true, false, List, length, Some, Ok, Err, refl, arith}
 use Rattle.std.specs.Bool.{Decides}
 use Rattle.std.proofs.lemmas.Bool.Decides.{nat_tests}
 use Rattle.pl_records.specs.Reading.{Record, Fault, Judges}
@@ -10,21 +9,14 @@ use Rattle.pl_spec.specs.declared.AssetRow.{AssetRow}
 use Rattle.pl_records.proofs.Readings.{made-fault, made-is}
 use Rattle.pl_records.proofs.RuleTables.{lacks-tells, has-tells, Judges-table}
 use Rattle.pl_lifetimes.specs.Assets.{AreAssets}
-use Rattle.pl_assets.specs.Labels.{Rule, LabelTable, breaks, in_column, row_of, header, label_in, is_from, label_or_rule, label_rows_in, labels_of, table_of}
+use Rattle.pl_assets.specs.Labels.{Rule, LabelTable, breaks, in_column, row_of, header, label_in, label_or_rule, label_rows_in, labels_of, table_of}
 use Rattle.pl_assets.specs.Labels as rules
-use Rattle.pl_assets.specs.LabelRules.{IsLabelRecord, IsRowRecord, StartWith, IsLabel, Breaks, AreLabelsOf, IsLabelsFault}
+use Rattle.pl_assets.specs.LabelRules.{IsLabelRecord, IsRowRecord, IsLabel, Breaks, AreLabelsOf, IsLabelsFault}
 use Rattle.pl_spec.specs.Limits.{most_label_bytes}
 use Rattle.pl_assets.proofs.Dated.{clash-tells}
 use Rattle.pl_assets.proofs.LabelKeys.{labels}
 use Rattle.pl_assets.proofs.LabelFields.{label_form}
 use Rattle.pl_lifetimes.proofs.SidColumns.{placed_form, unknown_tells}
-
--- ---- the rows before
-
-start_tells : (before : List ColumnLabel) (row : ColumnLabel) → Decides (list_any (is_from row.name row.col row.start) before) (Any (StartWith row) before)
-start_tells = clash-tells labels
-
--- ---- what is said
 
 row_form : (assets : List AssetRow) → AreAssets assets → (r : Record) (row : ColumnLabel) → (row_of assets r ≡ Some row) ↔ IsRowRecord assets r row
 row_form = placed_form label_in IsLabelRecord (λ l. l.sid) in_column label_form
@@ -42,7 +34,8 @@ tells assets up before r rules.LabelTooLong = has-tells label_in IsLabelRecord l
     long n = (λ t. grind (arith, nat_tests), λ h. grind (arith, nat_tests))
 tells assets up before r rules.UnknownSid =
     has-tells label_in IsLabelRecord label_form _ _ (λ l. unknown_tells assets up l.sid) r
-tells assets up before r rules.DuplicateStart = has-tells (row_of assets) (IsRowRecord assets) (row_form assets up) _ _ (start_tells before) r
+tells assets up before r rules.DuplicateStart =
+    has-tells (row_of assets) (IsRowRecord assets) (row_form assets up) _ _ (clash-tells labels before) r
 
 pub labels_judged : (assets : List AssetRow) → AreAssets assets → Judges (IsLabel assets) (Told assets) (label_or_rule assets)
 unfolding label_or_rule

@@ -112,36 +112,39 @@ cells_in-AreCellTexts r (a ∷ b ∷ c ∷ d ∷ e ∷ f ∷ rest) n h = absurd 
 
 -- ---- all fields
 
-pub IsBarRecord-fields_in : (r : Record) (f : Fields) → fields_in r ≡ Some f → IsBarRecord r f
-unfolding fields_in
-IsBarRecord-fields_in r f e =
-    let it = when_some (length r == 7) _ f e in
-    let s = and_then_some (sid_in (field r 0)) _ f it.1 in
-    let d = and_then_some (date_in (field r 1)) _ f s.2 in
-    let c = map_some (cells_in r) (λ cells. record { sid = s.0; day = d.0; cells = cells }) f d.2 in
-    let n = decimal-sid_in (field r 0) s.0 s.1 in
-    let texts = AreCellTexts-cells_in r c.0 c.1 in
-    rw (← c.2) record {
-      seven = eqb-true (length r) 7 it.0;
-      small = n.0;
-      sid = n.1;
-      day = IsDate-date_in (field r 1) d.0 d.1;
-      five = texts.five;
-      cells = texts.each;
-    }
-
-pub fields_in-IsBarRecord : (r : Record) (f : Fields) → IsBarRecord r f → fields_in r ≡ Some f
-unfolding fields_in
-fields_in-IsBarRecord r f h =
-    rw (eq-eqb (length r) 7 h.seven, sid_in-decimal (field r 0) f.sid h.small h.sid, date_in-IsDate (field r 1) f.day h.day, cells_in-AreCellTexts r f.cells h.five h.cells) refl
-
 pub fields_form : (r : Record) (f : Fields) → (fields_in r ≡ Some f) ↔ IsBarRecord r f
-fields_form r f = (IsBarRecord-fields_in r f, fields_in-IsBarRecord r f)
+unfolding fields_in
+fields_form r f = (
+  there,
+  λ h. rw (
+    eq-eqb (length r) 7 h.seven,
+    sid_in-decimal (field r 0) f.sid h.small h.sid,
+    date_in-IsDate (field r 1) f.day h.day,
+    cells_in-AreCellTexts r f.cells h.five h.cells,
+  ) refl,
+)
+  where
+    there : fields_in r ≡ Some f → IsBarRecord r f
+    there e =
+        let it = when_some (length r == 7) _ f e in
+        let s = and_then_some (sid_in (field r 0)) _ f it.1 in
+        let d = and_then_some (date_in (field r 1)) _ f s.2 in
+        let c = map_some (cells_in r) (λ cells. record { sid = s.0; day = d.0; cells = cells }) f d.2 in
+        let n = decimal-sid_in (field r 0) s.0 s.1 in
+        let texts = AreCellTexts-cells_in r c.0 c.1 in
+        rw (← c.2) record {
+          seven = eqb-true (length r) 7 it.0;
+          small = n.0;
+          sid = n.1;
+          day = IsDate-date_in (field r 1) d.0 d.1;
+          five = texts.five;
+          cells = texts.each;
+        }
 
 -- cells that are read, and not below 0
 pub fields-cells : (r : Record) (f : Fields) → fields_in r ≡ Some f → list_any is_negative f.cells ≡ false → All (λ v. IsTrue (is_bar_cell v)) f.cells
 fields-cells r f e t k d h =
-    let it = IsBarRecord-fields_in r f e in
+    let it = (fields_form r f).0 e in
     let text = it.cells k (get_or f.cells k d) (slice_get-get_or f.cells k d h) in
     IsCellText-bar_cell (field r (k + 2)) (get_or f.cells k d) text (none-at is_negative f.cells t k d h)
 

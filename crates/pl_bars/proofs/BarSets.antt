@@ -84,5 +84,3 @@ bit_in-with_bit words k j h = here (k == j) refl
     here false t =
         let ne : j ≢ k = λ e. absurd (let bad : true ≡ false = sym (eq-eqb _ _ (sym e)) ∙ t in cc) in
         bit_in-other words k j h ne ∙ sym (or-false (bit_in words j))
-
--- ---- the bars of rows

@@ -13,6 +13,8 @@ bit_in words k = bit_at (slice_index words (k / 64)) (k % 64) == 1
 abbrev pub has_bar : BarSet → ℕ → ℕ → Bool
 has_bar set col session = bit_in set.words.items (col * set.sessions + session)
 
--- the set has the bars of the rows
-pub record AreBarsIn (set : BarSet) (rows : List BarRow) : Type 0 where
-  pub each : (c s : ℕ) → c < set.cols → s < set.sessions → has_bar set c s ≡ list_any (is_at c s) rows
+-- the set is of n columns and m sessions, and has the bars of the rows
+pub record AreBarsIn (set : BarSet) (n m : ℕ) (rows : List BarRow) : Type 0 where
+  pub cols : set.cols ≡ n
+  pub sessions : set.sessions ≡ m
+  pub each : (c s : ℕ) → c < n → s < m → has_bar set c s ≡ list_any (is_at c s) rows

@@ -62,7 +62,8 @@ placed_at f session col = record { col = col; session = session; cells = f.cells
 -- the bar of a record of an asset on a session
 abbrev pub bar_of : List ℤ → List AssetRow → Record → Option BarRow
 bar_of days assets r =
-    option_and_then (λ f. option_and_then (λ session. option_map (placed_at f session) (col_in assets f.sid)) (session_in days f.day)) (fields_in r)
+    option_and_then (λ f. option_and_then (λ session. option_map (placed_at f session) (col_in assets f.sid))
+    (session_in days f.day)) (fields_in r)
 
 -- the rules of a record after the header, in the order in which they are tested, and their tests
 abbrev pub rules : List Rule
@@ -75,7 +76,8 @@ breaks days assets before r BadField = lacks (fields_in r)
 breaks days assets before r NotSession = has (λ f. lacks (session_in days f.day)) (fields_in r)
 breaks days assets before r UnknownSid = has (λ f. lacks (col_in assets f.sid)) (fields_in r)
 breaks days assets before r Negative = has (λ f. list_any is_negative f.cells) (fields_in r)
-breaks days assets before r Duplicate = has (λ b. list_any (is_at b.col b.session) before) (bar_of days assets r)
+breaks days assets before r Duplicate =
+    has (λ b. list_any (is_at b.col b.session) before) (bar_of days assets r)
 
 -- the bar of a record after the bars before it, or the first rule that it breaks
 unfoldable pub bar_or_rule : List ℤ → List AssetRow → List BarRow → Record → Result BarRow Rule

@@ -50,7 +50,8 @@ Breaks days assets before r BadField = (f : Fields) → ¬ IsBarRecord r f
 Breaks days assets before r NotSession = (f : Fields) × IsBarRecord r f × ((session : ℕ) → ¬ (slice_get days session ≡ Some f.day))
 Breaks days assets before r UnknownSid = (f : Fields) × IsBarRecord r f × ((col : ℕ) → ¬ HasSid assets col f.sid)
 Breaks days assets before r Negative = (f : Fields) × IsBarRecord r f × Any IsNegative f.cells
-Breaks days assets before r Duplicate = (b : BarRow) × IsRowRecord days assets r b × Any (λ x. (x.col ≡ b.col) × (x.session ≡ b.session)) before
+Breaks days assets before r Duplicate =
+    (b : BarRow) × IsRowRecord days assets r b × Any (λ x. (x.col ≡ b.col) × (x.session ≡ b.session)) before
 
 -- the record is the next bar
 abbrev pub IsBar : List ℤ → List AssetRow → List BarRow → Record → BarRow → Type 0

@@ -24,9 +24,7 @@ impl BarSet {
     pub(crate) fn new(alloc: Global, cols: usize, sessions: usize) -> Result<BarSet, AllocError>
         requires cols { cols ≤ most_assets }
         requires sessions { sessions ≤ most_sessions }
-        ensures cols { IfOk result (λ set. set.cols ≡ cols) }
-        ensures sessions { IfOk result (λ set. set.sessions ≡ sessions) }
-        ensures none { IfOk result (λ set. AreBarsIn set []) }
+        ensures { IfOk result (λ set. AreBarsIn set cols sessions []) }
     {
         let words = vec![in alloc; 0; cols * sessions / 64 + 1]?;
         Ok(BarSet {

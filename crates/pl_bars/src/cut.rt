@@ -14,11 +14,8 @@ pub(crate) fn rows_before(
 ) -> Result<Vec<BarRow>, AllocError>
     ensures { IfOk result (λ v. v.items ≡ bars_before sessions rows.now) }
 {
-    let mut kept = Vec::new(alloc);
-    for row in rows {
-        if (row.session as usize) < sessions {
-            kept.push(*row)?;
-        }
-    }
-    Ok(kept)
+    rows.iter()
+        .copied()
+        .filter(|row| (row.session as usize) < sessions)
+        .collect(alloc)
 }

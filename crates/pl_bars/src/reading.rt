@@ -111,7 +111,6 @@ fn room_for(alloc: Global, bytes: &[u8]) -> Result<Vec<BarRow>, AllocError>
 }
 
 // The bars of the records after the header.
-#[tactic(auto, using(crate::proofs::BarOrder::rise_empty))]
 fn rows_behind(
     alloc: Global,
     mut rows: Vec<BarRow>,
@@ -125,13 +124,33 @@ fn rows_behind(
 {
     let dates = dates_of(alloc, sessions)?;
     let mut seen = BarSet::new(alloc, assets.len(), sessions.len())?;
+    let rise = put_rows(&mut rows, &dates, &mut seen, records, sessions, assets)?;
+    Ok(Unordered { rows, rise })
+}
+
+// Puts them where there are none yet, and into their set; whether they are seen to rise.
+#[tactic(auto, using(crate::proofs::BarOrder::rise_empty))]
+fn put_rows(
+    rows: &mut Vec<BarRow>,
+    dates: &[KnownDate],
+    seen: &mut BarSet,
+    records: &mut Records,
+    sessions: &Sessions,
+    assets: &Assets,
+) -> Result<bool, BarsError>
+    requires none { rows.old.items ≡ [] }
+    requires seen { AreBarsIn seen.old (length assets.now) (length sessions.now) [] }
+    ensures rises { IfOk result (λ rise. IsTrue rise → Rise rows.new.items) }
+    ensures exact { Answers (λ rise. rows.new.items) fault_of result
+        (rows_of 2 (bar_or_rule sessions.now assets.now) records.old.left) }
+{
     let mut rise = true;
     'rows: while records.next()? {
-        let bar = next_bar(&rows, &dates, &mut seen, records, sessions, assets)?;
-        rise = rise_on(rise, &rows, &bar);
+        let bar = next_bar(rows, dates, seen, records, sessions, assets)?;
+        rise = rise_on(rise, rows, &bar);
         rows.push(bar)?;
     }
-    Ok(Unordered { rows, rise })
+    Ok(rise)
 }
 
 // Whether bars that rise do so with one more after them.
@@ -167,13 +186,10 @@ fn next_bar(
     assets: &Assets,
 ) -> Result<BarRow, BarsError>
     requires few { length before.now ≤ most_bars }
-    requires cols { seen.old.cols ≡ length assets.now }
-    requires sessions { seen.old.sessions ≡ length sessions.now }
-    requires seen { AreBarsIn seen.old before.now }
+    requires seen { AreBarsIn seen.old (length assets.now) (length sessions.now) before.now }
     ensures room { OnOk result (length before.now < most_bars) }
-    ensures cols { seen.new.cols ≡ length assets.now }
-    ensures sessions { seen.new.sessions ≡ length sessions.now }
-    ensures seen { IfOk result (λ b. AreBarsIn seen.new (before.now ++ b ∷ [])) }
+    ensures seen { IfOk result (λ b.
+        AreBarsIn seen.new (length assets.now) (length sessions.now) (before.now ++ b ∷ [])) }
     ensures exact { Answers (λ b. b) fault_of result
         (at_line (2 + length before.now) (bar_or_rule sessions.now assets.now before.now row.now.fields)) }
 {
@@ -184,7 +200,7 @@ fn next_bar(
     let Some(fields) = fields_of(row, before, dates) else {
         return Err(BarsError::BadField { line });
     };
-    let Some(session) = session_of(before, sessions, fields.day) else {
+    let Some(session) = session_of(before, sessions, &fields) else {
         return Err(BarsError::NotSession { line });
     };
     let Some(col) = col_of(before, assets, fields.sid) else {

@@ -14,11 +14,11 @@ use Rattle.pl_calendar.specs.Rules.{IsDayRecord, IsSession, Breaks}
 
 -- ---- each test
 
-pub IsDayRecord-day_in : (r : Record) (day : ℤ) → day_in r ≡ Some day → IsDayRecord r day
-IsDayRecord-day_in r day e = let it = when_some (length r == 1) _ day e in (eqb-true (length r) 1 it.0, IsDate-date_in (field r 0) day it.1)
-
-day_in-IsDayRecord : (r : Record) (day : ℤ) → IsDayRecord r day → day_in r ≡ Some day
-day_in-IsDayRecord r day h = rw (eq-eqb (length r) 1 h.0) (date_in-IsDate (field r 0) day h.1)
+form : (r : Record) (day : ℤ) → (day_in r ≡ Some day) ↔ IsDayRecord r day
+form r day = (
+  λ e. (let it = when_some (length r == 1) _ day e in (eqb-true _ 1 it.0, IsDate-date_in (field r 0) day it.1)),
+  λ h. rw (eq-eqb (length r) 1 h.0) (date_in-IsDate (field r 0) day h.1),
+)
 
 -- the day is no later than the one before, where there is one
 late_tells : (before : List ℤ) (day : ℤ) → Decides (not (is_later before day)) ((last : ℤ) × (last_of before ≡ Some last) × (day ≤ℤ last))
@@ -30,9 +30,6 @@ late_tells before day = here (last_of before) refl
       λ t. (last, e, (let u : not (int_lt last day) ≡ true = t in grind (arith, ints))),
       λ h. (let one : Some h.0 ≡ Some last = sym h.1 ∙ e in let same : h.0 ≡ last = cc in let le : day ≤ℤ last = rw same at h.2 in grind (arith, ints)),
     )
-
-form : (r : Record) (day : ℤ) → (day_in r ≡ Some day) ↔ IsDayRecord r day
-form r day = (IsDayRecord-day_in r day, day_in-IsDayRecord r day)
 
 tells : (before : List ℤ) (r : Record) (q : Rule) → Decides (breaks before r q) (Breaks before r q)
 tells before r days.TooMany = (λ t. grind (arith, nat_tests), λ h. grind (arith, nat_tests))

@@ -20,13 +20,18 @@ use Rattle.pl_lifetimes.specs.Assets as rules
 use Rattle.pl_lifetimes.specs.Rules.{IsAssetRecord, IsAsset, Breaks, AreAssetsOf, IsAssetsFault}
 use Rattle.pl_lifetimes.proofs.AssetsRead.{IsAssetRecord-asset_in, OwnSids-read}
 
--- ---- the fields
+-- ---- the tests
 
-asset_in-IsAssetRecord : (r : Record) (a : AssetRow) → IsAssetRecord r a → asset_in r ≡ Some a
-asset_in-IsAssetRecord r a h =
-    rw (eq-eqb (length r) 3 h.three, sid_in-decimal (field r 0) a.sid h.small h.sid, date_in-IsDate (field r 1) a.start h.start, date_in-IsDate (field r 2) a.end h.end) refl
-
--- ---- the other tests
+form : (r : Record) (a : AssetRow) → (asset_in r ≡ Some a) ↔ IsAssetRecord r a
+form r a = (
+  IsAssetRecord-asset_in r a,
+  λ h. rw (
+    eq-eqb (length r) 3 h.three,
+    sid_in-decimal (field r 0) a.sid h.small h.sid,
+    date_in-IsDate (field r 1) a.start h.start,
+    date_in-IsDate (field r 2) a.end h.end,
+  ) refl,
+)
 
 late_tells : (a : AssetRow) → Decides (int_lt a.end a.start) (a.end <ℤ a.start)
 late_tells a = below a.end a.start
@@ -36,11 +41,6 @@ late_tells a = below a.end a.start
 
 sid_tells : (before : List AssetRow) (a : AssetRow) → Decides (list_any (λ x. sid_of x == a.sid) before) (Any (λ b. b.sid ≡ a.sid) before)
 sid_tells before a = any-tells (λ x. sid_of x == a.sid) (λ b. b.sid ≡ a.sid) (λ x. (eqb-true x.sid a.sid, eq-eqb x.sid a.sid)) before
-
--- ---- what is said
-
-form : (r : Record) (a : AssetRow) → (asset_in r ≡ Some a) ↔ IsAssetRecord r a
-form r a = (IsAssetRecord-asset_in r a, asset_in-IsAssetRecord r a)
 
 tells : (before : List AssetRow) (r : Record) (q : Rule) → Decides (breaks before r q) (Breaks before r q)
 tells before r rules.BadHeader = (λ t. absurd (let bad : false ≡ true = t in cc), λ h. absurd h)

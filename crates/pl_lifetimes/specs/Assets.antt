@@ -63,15 +63,18 @@ abbrev pub col_in : List AssetRow → ℕ → Option ℕ
 col_in assets sid = position (λ a. sid_of a == sid) assets
 
 -- the row of a record in the column of its asset
-abbrev pub placed : {Said Row : Type 0} → (Record → Option Said) → (Said → ℕ) → (Said → ℕ → Row) → List AssetRow → Record → Option Row
-placed said_in sid in_column assets r = option_and_then (λ x. option_map (in_column x) (col_in assets (sid x))) (said_in r)
+abbrev pub placed : {Said Row : Type 0} → (Record → Option Said) → (Said → ℕ) → (Said → ℕ → Row)
+    → List AssetRow → Record → Option Row
+placed said_in sid in_column assets r =
+    option_and_then (λ x. option_map (in_column x) (col_in assets (sid x))) (said_in r)
 
 -- the asset in the column has the sid
 abbrev pub HasSid : List AssetRow → ℕ → ℕ → Type 0
 HasSid assets col sid = option_map sid_of (slice_get assets col) ≡ Some sid
 
 -- the row is what the record says, in the column of its asset
-pub record IsPlaced {Said Row : Type 0} (IsRecord : Record → Said → Type 0) (sid : Said → ℕ) (in_column : Said → ℕ → Row) (assets : List AssetRow) (r : Record) (row : Row) : Type 0 where
+pub record IsPlaced {Said Row : Type 0} (IsRecord : Record → Said → Type 0) (sid : Said → ℕ)
+    (in_column : Said → ℕ → Row) (assets : List AssetRow) (r : Record) (row : Row) : Type 0 where
   pub said : Said
   pub written : IsRecord r said
   pub col : ℕ

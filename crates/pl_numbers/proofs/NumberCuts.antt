@@ -1,8 +1,7 @@
 -- Tables of no rows, and of those that were known by a day.
-use Rattle.std.proofs.Common.{◌≡◌, ◌+◌, ◌<◌, ℕ, ℤ, List, [], ◌∷◌, ◌++◌, length, take, get_or, sym, ap, ◌∙◌, arith}
+use Rattle.std.proofs.Common.{◌≡◌, ◌<◌, ℤ, [], sym, arith}
 use Rattle.std.specs.Int.RustNames.{int_le}
-use Rattle.std.proofs.lemmas.List.{take_more}
-use Rattle.std.proofs.lemmas.List.Elements.{All-filter, filter-append}
+use Rattle.std.proofs.lemmas.List.Elements.{All-filter}
 use Rattle.std.proofs.lemmas.List.Kept.{AllPairs-filter}
 use Rattle.std.proofs.lemmas.List.Sums.{length-filter, count_by-le-length}
 use Rattle.pl_spec.specs.AsOf.{column_numbers_by}
@@ -41,7 +40,3 @@ module _ (day : ℤ) (t new : NumberRows) (names : new.names ≡ t.names) (place
 
   pub rows_cut : shown_rows new ≡ column_numbers_by day (shown_rows t)
   rows_cut = rw (names, places) (sym (filter-map (λ (r : ColumnNumber). int_le r.known day) (row_at t.names) t.places.items))
-
--- with one more row
-pub kept_next : (day : ℤ) (places : List Place) (i : ℕ) (d : Place) → i < length places → places_by day (take (i + 1) places) ≡ places_by day (take i places) ++ places_by day (get_or places i d ∷ [])
-kept_next day places i d h = ap (places_by day) (take_more places i d h) ∙ filter-append (λ (p : Place). int_le p.known day) (take i places) (get_or places i d ∷ [])

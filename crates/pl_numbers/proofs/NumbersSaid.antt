@@ -1,6 +1,5 @@
 -- What a record says of its number, in plain words.
-use Rattle.std.proofs.Common.{◌≡◌, ◌↔◌, true, false, List, Some, Any, Ok, Err, refl, arith}
-use Rattle.std.specs.List.{list_any}
+use Rattle.std.proofs.Common.{◌≡◌, ◌↔◌, true, false, List, Some, Ok, Err, refl, arith}
 use Rattle.std.specs.Bool.{Decides}
 use Rattle.std.proofs.lemmas.Bool.Decides.{nat_tests}
 use Rattle.pl_records.specs.Reading.{Record, Fault, Judges}
@@ -11,19 +10,12 @@ use Rattle.pl_records.proofs.RuleTables.{lacks-tells, has-tells, Judges-table}
 use Rattle.pl_lifetimes.specs.Assets.{AreAssets}
 use Rattle.pl_lifetimes.proofs.SidColumns.{placed_form, unknown_tells}
 use Rattle.pl_spec.specs.Parts.{ColumnNumber}
-use Rattle.pl_numbers.specs.Numbers.{Rule, NumberTable, breaks, in_column, row_of, header, number_in, is_from, number_or_rule, number_rows_in, numbers_of, table_of}
+use Rattle.pl_numbers.specs.Numbers.{Rule, NumberTable, breaks, in_column, row_of, header, number_in, number_or_rule, number_rows_in, numbers_of, table_of}
 use Rattle.pl_numbers.specs.Numbers as rules
-use Rattle.pl_numbers.specs.NumberRules.{IsNumberRecord, IsRowRecord, CountWith, IsNumber, Breaks, AreNumbersOf, IsNumbersFault}
+use Rattle.pl_numbers.specs.NumberRules.{IsNumberRecord, IsRowRecord, IsNumber, Breaks, AreNumbersOf, IsNumbersFault}
 use Rattle.pl_numbers.proofs.NumberFields.{number_form}
 use Rattle.pl_assets.proofs.Dated.{clash-tells}
 use Rattle.pl_numbers.proofs.NumberKeys.{numbers}
-
--- ---- the rows before
-
-day_tells : (before : List ColumnNumber) (row : ColumnNumber) → Decides (list_any (is_from row.name row.col row.known) before) (Any (CountWith row) before)
-day_tells = clash-tells numbers
-
--- ---- what is said
 
 row_form : (assets : List AssetRow) → AreAssets assets → (r : Record) (row : ColumnNumber) → (row_of assets r ≡ Some row) ↔ IsRowRecord assets r row
 row_form = placed_form number_in IsNumberRecord (λ n. n.sid) in_column number_form
@@ -37,7 +29,8 @@ tells assets up before r rules.TooMany = (λ t. grind (arith, nat_tests), λ h. 
 tells assets up before r rules.BadField = lacks-tells number_in IsNumberRecord number_form r
 tells assets up before r rules.UnknownSid =
     has-tells number_in IsNumberRecord number_form _ _ (λ n. unknown_tells assets up n.sid) r
-tells assets up before r rules.Duplicate = has-tells (row_of assets) (IsRowRecord assets) (row_form assets up) _ _ (day_tells before) r
+tells assets up before r rules.Duplicate =
+    has-tells (row_of assets) (IsRowRecord assets) (row_form assets up) _ _ (clash-tells numbers before) r
 
 pub numbers_judged : (assets : List AssetRow) → AreAssets assets → Judges (IsNumber assets) (Told assets) (number_or_rule assets)
 unfolding number_or_rule

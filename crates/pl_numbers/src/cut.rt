@@ -1,5 +1,5 @@
 //! The rows that were known by a day.
-ghost use Rattle.std.specs.Prelude.{◌≡◌, ◌∷◌, ◌++◌, [], false, bytes_eq, AllPairs, IfOk, OnOk};
+ghost use Rattle.std.specs.Prelude.{◌≡◌, false, bytes_eq, AllPairs, IfOk};
 ghost use Rattle.pl_numbers.specs.NumberPlaces.{places_by};
 
 use crate::rows::{NumberRows, Place};
@@ -17,26 +17,14 @@ pub(crate) fn rows_by(alloc: Global, rows: &NumberRows, day: i32) -> Result<Numb
     Ok(NumberRows { names, places })
 }
 
-#[tactic(auto, using(crate::proofs::NumberCuts::kept_next))]
 fn places_by(alloc: Global, places: &[Place], day: i32) -> Result<Vec<Place>, AllocError>
     ensures { IfOk result (λ v. v.items ≡ places_by day places.now) }
 {
-    let mut kept = Vec::new(alloc);
-    for place in places {
-        put_known(&mut kept, *place, day)?;
-    }
-    Ok(kept)
-}
-
-// Puts a row after the others, if it was known by the day.
-fn put_known(kept: &mut Vec<Place>, place: Place, day: i32) -> Result<(), AllocError>
-    ensures { OnOk result (kept.new.items ≡ kept.old.items ++ places_by day (place ∷ [])) }
-{
-    if place.known <= day {
-        kept.push(place)?;
-        return Ok(());
-    }
-    Ok(())
+    places
+        .iter()
+        .copied()
+        .filter(|place| place.known <= day)
+        .collect(alloc)
 }
 
 // The same names with their numbers once more.

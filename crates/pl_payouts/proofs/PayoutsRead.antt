@@ -1,5 +1,5 @@
 -- Payouts that are read: what is kept of all rows, and what a file says, in plain words.
-use Rattle.std.proofs.Common.{◌≡◌, ◌↔◌, ◌≤◌, not, true, false, List, [], ◌∷◌, ◌++◌, Some, Ok, Err, ℤ, pos, ◌<ℤ◌, ◌≤ℤ◌, arith, inr}
+use Rattle.std.proofs.Common.{◌≡◌, ◌↔◌, not, true, false, List, [], ◌∷◌, ◌++◌, Some, Ok, Err, ℤ, pos, ◌<ℤ◌, ◌≤ℤ◌, arith, inr}
 use Rattle.std.specs.Int.RustNames.{int_lt}
 use Rattle.std.specs.Bool.{Decides}
 use Rattle.std.specs.Option.{ok_or}
@@ -77,10 +77,9 @@ kept-more assets up before r d h s =
       All-push (λ (x : Dividend). IsKnown assets x.sid) before d h.1 (sid_known assets up d.sid (rw at at k.0.1.1.0)),
     )
 
-kept-none : (assets : List AssetRow) → Kept assets []
-kept-none assets = (record { few = omega arith; paid = λ k d h. absurd (omega arith) }, λ k d h. absurd (omega arith))
-
 pub Kept-read : (assets : List AssetRow) → AreAssets assets → (records : List Record) (rows : List Dividend) → payouts_of assets records ≡ Ok rows → Kept assets rows
 unfolding payouts_of
 Kept-read assets up records rows e =
-    rows-keep (Kept assets) 2 (dividend_or_rule assets) (kept-more assets up) _ [] rows (kept-none assets) (under_ok header rules.BadHeader (dividend_or_rule assets) records rows e).1
+    rows-keep (Kept assets) 2 (dividend_or_rule assets) (kept-more assets up) _ [] rows
+    (record { few = omega arith; paid = λ k d h. absurd (omega arith) }, λ k d h. absurd (omega arith))
+    (under_ok header rules.BadHeader (dividend_or_rule assets) records rows e).1

@@ -1,5 +1,5 @@
 -- Rows that are read are those of the records, and the fault is the first.
-use Rattle.std.proofs.Common.{◌≡◌, ◌≢◌, Bool, true, false, bytes_eq, ℕ, zero, suc, ◌+◌, ◌<◌, ◌≤◌, ◌↔◌, nat_le, List, [], ◌∷◌, ◌++◌, length, take, drop, Option, Some, None, IfSome, Result, Ok, Err, refl, sym, ◌∙◌, ap, arith, append_assoc, length-append, inl, inr, add-one}
+use Rattle.std.proofs.Common.{◌≡◌, ◌≢◌, Bool, true, false, bytes_eq, ℕ, zero, suc, ◌+◌, ◌<◌, ◌≤◌, ◌↔◌, nat_le, List, [], ◌∷◌, ◌++◌, length, take, drop, Option, Some, IfSome, Result, Ok, Err, IsErrAnd, refl, sym, ◌∙◌, ap, arith, append_assoc, length-append, inl, inr, add-one}
 use Rattle.std.specs.List.{slice_get}
 use Rattle.std.specs.Bool.{Decides, if◌then◌else◌}
 use Rattle.std.proofs.lemmas.Slice.Eq.{bytes_eq-Decides}
@@ -7,10 +7,13 @@ use lib.Pointwise.{pointwise, pointwise_decides}
 use Rattle.std.proofs.lemmas.Bool.{cases_lt}
 use Rattle.std.proofs.lemmas.Bool.Decides.{nat_tests}
 use Rattle.std.proofs.lemmas.List.{take-append-le, append-nil, take_all}
-use Rattle.std.proofs.lemmas.Option.{slice_get_within}
+use Rattle.std.proofs.lemmas.Option.{IfSome_then, slice_get_within}
+use Rattle.std.proofs.lemmas.Result.{err_from_is_err_and}
 use Rattle.std.proofs.Math.Seq.{take-append_seam}
 use Rattle.pl_records.proofs.RuleTables.{not_true}
-use Rattle.pl_records.specs.Reading.{rows_under, has_header, Record, field, Fault, ◌>>=◌, at_line, rows_behind, rows_of, AreRows, IsFirstFault, Judges, AreRowsUnder, IsMadeUnder, IsFaultUnder}
+use Rattle.pl_records.specs.Records.{GivesNext}
+use Rattle.pl_records.specs.View.{RecordsView}
+use Rattle.pl_records.specs.Reading.{rows_under, has_header, Record, field, Fault, ◌>>=◌, at_line, rows_behind, rows_of, Answers, AreRows, IsFirstFault, Judges, AreRowsUnder, IsMadeUnder, IsFaultUnder}
 
 pub rows-stop : {Row R : Type 0} (first : ℕ) (says : List Row → Record → Result Row R) (before : List Row) (r : Record) (rs : List Record) (rule : R)
     → says before r ≡ Err rule → rows_behind first says before (r ∷ rs) ≡ Err (record { rule = rule; line = first + length before })
@@ -229,27 +232,51 @@ same_record-true r names n h = sym ((same_record r names).1 (record_from_fields 
 pub same_record-false : (r names : Record) → (r ≡ names → ⊥) → false ≡ pointwise bytes_eq r names
 same_record-false r names h = sym (not_true _ (λ e. h ((same_record r names).0 e)))
 
--- ---- for a loop that reads a record at a time: all is the reading of all records
+-- ---- for a loop that reads a record at a time
 
-pub goes_on : {Row R : Type 0} (first : ℕ) (says : List Row → Record → Result Row R) (before : List Row) (left rs : List Record) (r : Record) (row : Row) (all : Result (List Row) (Fault R))
-    → left ≡ r ∷ rs → at_line (first + length before) (says before r) ≡ Ok row → rows_behind first says before left ≡ all → rows_behind first says (before ++ row ∷ []) rs ≡ all
-unfolding rows_behind
-goes_on {Row} {R} first says before left rs r row all e was so_far =
-    let one : rows_behind first says before (r ∷ rs) ≡ rows_behind first says (before ++ row ∷ []) rs = rw was refl in
-    sym one ∙ ap (rows_behind first says before) (sym e) ∙ so_far
+-- these rows, which are few, are of the records so far: with them what is left gives what all records give
+pub record AreReadSoFar {Row R : Type 0} (first most : ℕ) (says : List Row → Record → Result Row R)
+    (all : List Record) (records : RecordsView) (rows : List Row) : Type 0 where
+  pub same : rows_behind first says rows records.left ≡ rows_of first says all
+  pub few : length rows ≤ most
 
-pub stops : {Row R : Type 0} (first : ℕ) (says : List Row → Record → Result Row R) (before : List Row) (left rs : List Record) (r : Record) (o : Option (Fault R)) (all : Result (List Row) (Fault R))
-    → left ≡ r ∷ rs → IfSome o (λ f. at_line (first + length before) (says before r) ≡ Err f) → rows_behind first says before left ≡ all → IfSome o (λ f. all ≡ Err f)
-unfolding rows_behind
-stops {Row} {R} first says before left rs r None all e was so_far = tt
-stops {Row} {R} first says before left rs r (Some f) all e was so_far =
-    let one : rows_behind first says before (r ∷ rs) ≡ Err f = rw was refl in
-    sym so_far ∙ ap (rows_behind first says before) e ∙ one
+module _ {Row R : Type 0} {first most : ℕ} {says : List Row → Record → Result Row R} where
+  pub none_read : {records : RecordsView} {rows : List Row} → rows ≡ []
+      → AreReadSoFar first most says records.left records rows
+  none_read e = rw e (record { same = refl; few = omega arith })
 
-pub is_done : {Row R : Type 0} (first : ℕ) (says : List Row → Record → Result Row R) (before : List Row) (left : List Record) (all : Result (List Row) (Fault R))
-    → left ≡ [] → rows_behind first says before left ≡ all → all ≡ Ok before
-unfolding rows_behind
-is_done first says before left all e so_far = sym so_far ∙ ap (rows_behind first says before) e
+  pub goes_on : {all : List Record} {old new : RecordsView} {found : Bool} {before rows : List Row}
+      {row : Row} → AreReadSoFar first most says all old before → GivesNext old new found → found ≡ true
+      → length before < most → at_line (first + length before) (says before new.fields) ≡ Ok row
+      → rows ≡ before ++ row ∷ [] → AreReadSoFar first most says all new rows
+  unfolding rows_behind
+  goes_on {all} {old} {new} {found} {before} {rows} {row} so_far next there room was more =
+      let left : old.left ≡ new.fields ∷ new.left = rw there at next in
+      let one : rows_behind first says before (new.fields ∷ new.left)
+      ≡ rows_behind first says (before ++ row ∷ []) new.left = rw was refl in
+      rw more (record {
+        same = sym one ∙ ap (rows_behind first says before) (sym left) ∙ so_far.same;
+        few = omega (arith, length-append before (row ∷ []));
+      })
+
+  module _ {all : List Record} {old : RecordsView} {found : Bool} {before : List Row} (new : RecordsView)
+      (so_far : AreReadSoFar first most says all old before) (next : GivesNext old new found) where
+    pub stops : found ≡ true → {X E : Type 0} (view : X → List Row) (fault_of : E → Option (Fault R))
+        (result : Result X E) (error : E) → IsErrAnd result (λ e. e ≡ error)
+        → IfSome (fault_of error) (λ f. at_line (first + length before) (says before new.fields) ≡ Err f)
+        → Answers view fault_of result (rows_of first says all)
+    unfolding rows_behind
+    stops there view fault_of result error is was =
+        let left : old.left ≡ new.fields ∷ new.left = rw there at next in
+        let err = err_from_is_err_and result is in
+        rw (err.1, err.2) (IfSome_then (fault_of error) was (λ f told.
+        sym so_far.same ∙ ap (rows_behind first says before) left ∙ rw told refl))
+
+    pub is_done : found ≡ false → rows_of first says all ≡ Ok before
+    unfolding rows_behind
+    is_done none =
+        let left = rw none at next in
+        sym so_far.same ∙ ap (rows_behind first says before) left.0
 
 -- ---- what is known of rows that are read under a header
 

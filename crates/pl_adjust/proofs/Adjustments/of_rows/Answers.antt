@@ -1,24 +1,21 @@
-use Rattle.pl_adjust.proofs.Kept.{cols_rise}
-use Rattle.pl_adjust.proofs.Made.{kept_from, view_is}
+use Rattle.std.proofs.Common.{◌∙◌, ap, map, subst, sym}
+use Rattle.std.proofs.lemmas.List.Sorted.{All-permutation}
+use Rattle.std.proofs.lemmas.Result.{IfOk-weaker}
+use Rattle.pl_adjust.specs.Columns.{IsByPlace}
+use Rattle.pl_adjust.specs.Rows.{row_of}
+use Rattle.pl_adjust.proofs.Made.{Puts}
 use Rattle.pl_adjust.proofs.Adjustments.of_rows.Goals as goal
 
-pub invariant_of-result : goal.invariant_of-result
-invariant_of-result c =
-    let cols = rw c.deref.ensures.value at c.in_ok-cols.ensures in
-    let adjusts = rw c.deref-2.ensures.value at c.in_ok-adjusts.ensures in (
-      kept_from _ c.in_ok-sorted.sorted.items c.in_ok-cols.cols.items c.in_ok-adjusts.adjusts.items c.requires c.in_ok-sorted.ensures cols adjusts,
-      rw c.deref-3.ensures.value at c.in_ok-starts.ensures,
-    )
+pub of_sorted-requires-clause-sorted : goal.of_sorted-requires-clause-sorted
+of_sorted-requires-clause-sorted c = rw c.deref.ensures.value c.in_ok-sorted.ensures.sorted
 
-pub starts_of-requires : goal.starts_of-requires
-starts_of-requires c =
-    let cols = rw c.deref.ensures.value at c.in_ok-cols.ensures in
-    let adjusts = rw c.deref-2.ensures.value at c.in_ok-adjusts.ensures in
-    rw c.deref-3.ensures.value (cols_rise _ _ (kept_from _ c.in_ok-sorted.sorted.items c.in_ok-cols.cols.items c.in_ok-adjusts.adjusts.items c.requires c.in_ok-sorted.ensures cols adjusts))
+pub of_sorted-requires-clause-cells : goal.of_sorted-requires-clause-cells
+of_sorted-requires-clause-cells c =
+    rw c.deref.ensures.value (All-permutation Puts _ _ c.in_ok-sorted.ensures.same c.requires)
 
 pub returns : goal.returns
 returns c =
-    let cols = rw c.deref.ensures.value at c.in_ok-cols.ensures in
-    let adjusts = rw c.deref-2.ensures.value at c.in_ok-adjusts.ensures in
-    let view = view_is c.in_ok-sorted.sorted.items c.in_ok-cols.cols.items c.in_ok-adjusts.adjusts.items cols adjusts in
-    rw view c.in_ok-sorted.ensures
+    let same = ap (map row_of) c.deref.ensures.value in
+    let rows = map row_of c.args.rows.items in
+    IfOk-weaker c.of_sorted.result _ _ (λ m e. subst (IsByPlace rows) (sym (e ∙ same)) c.in_ok-sorted.ensures)
+    c.of_sorted.ensures

@@ -14,6 +14,3 @@ loop-col-preserved c =
       long = omega (arith, longer, c.loop-col.invariant.long);
       starts = one_start_more c.args.cols.now starts n c.loop-col.col c.loop-col.invariant.long c.loop-col.invariant.starts c.first_from.ensures;
     })
-
-pub returns : goal.returns
-returns c = c.loop-col.invariant.starts

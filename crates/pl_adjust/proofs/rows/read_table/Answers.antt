@@ -1,15 +1,14 @@
 use Rattle.std.proofs.Common.{◌∙◌, sym, get_or}
-use Rattle.std.proofs.lemmas.Result.{err_from_is_err_and}
-use Rattle.pl_adjust.specs.Faults.{fault_of}
 use Rattle.pl_adjust.specs.Walk.{kind_of}
-use Rattle.pl_adjust.proofs.Walks.{blank, fault_more, fault_told, fault_ends, row_known, row_unknown, row_parts}
+use Rattle.pl_adjust.proofs.Walks.{blank, fault_more, fault_stops, fault_ends, row_known, row_unknown, row_parts, tells_then}
 use Rattle.pl_adjust.proofs.rows.read_table.Goals as goal
 use Rattle.pl_adjust.proofs.rows.read_table.Goals.{in-Some+in_ok-push, in_default}
 
 pub returns-in_err-adjust-clause-fault : goal.returns-in_err-adjust-clause-fault
 returns-in_err-adjust-clause-fault c =
-    let p = err_from_is_err_and c.from_residual.result c.from_residual.ensures.1 in
-    rw (p.1, p.2) (fault_told c.args.before c.loop-i.i c.args.table c.args.raw.now blank (fault_of c.in_err-adjust.field-0.0) c.loop-i-test.true c.in_err-adjust.ensures.fault c.loop-i.invariant.fault)
+    tells_then _ _ c.from_residual.ensures.1 c.in_err-adjust.ensures.fault (λ f told.
+    sym c.loop-i.invariant.fault
+    ∙ fault_stops c.args.before c.loop-i.i c.args.table c.args.raw.now blank f c.loop-i-test.true told)
 
 pub loop-i-preserved : goal.loop-i-preserved
 loop-i-preserved c =

@@ -1,22 +1,25 @@
-use Rattle.std.proofs.lemmas.Result.{err_from_is_err_and}
-use Rattle.pl_adjust.specs.Faults.{fault_of}
-use Rattle.pl_adjust.proofs.Walks.{told_first, told_second, told_third, told_none}
+use Rattle.std.proofs.Common.{refl, ◌∙◌}
+use Rattle.pl_adjust.proofs.Walks.{tells_then, walk-faults}
 use Rattle.pl_adjust.proofs.rows.rows_of.Goals as goal
 
 pub returns-in_err-read_table-clause-fault : goal.returns-in_err-read_table-clause-fault
 returns-in_err-read_table-clause-fault c =
-    let p = err_from_is_err_and c.from_residual.result c.from_residual.ensures.1 in
-    rw (p.1, p.2) (told_first c.args.splits.now c.args.mergers.now c.args.dividends.now (fault_of c.in_err-read_table.field-0.0) c.in_err-read_table.ensures.fault)
+    let all = walk-faults c.args.splits.now c.args.mergers.now c.args.dividends.now in
+    tells_then _ _ c.from_residual.ensures.1 c.in_err-read_table.ensures.fault (λ f told. all ∙ rw told refl)
 
 pub returns-in_err-read_table-2-clause-fault : goal.returns-in_err-read_table-2-clause-fault
 returns-in_err-read_table-2-clause-fault c =
-    let p = err_from_is_err_and c.from_residual-in_err-read_table-2.result c.from_residual-in_err-read_table-2.ensures.1 in
-    rw (p.1, p.2) (told_second c.args.splits.now c.args.mergers.now c.args.dividends.now (fault_of c.in_err-read_table-2.field-0.0) c.in_ok-read_table.ensures.fault c.in_err-read_table-2.ensures.fault)
+    let all = walk-faults c.args.splits.now c.args.mergers.now c.args.dividends.now in
+    tells_then _ _ c.from_residual-in_err-read_table-2.ensures.1 c.in_err-read_table-2.ensures.fault
+    (λ f told. all ∙ rw (c.in_ok-read_table.ensures.fault, told) refl)
 
 pub returns-in_err-read_table-3-clause-fault : goal.returns-in_err-read_table-3-clause-fault
 returns-in_err-read_table-3-clause-fault c =
-    let p = err_from_is_err_and c.from_residual-in_err-read_table-3.result c.from_residual-in_err-read_table-3.ensures.1 in
-    rw (p.1, p.2) (told_third c.args.splits.now c.args.mergers.now c.args.dividends.now (fault_of c.in_err-read_table-3.field-0.0) c.in_ok-read_table.ensures.fault c.in_ok-read_table-2.ensures.fault c.in_err-read_table-3.ensures.fault)
+    let all = walk-faults c.args.splits.now c.args.mergers.now c.args.dividends.now in
+    tells_then _ _ c.from_residual-in_err-read_table-3.ensures.1 c.in_err-read_table-3.ensures.fault
+    (λ f told. all ∙ rw (c.in_ok-read_table.ensures.fault, c.in_ok-read_table-2.ensures.fault, told) refl)
 
 pub returns-clause-fault : goal.returns-clause-fault
-returns-clause-fault c = told_none c.args.splits.now c.args.mergers.now c.args.dividends.now c.in_ok-read_table.ensures.fault c.in_ok-read_table-2.ensures.fault c.in_ok-read_table-3.ensures.fault
+returns-clause-fault c =
+    walk-faults c.args.splits.now c.args.mergers.now c.args.dividends.now
+    ∙ rw (c.in_ok-read_table.ensures.fault, c.in_ok-read_table-2.ensures.fault, c.in_ok-read_table-3.ensures.fault) refl

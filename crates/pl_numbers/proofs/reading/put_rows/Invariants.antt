@@ -1,5 +1,5 @@
-use Rattle.std.proofs.Common.{◌≡◌, ◌≤◌, length}
-use Rattle.pl_records.specs.Reading.{rows_of, rows_behind}
+use Rattle.std.proofs.Common.{length}
+use Rattle.pl_records.proofs.Readings.{AreReadSoFar}
 use Rattle.pl_spec.specs.Limits.{most_numbers}
 use Rattle.pl_numbers.specs.Numbers.{number_or_rule}
 use Rattle.pl_numbers.specs.NumberPlaces.{AreNumbered, AreSeen, shown_rows}
@@ -7,8 +7,8 @@ use Rattle.pl_numbers.proofs.reading.put_rows.Given as goal
 
 abbrev pub invariant-rows : goal.invariant-rows
 invariant-rows l = record {
-  rest : rows_behind 2 (number_or_rule l.assets) (shown_rows l.rows) l.records.left ≡ rows_of 2 (number_or_rule l.assets) l.fn.records.left;
-  few : length (shown_rows l.rows) ≤ most_numbers;
+  read : AreReadSoFar 2 most_numbers (number_or_rule l.assets) l.fn.records.left l.records
+      (shown_rows l.rows);
   numbered : AreNumbered l.rows;
   seen : AreSeen l.seen.keys l.rows.places.items;
 }

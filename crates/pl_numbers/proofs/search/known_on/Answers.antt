@@ -8,9 +8,6 @@ use Rattle.pl_numbers.proofs.search.known_on.Goals as goal
 pub point_of-end-requires : goal.point_of-end-requires
 point_of-end-requires c = rw c.deref.ensures.value c.requires.table.rise
 
-pub newest_before-newest-requires-clause-within : goal.newest_before-newest-requires-clause-within
-newest_before-newest-requires-clause-within c = rw c.deref.ensures.value at c.point_of-end.ensures.within
-
 pub returns-in-Some-clause-exact : goal.returns-in-Some-clause-exact
 returns-in-Some-clause-exact c =
     let its_key : c.key.result ≡ key c.args.name c.args.col c.args.day = c.key.ensures ∙ ap (key c.args.name c.args.col) (to_z-of_z w32 c.args.day c.ranges.day) in

@@ -6,9 +6,6 @@ use Rattle.pl_numbers.proofs.search.number_on.Goals as goal
 pub point_of-end-requires : goal.point_of-end-requires
 point_of-end-requires c = rw c.deref.ensures.value c.requires.table.rise
 
-pub value_before-requires-clause-within : goal.value_before-requires-clause-within
-value_before-requires-clause-within c = rw c.deref.ensures.value at c.point_of-end.ensures.within
-
 pub returns-clause-value : goal.returns-clause-value
 returns-clause-value c =
     let its_key : c.key.result ≡ key c.args.name c.args.col c.args.day = c.key.ensures ∙ ap (key c.args.name c.args.col) (to_z-of_z w32 c.args.day c.ranges.day) in

@@ -1,13 +1,12 @@
-use Rattle.std.proofs.Common.{◌≡◌, ◌≤◌, length}
-use Rattle.pl_records.specs.Reading.{rows_of, rows_behind}
+use Rattle.std.proofs.Common.{length}
+use Rattle.pl_records.proofs.Readings.{AreReadSoFar}
 use Rattle.pl_spec.specs.Limits.{most_numbers}
 use Rattle.pl_numbers.specs.NumberPlaces.{AreNumbered, shown_rows, states}
 use Rattle.pl_numbers.proofs.stated.put_stated.Given as goal
 
 abbrev pub invariant-rows : goal.invariant-rows
 invariant-rows l = record {
-  rest : rows_behind 2 (states l.assets) (shown_rows l.rows) l.records.left ≡ rows_of 2 (states l.assets) l.fn.records.left;
-  few : length (shown_rows l.rows) ≤ most_numbers;
+  read : AreReadSoFar 2 most_numbers (states l.assets) l.fn.records.left l.records (shown_rows l.rows);
   numbered : AreNumbered l.rows;
 }
 

@@ -1,6 +1,6 @@
-use Rattle.std.proofs.Common.{◌≡◌, ◌≤◌, length}
-use Rattle.pl_records.specs.Reading.{rows_of, rows_behind}
+use Rattle.std.proofs.Common.{◌≡◌, length}
 use Rattle.pl_records.specs.Sorted.{AreKeys}
+use Rattle.pl_records.proofs.Readings.{AreReadSoFar}
 use Rattle.pl_spec.specs.Limits.{most_labels}
 use Rattle.pl_assets.specs.Labels.{label_or_rule, texts_of}
 use Rattle.pl_assets.specs.LabelPlaces.{AreNumbered, key_of, shown_rows}
@@ -8,8 +8,7 @@ use Rattle.pl_assets.proofs.labels.reading.put_rows.Given as goal
 
 abbrev pub invariant-rows : goal.invariant-rows
 invariant-rows l = record {
-  rest : rows_behind 2 (label_or_rule l.assets) (shown_rows l.rows) l.records.left ≡ rows_of 2 (label_or_rule l.assets) l.fn.records.left;
-  few : length (shown_rows l.rows) ≤ most_labels;
+  read : AreReadSoFar 2 most_labels (label_or_rule l.assets) l.fn.records.left l.records (shown_rows l.rows);
   numbered : AreNumbered l.rows;
   texts : l.rows.texts ≡ texts_of (shown_rows l.rows);
   keys : AreKeys key_of l.keys l.rows.places.items;

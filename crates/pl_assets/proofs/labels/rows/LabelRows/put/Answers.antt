@@ -10,9 +10,6 @@ overflow_cast-number c =
     let small : c.in_ok-number.field-0 < 2 ^ 32 = omega (arith, c.in_ok-number.ensures.number, place_count c.args.self.now.names c.args.name.now, few_names c.args.self.now c.requires.numbered, c.requires.few) in
     search rules
 
-pub code_of-requires : goal.code_of-requires
-code_of-requires c = c.requires.numbered.texts.few
-
 pub returns-in_err-push-clause-front : goal.returns-in_err-push-clause-front
 returns-in_err-push-clause-front c =
     front_kept _ c.args.self.now record { names = c.insert.new.self; texts = c.code_of.new.texts; places = c.push.new.self } c.args.name.now c.args.text.now
