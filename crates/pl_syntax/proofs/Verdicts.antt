@@ -148,8 +148,8 @@ told_next : (r : Place) (t : Token) (ts : List Lexeme) → g.version_told (mark 
 unfolding g.version_told
 told_next r t ts = refl
 
-pub on_token : (bytes bs rest : List ℕ) (p q r : Place) (t : Token) (n k v u : ℕ) (s x : g.Stage) → Goes bytes p bs n v s → Begins p bs r t q rest → token_step n (mark r t) s ≡ Ok x → k ≡ counted n (mark r t) → u ≡ g.version_or v (g.token_version t) → Goes bytes q rest k u x
-on_token bytes bs rest p q r t n k v u s x goes b e size version ts tail y =
+pub on_token : {bytes bs rest : List ℕ} {p q r : Place} {t : Token} {n k v u : ℕ} {s x : g.Stage} → Goes bytes p bs n v s → Begins p bs r t q rest → token_step n (mark r t) s ≡ Ok x → k ≡ counted n (mark r t) → u ≡ g.version_or v (g.token_version t) → Goes bytes q rest k u x
+on_token {r = r} {t = t} {n = n} {v = v} {s = s} {x = x} goes b e size version ts tail y =
     let c = goes (mark r t ∷ ts) tail (b.reads ts tail y) in
     record {
       tokens = c.tokens;
@@ -158,8 +158,8 @@ on_token bytes bs rest p q r t n k v u s x goes b e size version ts tail y =
       told = c.told ∙ (ap (g.version_or v) (told_next r t ts) ∙ (or_or v (g.token_version t) (g.version_told ts) ∙ ap (λ m. g.version_or m (g.version_told ts)) (sym version)));
     }
 
-pub at_step_fault : (bytes bs rest : List ℕ) (p q r : Place) (t : Token) (n k v u : ℕ) (s : g.Stage) (e : SyntaxError) → Goes bytes p bs n v s → Begins p bs r t q rest → Steps (Err e) (token_step n (mark r t) s) k u r → Outcome bytes (Err e)
-at_step_fault bytes bs rest p q r t n k v u s e goes b h =
+pub at_step_fault : {bytes bs rest : List ℕ} {p q r : Place} {t : Token} {n v : ℕ} {s : g.Stage} {e : SyntaxError} → (k u : ℕ) → Goes bytes p bs n v s → Begins p bs r t q rest → Steps (Err e) (token_step n (mark r t) s) k u r → Outcome bytes (Err e)
+at_step_fault {rest = rest} {q = q} {r = r} {t = t} {n = n} {s = s} {e = e} k u goes b h =
     let y = is_read q rest in
     let c = goes (mark r t ∷ y.tokens) y.tail (b.reads y.tokens y.tail y.reads) in
     record { tokens = c.tokens; tail = y.tail; reads = c.reads; gives = of_error e c.tokens y.tokens y.tail (c.same ∙ verdict_step n s (mark r t) y.tokens y.tail) h; version = tt }
@@ -176,18 +176,18 @@ at_step_fault bytes bs rest p q r t n k v u s e goes b h =
     of_error TooLong us ts tail v h = absurd h
     of_error Memory us ts tail v h = tt
 
-pub at_bad : (bytes bs : List ℕ) (p r : Place) (n v : ℕ) (s : g.Stage) → Goes bytes p bs n v s → Read p bs [] (AtBad r) → Outcome bytes (Err (BadByte r))
+pub at_bad : {bytes bs : List ℕ} {p r : Place} {n v : ℕ} {s : g.Stage} → Goes bytes p bs n v s → Read p bs [] (AtBad r) → Outcome bytes (Err (BadByte r))
 unfolding verdict
-at_bad bytes bs p r n v s goes x = let c = goes [] (AtBad r) x in record { tokens = c.tokens; tail = AtBad r; reads = c.reads; gives = c.same; version = tt }
+at_bad {r = r} goes x = let c = goes [] (AtBad r) x in record { tokens = c.tokens; tail = AtBad r; reads = c.reads; gives = c.same; version = tt }
 
 pub or_nothing : (v : ℕ) → g.version_or v (g.version_told []) ≡ v
 unfolding g.version_told
 or_nothing zero = refl
 or_nothing (suc v) = let some : (suc v == 0) ≡ false = grind (arith, nat_tests) in rw some refl
 
-pub at_end : (bytes bs : List ℕ) (p q : Place) (n v : ℕ) (s : g.Stage) (r : Result Script SyntaxError) → Goes bytes p bs n v s → Read p bs [] (AtEnd q) → Ends r (g.script_finish s) q → HasVersion r v → Outcome bytes r
+pub at_end : {bytes bs : List ℕ} {p q : Place} {n v : ℕ} {s : g.Stage} {r : Result Script SyntaxError} → Goes bytes p bs n v s → Read p bs [] (AtEnd q) → Ends r (g.script_finish s) q → HasVersion r v → Outcome bytes r
 unfolding verdict
-at_end bytes bs p q n v s r goes x h version =
+at_end {q = q} {v = v} {s = s} {r = r} goes x h version =
     let c = goes [] (AtEnd q) x in
     record { tokens = c.tokens; tail = AtEnd q; reads = c.reads; gives = of_result r c.tokens c.same h; version = subst (HasVersion r) (sym (c.told ∙ or_nothing v)) version }
   where
@@ -196,26 +196,26 @@ at_end bytes bs p q n v s r goes x h version =
     of_result (Err (Unexpected p)) us v h = v ∙ (ap (λ o. finish_verdict o q) h.0 ∙ ap (Fault f.Unexpected) (sym h.1))
     of_result (Err e) us v h = absurd h
 
-pub out_of_memory : (bytes : List ℕ) (r : Result Script SyntaxError) → r ≡ Err Memory → Outcome bytes r
-out_of_memory bytes r e = let y = is_read start bytes in subst (λ z. Outcome bytes z) (sym e) (record { tokens = y.tokens; tail = y.tail; reads = y.reads; gives = tt; version = tt })
+pub out_of_memory : (bytes : List ℕ) → Outcome bytes (Err Memory)
+out_of_memory bytes = let y = is_read start bytes in record { tokens = y.tokens; tail = y.tail; reads = y.reads; gives = tt; version = tt }
 
 -- what ends is a script
-ends_spelled : (bytes bs : List ℕ) (p q : Place) (n v : ℕ) (s : g.Stage) → (c : Continues bytes [] (AtEnd q) n v s) → (ss : List g.Statement) → g.script_finish s ≡ Some ss → Spelled c.tokens (AtEnd q) ss
+ends_spelled : {bytes : List ℕ} {q : Place} {n v : ℕ} {s : g.Stage} → (c : Continues bytes [] (AtEnd q) n v s) → {ss : List g.Statement} → g.script_finish s ≡ Some ss → Spelled c.tokens (AtEnd q) ss
 unfolding verdict
-ends_spelled bytes bs p q n v s c ss e =
+ends_spelled {q = q} c {ss = ss} e =
     let good : verdict 0 g.Opening c.tokens (AtEnd q) ≡ Good ss = c.same ∙ ap (λ o. finish_verdict o q) e in
     subst (λ v. Right v c.tokens (AtEnd q)) good (right_of c.tokens (AtEnd q))
 
 -- it is sound
-pub end_sound : (bytes bs : List ℕ) (p q : Place) (n v : ℕ) (s : g.Stage) → Goes bytes p bs n v s → Read p bs [] (AtEnd q) → (ss : List g.Statement) → g.script_finish s ≡ Some ss → are_sound is_written ss ≡ true
-end_sound bytes bs p q n v s goes x ss e =
+pub end_sound : {bytes bs : List ℕ} {p q : Place} {n v : ℕ} {s : g.Stage} → Goes bytes p bs n v s → Read p bs [] (AtEnd q) → (ss : List g.Statement) → g.script_finish s ≡ Some ss → are_sound is_written ss ≡ true
+end_sound {q = q} goes x ss e =
     let c = goes [] (AtEnd q) x in
-    let y = ends_spelled bytes bs p q n v s c ss e in
+    let y = ends_spelled c e in
     script_sound is_written y.derives y.short (read_written c.reads)
 
 -- and of a version of the language
-pub end_known : (bytes bs : List ℕ) (p q : Place) (n v : ℕ) (s : g.Stage) → Goes bytes p bs n v s → Read p bs [] (AtEnd q) → (ss : List g.Statement) → g.script_finish s ≡ Some ss → g.is_known v ≡ true
-end_known bytes bs p q n v s goes x ss e =
+pub end_known : {bytes bs : List ℕ} {p q : Place} {n v : ℕ} {s : g.Stage} → Goes bytes p bs n v s → Read p bs [] (AtEnd q) → (ss : List g.Statement) → g.script_finish s ≡ Some ss → g.is_known v ≡ true
+end_known {q = q} {v = v} goes x ss e =
     let c = goes [] (AtEnd q) x in
-    let y = ends_spelled bytes bs p q n v s c ss e in
+    let y = ends_spelled c e in
     ap g.is_known (sym (c.told ∙ or_nothing v)) ∙ script_known y.derives
