@@ -1,5 +1,5 @@
 -- The verdict over a text, token by token, and what it says of the bytes.
-use Rattle.std.proofs.Common.{◌≡◌, ℕ, zero, suc, ◌==◌, Bool, true, false, cond, leb, List, [], ◌∷◌, Some, Result, Ok, Err, refl, sym, ap, ap₂, subst, ◌∙◌, IfOk, IfErr, arith}
+use Rattle.std.proofs.Common.{◌≡◌, ℕ, zero, suc, ◌==◌, Bool, true, false, cond, leb, List, [], ◌∷◌, Some, Result, Ok, Err, refl, sym, ap, subst, ◌∙◌, IfOk, IfErr, arith}
 use Rattle.std.proofs.lemmas.Bool.Decides.{nat_tests}
 use Rattle.pl_grammar.specs.declared.Place.{Place}
 use Rattle.pl_grammar.specs.Machine.{Stop, Stuck, Deep}
@@ -69,15 +69,6 @@ same_good h = cc
 same_end : {p q : Place} → AtEnd p ≡ AtEnd q → p ≡ q
 same_end h = cc
 
-not_good : {a : List g.Statement} {k : Kind} {p : Place} → Good a ≡ Fault k p → ⊥
-not_good h = cc
-
-same_kind : {k j : Kind} {p q : Place} → Fault k p ≡ Fault j q → k ≡ j
-same_kind h = cc
-
-same_place : {k j : Kind} {p q : Place} → Fault k p ≡ Fault j q → p ≡ q
-same_place h = cc
-
 abbrev made : ℕ → List g.Statement → Place → Parsed
 made n ss p = record { version = n; statements = ss; end = p }
 
@@ -88,7 +79,7 @@ answers_script : (r : Result Script SyntaxError) (x : Parsed) → HasVersion r x
 answers_script (Ok s) x v h = same_made v (sym (same_good h.0)) (sym (same_end h.1))
 answers_script (Err TooLong) x v h = absurd h
 answers_script (Err Memory) x v h = tt
-answers_script (Err e) x v h = absurd (not_good h)
+answers_script (Err e) x v h = absurd cc
 
 pub spelled_answers : (bytes : List ℕ) (r : Result Script SyntaxError) → Outcome bytes r → (x : Parsed) → Spells bytes x → AnswersScript r x
 spelled_answers bytes r o x s =
@@ -98,13 +89,10 @@ spelled_answers bytes r o x s =
     answers_script r x n (subst (λ z. Gives r (AtEnd x.end) z) v (gives_at bytes r o s.tokens (AtEnd x.end) s.reads))
 
 error_at : (e : Kind) (q : Place) (k : Kind) (p : Place) → Fault k p ≡ Fault e q → error_of e q ≡ error_of k p
-error_at e q k p h = sym (ap₂ error_of (same_kind h) (same_place h))
-
-no_fault : {a : List g.Statement} {k : Kind} {p : Place} → Fault k p ≡ Good a → ⊥
-no_fault h = cc
+error_at e q k p h = cc
 
 answers_fault : (r : Result Script SyntaxError) (k : Kind) (p : Place) (tail : Tail) → Gives r tail (Fault k p) → AnswersFault r k p
-answers_fault (Ok s) k p tail h = no_fault h.0
+answers_fault (Ok s) k p tail h = let e = h.0 in cc
 answers_fault (Err (BadByte q)) k p tail h = error_at f.BadByte q k p h
 answers_fault (Err (Unexpected q)) k p tail h = error_at f.Unexpected q k p h
 answers_fault (Err (TooDeep q)) k p tail h = error_at f.TooDeep q k p h
