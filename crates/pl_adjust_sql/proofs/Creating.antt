@@ -66,10 +66,8 @@ module _ (s : Schema) (table : Table) (q : IsCreation table) where
     where
       here : (b c d : Bool) → compiled s (create_statement_of table) ≡ (if b then Err Unsupported else if c then Err Exists else if d then Err Exists else Ok (make q.p))
           → understood s (create_statement_of table) ≡ Ok (make q.p)
-      here true c d e = absurd (let r = settled s _ _ e refl in let bad = sym r.0 ∙ ok in cc)
-      here false true d e = absurd (let r = settled s _ _ e refl in let bad = sym r.0 ∙ ok in cc)
-      here false false true e = absurd (let r = settled s _ _ e refl in let bad = sym r.0 ∙ ok in cc)
       here false false false e = (settled s _ _ e refl).0
+      here b c d e = absurd (let r = settled s _ _ e refl in let bad = sym r.0 ∙ ok in cc)
 
 pub creation_of : (table : Table) → IsCreation table
 unfolding everything
