@@ -41,9 +41,8 @@ unfolding verdict
 verdict_step n s t ts tail = by_tests (leb most_tokens n) (too_large t) (script_step most_depth t s) (λ s. verdict (counted n t) s ts tail)
   where
     by_step : (r : Result g.Stage Stop) (k : g.Stage → Verdict) → step_verdict (place_of t) r k ≡ after_step (place_of t) (stepped r) k
-    by_step (Ok x) k = refl
-    by_step (Err Stuck) k = refl
     by_step (Err Deep) k = refl
+    by_step r k = refl
 
     by_tests : (a b : Bool) (r : Result g.Stage Stop) (k : g.Stage → Verdict) → cond a (Fault f.LongStatement (place_of t)) (cond b (Fault f.NumberTooLarge (place_of t)) (step_verdict (place_of t) r k)) ≡ after_step (place_of t) (cond a (Err f.LongStatement) (cond b (Err f.NumberTooLarge) (stepped r))) k
     by_tests true b r k = refl
@@ -93,13 +92,9 @@ error_at e q k p h = cc
 
 answers_fault : (r : Result Script SyntaxError) (k : Kind) (p : Place) (tail : Tail) → Gives r tail (Fault k p) → AnswersFault r k p
 answers_fault (Ok s) k p tail h = let e = h.0 in cc
-answers_fault (Err (BadByte q)) k p tail h = error_at f.BadByte q k p h
-answers_fault (Err (Unexpected q)) k p tail h = error_at f.Unexpected q k p h
-answers_fault (Err (TooDeep q)) k p tail h = error_at f.TooDeep q k p h
-answers_fault (Err (NumberTooLarge q)) k p tail h = error_at f.NumberTooLarge q k p h
-answers_fault (Err (LongStatement q)) k p tail h = error_at f.LongStatement q k p h
 answers_fault (Err TooLong) k p tail h = absurd h
 answers_fault (Err Memory) k p tail h = tt
+answers_fault (Err e) k p tail h = error_at _ _ k p h
 
 pub fault_answers : (bytes : List ℕ) (r : Result Script SyntaxError) → Outcome bytes r → (k : Kind) (p : Place) → FirstFault bytes k p → AnswersFault r k p
 fault_answers bytes r o k p x = answers_fault r k p x.tail (subst (λ z. Gives r x.tail z) (first_only x.first) (gives_at bytes r o x.tokens x.tail x.reads))
@@ -109,13 +104,9 @@ first_of bytes ts tail k p x h = record { tokens = ts; tail = tail; reads = x; f
 
 pub cause : (bytes : List ℕ) (r : Result Script SyntaxError) → Outcome bytes r → IfErr r (IsCause bytes)
 cause bytes (Ok s) o = tt
-cause bytes (Err (BadByte p)) o = first_of bytes o.tokens o.tail f.BadByte p o.reads o.gives
-cause bytes (Err (Unexpected p)) o = first_of bytes o.tokens o.tail f.Unexpected p o.reads o.gives
-cause bytes (Err (TooDeep p)) o = first_of bytes o.tokens o.tail f.TooDeep p o.reads o.gives
-cause bytes (Err (NumberTooLarge p)) o = first_of bytes o.tokens o.tail f.NumberTooLarge p o.reads o.gives
-cause bytes (Err (LongStatement p)) o = first_of bytes o.tokens o.tail f.LongStatement p o.reads o.gives
 cause bytes (Err TooLong) o = absurd o.gives
 cause bytes (Err Memory) o = tt
+cause bytes (Err e) o = first_of bytes o.tokens o.tail _ _ o.reads o.gives
 
 -- the bytes decide the script
 pub one_parsed : (bytes : List ℕ) (a b : Parsed) → Spells bytes a → Spells bytes b → a ≡ b
@@ -157,12 +148,9 @@ at_step_fault {rest = rest} {q = q} {r = r} {t = t} {n = n} {s = s} {e = e} k u 
 
     of_error : (e : SyntaxError) (us ts : List Lexeme) (tail : Tail) → verdict 0 g.Opening us tail ≡ after_step r (token_step n (mark r t) s) (λ s. verdict (counted n (mark r t)) s ts tail) → Steps (Err e) (token_step n (mark r t) s) k u r → Gives (Err e) tail (verdict 0 g.Opening us tail)
     of_error (BadByte p) us ts tail v h = absurd h
-    of_error (Unexpected p) us ts tail v h = of_kind f.Unexpected p us ts tail v h.0 h.1
-    of_error (TooDeep p) us ts tail v h = of_kind f.TooDeep p us ts tail v h.0 h.1
-    of_error (NumberTooLarge p) us ts tail v h = of_kind f.NumberTooLarge p us ts tail v h.0 h.1
-    of_error (LongStatement p) us ts tail v h = of_kind f.LongStatement p us ts tail v h.0 h.1
     of_error TooLong us ts tail v h = absurd h
     of_error Memory us ts tail v h = tt
+    of_error e us ts tail v h = of_kind _ _ us ts tail v h.0 h.1
 
 pub at_bad : {bytes bs : List ℕ} {p r : Place} {n v : ℕ} {s : g.Stage} → Goes bytes p bs n v s → Read p bs [] (AtBad r) → Outcome bytes (Err (BadByte r))
 unfolding verdict

@@ -53,57 +53,48 @@ fn same_names(a: &Option<Word>, b: &Option<Word>) -> bool
 fn same_expr(a: &Expr, b: &Expr) -> bool
     ensures { (result ≡ true) ↔ (bare (plain a.now) ≡ bare (plain b.now)) }
 {
-    match &a.node {
-        ExprNode::Number(x) => match &b.node {
-            ExprNode::Number(y) => x == y,
-            _ => false,
-        },
-        ExprNode::Text(x) => match &b.node {
-            ExprNode::Text(y) => same_words(x, y),
-            _ => false,
-        },
-        ExprNode::Name(x) => match &b.node {
-            ExprNode::Name(y) => same_words(x, y),
-            _ => false,
-        },
-        ExprNode::Call { name: x, args: xs } => match &b.node {
-            ExprNode::Call { name: y, args: ys } => same_words(x, y) && same_args(xs, ys),
-            _ => false,
-        },
-        ExprNode::Prefix {
-            sign: x,
-            operand: d,
-        } => match &b.node {
+    match (&a.node, &b.node) {
+        (ExprNode::Number(x), ExprNode::Number(y)) => x == y,
+        (ExprNode::Text(x), ExprNode::Text(y)) => same_words(x, y),
+        (ExprNode::Name(x), ExprNode::Name(y)) => same_words(x, y),
+        (ExprNode::Call { name: x, args: xs }, ExprNode::Call { name: y, args: ys }) => {
+            same_words(x, y) && same_args(xs, ys)
+        }
+        (
+            ExprNode::Prefix {
+                sign: x,
+                operand: d,
+            },
             ExprNode::Prefix {
                 sign: y,
                 operand: e,
-            } => same_prefixes(*x, *y) && same_expr(d, e),
-            _ => false,
-        },
-        ExprNode::Binary {
-            sign: x,
-            left: l,
-            right: r,
-        } => match &b.node {
+            },
+        ) => same_prefixes(*x, *y) && same_expr(d, e),
+        (
+            ExprNode::Binary {
+                sign: x,
+                left: l,
+                right: r,
+            },
             ExprNode::Binary {
                 sign: y,
                 left: m,
                 right: s,
-            } => { same_signs(*x, *y) && same_expr(l, m) && same_expr(r, s) }
-            _ => false,
-        },
-        ExprNode::Member {
-            object: d,
-            name: x,
-            args: xs,
-        } => match &b.node {
+            },
+        ) => same_signs(*x, *y) && same_expr(l, m) && same_expr(r, s),
+        (
+            ExprNode::Member {
+                object: d,
+                name: x,
+                args: xs,
+            },
             ExprNode::Member {
                 object: e,
                 name: y,
                 args: ys,
-            } => { same_words(x, y) && same_expr(d, e) && same_lists(xs, ys) }
-            _ => false,
-        },
+            },
+        ) => same_words(x, y) && same_expr(d, e) && same_lists(xs, ys),
+        _ => false,
     }
 }
 

@@ -83,10 +83,7 @@ fn at_opening(token: Token) -> Result<Stage, MoveError>
 {
     match token {
         Token::PipelineWord => Ok(Stage::VersionWanted),
-        token => {
-            drop(token);
-            Err(MoveError::Unexpected)
-        }
+        _ => Err(MoveError::Unexpected),
     }
 }
 
@@ -101,10 +98,7 @@ fn at_version(token: Token) -> Result<Stage, MoveError>
                 Err(MoveError::Unexpected)
             }
         }
-        token => {
-            drop(token);
-            Err(MoveError::Unexpected)
-        }
+        _ => Err(MoveError::Unexpected),
     }
 }
 
@@ -115,10 +109,7 @@ fn at_version_end(alloc: Global, token: Token) -> Result<Stage, MoveError>
         Token::Semicolon => Ok(Stage::Between {
             statements: Vec::new(alloc),
         }),
-        token => {
-            drop(token);
-            Err(MoveError::Unexpected)
-        }
+        _ => Err(MoveError::Unexpected),
     }
 }
 
@@ -157,11 +148,7 @@ fn at_let_name(statements: Vec<Statement>, place: Place, token: Token) -> Result
             statements,
             head: Head::Let { place, name },
         }),
-        token => {
-            drop(token);
-            drop(statements);
-            Err(MoveError::Unexpected)
-        }
+        _ => Err(MoveError::Unexpected),
     }
 }
 
@@ -178,11 +165,7 @@ fn at_column_name(
             statements,
             head: Head::Column { place, name },
         }),
-        token => {
-            drop(token);
-            drop(statements);
-            Err(MoveError::Unexpected)
-        }
+        _ => Err(MoveError::Unexpected),
     }
 }
 

@@ -1,3 +1,4 @@
+use Rattle.std.proofs.Common.{rules}
 use Rattle.pl_grammar.specs.Places.{bare}
 use Rattle.pl_syntax.specs.declared.tree.ExprNode.TheVariants.{Number, Text, Name, Call, Prefix, Binary, Member}
 use Rattle.pl_syntax.proofs.Likeness.{like, like_member}
@@ -19,37 +20,82 @@ same_args-loop-arg-preserved t c = next args_pairwise _ c.loop-arg-test.true c.a
 pub same_args-returns : goal.same_args-returns
 same_args-returns t c = ended args_pairwise _ c.loop-arg-test.false c.is_empty.ensures c.loop-arg.invariant
 
+pub same_expr-returns-in-Number-Number : goal.same_expr-returns-in-Number-Number
+unfolding bare
+same_expr-returns-in-Number-Number t c = search rules
+
+pub same_expr-returns-in-Text-Text : goal.same_expr-returns-in-Text-Text
+unfolding bare
+same_expr-returns-in-Text-Text t c = search rules
+
+pub same_expr-returns-in-Name-Name : goal.same_expr-returns-in-Name-Name
+unfolding bare
+same_expr-returns-in-Name-Name t c = search rules
+
+pub same_expr-returns-then-same_words : goal.same_expr-returns-then-same_words
+unfolding bare
+same_expr-returns-then-same_words t c = search rules
+
+pub same_expr-returns-else-same_words : goal.same_expr-returns-else-same_words
+unfolding bare
+same_expr-returns-else-same_words t c = search rules
+
+pub same_expr-returns-then-same_prefixes : goal.same_expr-returns-then-same_prefixes
+unfolding bare
+same_expr-returns-then-same_prefixes t c = search rules
+
+pub same_expr-returns-else-same_prefixes : goal.same_expr-returns-else-same_prefixes
+unfolding bare
+same_expr-returns-else-same_prefixes t c = search rules
+
+pub same_expr-returns-then-same_expr : goal.same_expr-returns-then-same_expr
+unfolding bare
+same_expr-returns-then-same_expr t c = search rules
+
+pub same_expr-returns-else-same_expr : goal.same_expr-returns-else-same_expr
+unfolding bare
+same_expr-returns-else-same_expr t c = search rules
+
+pub same_expr-returns-then-same_expr-2 : goal.same_expr-returns-then-same_expr-2
+unfolding bare
+same_expr-returns-then-same_expr-2 t c = search rules
+
+pub same_expr-returns-else-same_expr-2 : goal.same_expr-returns-else-same_expr-2
+unfolding bare
+same_expr-returns-else-same_expr-2 t c = search rules
+
 pub same_expr-returns-in_default : goal.same_expr-returns-in_default
 unfolding bare
 same_expr-returns-in_default t c =
-    never (λ h. (let w = like c.args.a.now c.args.b.now (Number c.in-Number.x) c.in-Number.is h in c.in_default.not-Number w.0 w.1))
+    never (λ h. (let w = like c.args.a.now c.args.b.now (Number c.in_default.field-0-0) c.in_default.is-0 h in c.in_default.not-Number-1 w.0 w.1))
 
-pub same_expr-returns-in_default-node : goal.same_expr-returns-in_default-node
+pub same_expr-returns-in_default-2 : goal.same_expr-returns-in_default-2
 unfolding bare
-same_expr-returns-in_default-node t c =
-    never (λ h. (let w = like c.args.a.now c.args.b.now (Text c.in-Text.x) c.in-Text.is h in c.in_default-node.not-Text w.0 w.1))
+same_expr-returns-in_default-2 t c =
+    never (λ h. (let w = like c.args.a.now c.args.b.now (Text c.in_default.field-0-0) c.in_default.is-0 h in c.in_default.not-Text-1 w.0 w.1))
 
-pub same_expr-returns-in_default-node-2 : goal.same_expr-returns-in_default-node-2
+pub same_expr-returns-in_default-3 : goal.same_expr-returns-in_default-3
 unfolding bare
-same_expr-returns-in_default-node-2 t c =
-    never (λ h. (let w = like c.args.a.now c.args.b.now (Name c.in-Name.x) c.in-Name.is h in c.in_default-node-2.not-Name w.0 w.1))
+same_expr-returns-in_default-3 t c =
+    never (λ h. (let w = like c.args.a.now c.args.b.now (Name c.in_default.field-0-0) c.in_default.is-0 h in c.in_default.not-Name-1 w.0 w.1))
 
-pub same_expr-returns-in_default-node-3 : goal.same_expr-returns-in_default-node-3
+pub same_expr-returns-in_default-4 : goal.same_expr-returns-in_default-4
 unfolding bare
-same_expr-returns-in_default-node-3 t c =
-    never (λ h. (let w = like c.args.a.now c.args.b.now (Call c.in-Call.x c.in-Call.xs) c.in-Call.is h in c.in_default-node-3.not-Call w.0 w.1.0 w.1.1))
+same_expr-returns-in_default-4 t c =
+    never (λ h. (let w = like c.args.a.now c.args.b.now (Call c.in_default.field-0-0 c.in_default.field-1-0) c.in_default.is-0 h in c.in_default.not-Call-1 w.0 w.1.0 w.1.1))
 
-pub same_expr-returns-in_default-node-4 : goal.same_expr-returns-in_default-node-4
+pub same_expr-returns-in_default-5 : goal.same_expr-returns-in_default-5
 unfolding bare
-same_expr-returns-in_default-node-4 t c =
-    never (λ h. (let w = like c.args.a.now c.args.b.now (Prefix c.in-Prefix.x c.in-Prefix.d) c.in-Prefix.is h in c.in_default-node-4.not-Prefix w.0 w.1.0 w.1.1))
+same_expr-returns-in_default-5 t c =
+    never (λ h. (let w = like c.args.a.now c.args.b.now (Prefix c.in_default.field-0-0 c.in_default.field-1-0) c.in_default.is-0 h in c.in_default.not-Prefix-1 w.0 w.1.0 w.1.1))
 
-pub same_expr-returns-in_default-node-5 : goal.same_expr-returns-in_default-node-5
+pub same_expr-returns-in_default-6 : goal.same_expr-returns-in_default-6
 unfolding bare
-same_expr-returns-in_default-node-5 t c =
-    never (λ h. (let w = like c.args.a.now c.args.b.now (Binary c.in-Binary.x c.in-Binary.l c.in-Binary.r) c.in-Binary.is h in c.in_default-node-5.not-Binary w.0 w.1.0 w.1.1.0 w.1.1.1))
+same_expr-returns-in_default-6 t c =
+    never (λ h. (let w = like c.args.a.now c.args.b.now (Binary c.in_default.field-0-0 c.in_default.field-1-0 c.in_default.field-2-0) c.in_default.is-0 h in c.in_default.not-Binary-1 w.0 w.1.0 w.1.1.0 w.1.1.1))
 
-pub same_expr-returns-in_default-node-6 : goal.same_expr-returns-in_default-node-6
+pub same_expr-returns-in_default-7 : goal.same_expr-returns-in_default-7
 unfolding bare
-same_expr-returns-in_default-node-6 t c =
-    never (λ h. (let w = like_member c.in-Member.d c.in-Member.x c.in-Member.xs c.args.a.now.place c.args.b.now.node (like c.args.a.now c.args.b.now (Member c.in-Member.d c.in-Member.x c.in-Member.xs) c.in-Member.is h) in c.in_default-node-6.not-Member w.0 w.1.0 w.1.1.0 w.1.1.1))
+same_expr-returns-in_default-7 t c =
+    let f = c.in_default in
+    never (λ h. (let w = like_member f.field-0-0 f.field-1-0 f.field-2-0 c.args.a.now.place c.args.b.now.node (like c.args.a.now c.args.b.now (Member f.field-0-0 f.field-1-0 f.field-2-0) f.is-0 h) in f.not-Member-1 w.0 w.1.0 w.1.1.0 w.1.1.1))
