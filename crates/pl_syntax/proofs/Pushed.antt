@@ -71,10 +71,6 @@ built_tree v = list_tree (roll-ArgList (record { args = v })) ∙ ap (λ (x : Li
 
 -- a stack's frames
 
-pub open_new : (s : Stack) → s.frames.items ≡ [] → open_in s ≡ []
-unfolding open_in frames_of frames_onto
-open_new s h = ap frames_of h
-
 pub open_push : (s t : Stack) (x : Frame) → t.frames.items ≡ s.frames.items ++ (x ∷ []) → open_in t ≡ frame_of x ∷ open_in s
 unfolding open_in
 open_push s t x h = ap frames_of h ∙ frames_push s.frames.items x
@@ -116,11 +112,3 @@ depth_most xs = omega (arith, onto_depth xs [])
 
 pub depth_after : (xs ys : List Frame) (x : Frame) → ys ≡ xs ++ (x ∷ []) → m.depth (frames_of ys) ≡ m.depth (frames_of xs) + m.depth (frame_of x ∷ [])
 depth_after xs ys x h = ap (λ z. m.depth (frames_of z)) h ∙ (ap m.depth (frames_push xs x) ∙ depth_push (frame_of x) (frames_of xs))
-
-pub depth_none : (xs : List Frame) → xs ≡ [] → 0 ≡ m.depth (frames_of xs)
-unfolding frames_of frames_onto
-depth_none xs h = sym (ap (λ z. m.depth (frames_of z)) h)
-
-pub depth_open : (s : Stack) (n : ℕ) → n ≡ m.depth (frames_of s.frames.items) → n ≡ m.depth (open_in s)
-unfolding open_in
-depth_open s n h = h

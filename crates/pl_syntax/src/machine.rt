@@ -125,26 +125,18 @@ pub(crate) fn end_constructs(
     let mut expr = operand;
     while let Some(frame) = stack.pop() {
         if !is_ended(&frame, level) {
-            return put_back(stack, frame, Ended { height, expr });
+            return match stack.push(frame) {
+                Ok(()) => Ok(Ended { height, expr }),
+                Err(_) => {
+                    drop(expr);
+                    Err(MoveError::Memory)
+                }
+            };
         }
         height = frame_level_of(&frame);
         expr = joined(alloc, frame, expr)?;
     }
     Ok(Ended { height, expr })
-}
-
-// What an operand doesn't end is open again.
-fn put_back(stack: &mut Stack, frame: Frame, ended: Ended) -> Result<Ended, MoveError>
-    ensures ok { IfOk result (λ c. c ≡ ended × (open_in stack.new ≡ frame_of frame ∷ open_in stack.old)) }
-    ensures err { IfErr result (λ e. e ≡ Memory) }
-{
-    match stack.push(frame) {
-        Ok(()) => Ok(ended),
-        Err(_) => {
-            drop(ended);
-            Err(MoveError::Memory)
-        }
-    }
 }
 
 // Is an operand wanted?
@@ -333,17 +325,6 @@ fn callee_of_mode(mode: Mode) -> Option<Callee>
     }
 }
 
-// The call without arguments so far.
-fn unfilled(alloc: Global, callee: Callee) -> Frame
-    ensures { frame_of result ≡ m.Call (callee_of callee) [] None }
-{
-    Frame::Call(Called {
-        callee,
-        args: Vec::new(alloc),
-        name: None,
-    })
-}
-
 // A `(`.
 fn at_open(alloc: Global, stack: &mut Stack, mode: Mode) -> Result<Mode, MoveError>
     ensures { Moves result (open_in stack.new)
@@ -354,7 +335,14 @@ fn at_open(alloc: Global, stack: &mut Stack, mode: Mode) -> Result<Mode, MoveErr
         return opened(stack, Frame::Group, Mode::Wanted);
     }
     match callee_of_mode(mode) {
-        Some(callee) => opened(stack, unfilled(alloc, callee), Mode::ArgWanted),
+        Some(callee) => {
+            let call = Called {
+                callee,
+                args: Vec::new(alloc),
+                name: None,
+            };
+            opened(stack, Frame::Call(call), Mode::ArgWanted)
+        }
         None => Err(MoveError::Unexpected),
     }
 }
@@ -476,25 +464,20 @@ fn name_by(stack: &mut Stack, word: Word) -> Result<Mode, MoveError>
     ensures { Moves result (open_in stack.new) (name_arg word (open_in stack.old)) }
 {
     match stack.pop() {
-        Some(Frame::Call(call)) => { opened(stack, Frame::Call(named(call, word)), Mode::Wanted) }
+        Some(Frame::Call(Called { callee, args, name })) => {
+            drop(name);
+            let call = Called {
+                callee,
+                args,
+                name: Some(word),
+            };
+            opened(stack, Frame::Call(call), Mode::Wanted)
+        }
         frame => {
             drop(frame);
             drop(word);
             Err(MoveError::Unexpected)
         }
-    }
-}
-
-// The call whose next argument has this name.
-fn named(call: Called, word: Word) -> Called
-    ensures { call_of result ≡ m.Call (callee_of call.callee) (args_list call.args.items) (Some word) }
-{
-    let Called { callee, args, name } = call;
-    drop(name);
-    Called {
-        callee,
-        args,
-        name: Some(word),
     }
 }
 

@@ -148,6 +148,7 @@ impl Stack {
     ghost use Rattle.pl_syntax.specs.Open.{open_in};
 
     // Nothing is open.
+    #[tactic(auto, unfolding(crate::specs::Open::open_in, crate::specs::Frames::frames_of, crate::specs::Frames::frames_onto))]
     pub(crate) fn new(alloc: Global) -> Stack
         ensures { open_in result ≡ [] }
     {
@@ -182,6 +183,7 @@ impl Stack {
     }
 
     // How many of the constructs that the limit counts are open.
+    #[tactic(auto, unfolding(crate::specs::Open::open_in))]
     pub(crate) fn depth(&self) -> usize
         ensures { result ≡ depth (open_in self.now) }
     {

@@ -11,9 +11,6 @@ loop-place-init c = record {
   few = omega arith;
 }
 
-pub next-requires : goal.next-requires
-next-requires c = c.loop-place.invariant.room
-
 pub loop-place-preserved : goal.loop-place-preserved
 loop-place-preserved c =
     let b = rw c.in-Ok-Token.field-0-is at c.in-Ok-Token.ensures in
