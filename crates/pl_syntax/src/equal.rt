@@ -143,38 +143,33 @@ fn same_args(a: &ArgList, b: &ArgList) -> bool
 fn same_statement(a: &Statement, b: &Statement) -> bool
     ensures { (result ≡ true) ↔ (bare_statement (statement_of a.now) ≡ bare_statement (statement_of b.now)) }
 {
-    match a {
-        Statement::Let {
-            name: x,
-            expr: d,
-            ..
-        } => match b {
+    match (a, b) {
+        (
+            Statement::Let {
+                name: x,
+                expr: d,
+                ..
+            },
             Statement::Let {
                 name: y,
                 expr: e,
                 ..
-            } => same_words(x, y) && same_expr(d, e),
-            Statement::Column { .. } => false,
-            Statement::Screen { .. } => false,
-        },
-        Statement::Column {
-            name: x,
-            expr: d,
-            ..
-        } => match b {
+            },
+        ) => { same_words(x, y) && same_expr(d, e) }
+        (
+            Statement::Column {
+                name: x,
+                expr: d,
+                ..
+            },
             Statement::Column {
                 name: y,
                 expr: e,
                 ..
-            } => same_words(x, y) && same_expr(d, e),
-            Statement::Let { .. } => false,
-            Statement::Screen { .. } => false,
-        },
-        Statement::Screen { expr: d, .. } => match b {
-            Statement::Screen { expr: e, .. } => same_expr(d, e),
-            Statement::Let { .. } => false,
-            Statement::Column { .. } => false,
-        },
+            },
+        ) => same_words(x, y) && same_expr(d, e),
+        (Statement::Screen { expr: d, .. }, Statement::Screen { expr: e, .. }) => same_expr(d, e),
+        _ => false,
     }
 }
 

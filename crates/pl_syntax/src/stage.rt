@@ -131,11 +131,7 @@ fn at_statement(
             mode: Mode::Wanted,
             stack: Stack::new(alloc),
         }),
-        token => {
-            drop(token);
-            drop(statements);
-            Err(MoveError::Unexpected)
-        }
+        _ => Err(MoveError::Unexpected),
     }
 }
 
