@@ -249,8 +249,8 @@ fn separate(first: bool, out: &mut Vec<u8>) -> Result<(), AllocError>
     if first { Ok(()) } else { put(out, b", ") }
 }
 
-// A word and a name, to which an expression is given.
-fn put_given(word: &[u8], name: &Word, out: &mut Vec<u8>) -> Result<(), AllocError>
+// How a statement begins.
+fn put_head(word: &[u8], name: &Word, out: &mut Vec<u8>) -> Result<(), AllocError>
     ensures { OnOk result (out.new.items ≡ out.old.items ++ (word.now ++ (name.now ++ codes " = "))) }
 {
     put(out, word)?;
@@ -258,33 +258,24 @@ fn put_given(word: &[u8], name: &Word, out: &mut Vec<u8>) -> Result<(), AllocErr
     put(out, b" = ")
 }
 
-// How a statement begins. Its expression is lent.
-fn put_head<'a>(statement: &'a Statement, out: &mut Vec<u8>) -> Result<&'a Expr, AllocError>
-    ensures text { OnOk result (out.new.items ≡ out.old.items ++ head_text (statement_of statement.now).head) }
-    ensures expr { IfOk result (λ expr. plain expr.now ≡ (statement_of statement.now).tree) }
-{
-    match statement {
-        Statement::Let { name, expr, .. } => {
-            put_given(b"let ", name, out)?;
-            Ok(expr)
-        }
-        Statement::Column { name, expr, .. } => {
-            put_given(b"column ", name, out)?;
-            Ok(expr)
-        }
-        Statement::Screen { expr, .. } => {
-            put(out, b"screen ")?;
-            Ok(expr)
-        }
-    }
-}
-
 // A statement on its line.
 fn put_statement(statement: &Statement, out: &mut Vec<u8>) -> Result<(), AllocError>
     ensures { OnOk result (out.new.items ≡ out.old.items ++ statement_text (statement_of statement.now)) }
 {
-    let expr = put_head(statement, out)?;
-    put_expr(expr, out)?;
+    match statement {
+        Statement::Let { name, expr, .. } => {
+            put_head(b"let ", name, out)?;
+            put_expr(expr, out)?;
+        }
+        Statement::Column { name, expr, .. } => {
+            put_head(b"column ", name, out)?;
+            put_expr(expr, out)?;
+        }
+        Statement::Screen { expr, .. } => {
+            put(out, b"screen ")?;
+            put_expr(expr, out)?;
+        }
+    }
     put(out, b";\n")
 }
 
