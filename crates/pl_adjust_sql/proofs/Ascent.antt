@@ -1,7 +1,7 @@
 -- No two ids are the same, wherever the rowids of the stored rows rise.
 use Rattle.std.proofs.Common.{◌≡◌, ◌∙◌, ◌<◌, ◌<ℤ◌, ◌≤ℤ◌, ℤ, ℕ, Bool, true, false, List, [], ◌∷◌, map, length, refl, sym, ap, subst, arith, slice_index_or, AllPairs}
 use Rattle.std.specs.declared.cmp.Ordering.{Ordering}
-use Rattle.std.specs.declared.cmp.Ordering.TheVariants.{Less, Equal, Greater}
+use Rattle.std.specs.declared.cmp.Ordering.TheVariants.{Less}
 use Rattle.std.specs.Ordering.{is_eq, ordering_reverse}
 use Rattle.std.specs.List.{AllByRecursion, IsDistinct}
 use Rattle.std.specs.List.Sorted.{IsPermutation}
@@ -24,8 +24,7 @@ ties a b = is_eq (value_cmp a b)
 
 reversed : (o : Ordering) → is_eq (ordering_reverse o) ≡ is_eq o
 reversed Less = refl
-reversed Equal = refl
-reversed Greater = refl
+reversed o = refl
 
 flips : (a b : Value) → ties a b ≡ ties b a
 flips a b = ap is_eq (value_cmp_total.antisymm a b) ∙ reversed (value_cmp b a)

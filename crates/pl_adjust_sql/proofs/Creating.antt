@@ -9,7 +9,7 @@ use Rattle.sqlite.specs.Schema.{Schema}
 use Rattle.sqlite.specs.Command.TheVariants.{CreateTable}
 use Rattle.sqlite.specs.Change.{created, next_tree, is_used}
 use Rattle.sqlite.specs.Compile as compile
-use Rattle.sqlite.specs.Compile.{compiled, first, planned, is_attached, creates, is_reserved, table_defined_by}
+use Rattle.sqlite.specs.Compile.{compiled, first, planned, is_attached, creates, is_reserved, table_defined_by, table_in}
 use Rattle.sqlite.specs.Does.{Tally, lacks_sequence, sequence_text, MakesTable, MakesSequence}
 use Rattle.sqlite.specs.Effect.{Database}
 use Rattle.sqlite.specs.Listing.{understood}
@@ -40,7 +40,6 @@ pub record IsCreation (table : Table) : Type 0 where
   pub bare : (p.names ≡ []) × (p.formats ≡ [])
   pub new : (def.if_missing ≡ false) × (is_reserved def.name ≡ false) × (def.resolves ≡ false)
   pub table_is : define.table [] def ≡ Ok (created_table table 0)
-  pub defined : table_defined_by (create_statement_of table) ≡ Ok (created_table table 0)
 
 abbrev make : Parsed → Compiled
 make p = record { command = CreateTable; returning = None; names = []; formats = []; start = p.start; end = p.end; tail = p.tail }
@@ -67,15 +66,17 @@ module _ (s : Schema) (table : Table) (q : IsCreation table) where
     where
       here : (b c d : Bool) → compiled s (create_statement_of table) ≡ (if b then Err Unsupported else if c then Err Exists else if d then Err Exists else Ok (make q.p))
           → understood s (create_statement_of table) ≡ Ok (make q.p)
-      here true c d e = absurd (let r = settled s _ _ e refl in let bad = sym r.0 ∙ ok in cc)
-      here false true d e = absurd (let r = settled s _ _ e refl in let bad = sym r.0 ∙ ok in cc)
-      here false false true e = absurd (let r = settled s _ _ e refl in let bad = sym r.0 ∙ ok in cc)
       here false false false e = (settled s _ _ e refl).0
+      here b c d e = absurd (let r = settled s _ _ e refl in let bad = sym r.0 ∙ ok in cc)
 
 pub creation_of : (table : Table) → IsCreation table
 unfolding everything
-creation_of Splits = record { p = _; parsed = refl; def = _; is = refl; bare = (refl, refl); new = (refl, refl, refl); table_is = refl; defined = refl }
-creation_of table = record { p = _; parsed = refl; def = _; is = refl; bare = (refl, refl); new = (refl, refl, refl); table_is = refl; defined = refl }
+creation_of Splits = record { p = _; parsed = refl; def = _; is = refl; bare = (refl, refl); new = (refl, refl, refl); table_is = refl }
+creation_of table = record { p = _; parsed = refl; def = _; is = refl; bare = (refl, refl); new = (refl, refl, refl); table_is = refl }
+
+pub defined_as : (table : Table) → table_defined_by (create_statement_of table) ≡ Ok (created_table table 0)
+unfolding table_defined_by table_in
+defined_as table = let q = creation_of table in rw (q.parsed, q.is, q.bare.1) q.table_is
 
 -- the text that is kept is the whole statement
 whole : (table : Table) → statement_of (create_statement_of table) (Ok (make (creation_of table).p)) ≡ create_statement_of table
@@ -157,7 +158,7 @@ grows table old new count h =
     let all = went w.changed in
     let first = went all.1 in
     let made = first.1 in
-    let same : made.table ≡ created_table table 0 = same_value (sym made.defined ∙ q.defined) in
+    let same : made.table ≡ created_table table 0 = same_value (sym made.defined ∙ defined_as table) in
     let so = ends_so table s first.0 all.0 made.table made.is same first.2 in
     let now : new.now ≡ all.0 = ap (λ (p : Tally × Database). p.1) (same_value all.2) in
     record {

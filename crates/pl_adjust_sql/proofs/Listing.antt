@@ -16,7 +16,7 @@ use Rattle.sqlite_trees.proofs.ListLemmas.{all-slice_get}
 use Rattle.pl_outside.specs.declared.keeper.Table.{Table}
 use Rattle.pl_adjust_sql.specs.Tables.{name_of, IsFound}
 use Rattle.pl_adjust_sql.specs.Created.{create_statement_of, created_table, created_places, IsListed}
-use Rattle.pl_adjust_sql.proofs.Creating.{creation_of, has_its_name, are_placed}
+use Rattle.pl_adjust_sql.proofs.Creating.{defined_as, has_its_name, are_placed}
 
 zipped : (rows : List Row) (tables : List Stored) → AllZip IsTableRow rows tables → (row : Row) → Has rows row → (i : ℕ) × (t : Stored) × (slice_get tables i ≡ Some t) × IsTableRow row t
 zipped [] tables all row has = absurd has
@@ -50,7 +50,7 @@ listed_is_found table s live open' row has listed =
     let is = at.3 in
     let text : is.sql ≡ create_statement_of table = (let one = sym is.sql_is ∙ listed.text in cc) in
     let made = is.defined in
-    let table_is : made.0 ≡ created_table table 0 = (let both = sym (subst (λ sql. table_defined_by sql ≡ Ok made.0) text made.1) ∙ (creation_of table).defined in cc) in
+    let table_is : made.0 ≡ created_table table 0 = (let both = sym (subst (λ sql. table_defined_by sql ≡ Ok made.0) text made.1) ∙ defined_as table in cc) in
     let same : t ≡ created_table table t.tree = made.2 ∙ ap (λ (m : Stored). record m { tree = t.tree }) table_is in
     let within : 0 + at.0 ≡ at.0 = omega arith in (
       t.tree,

@@ -36,14 +36,14 @@ impl<S: Alter> SqlKeeper<S> {
             faults: 0,
         }
     }
+}
 
-    fn failed(&mut self) -> KeepError
-        ensures failed { result ≡ KeepError.Failed }
-        ensures count { self.new ≡ record self.old { faults = count_plus self.old.faults 1 } }
-    {
-        self.faults = self.faults.saturating_add(1);
-        KeepError::Failed
-    }
+fn failed(faults: &mut u64) -> KeepError
+    ensures failed { result ≡ KeepError.Failed }
+    ensures count { faults.new ≡ count_plus faults.old 1 }
+{
+    *faults = faults.saturating_add(1);
+    KeepError::Failed
 }
 
 impl<S: Alter> AdjustKeeper for SqlKeeper<S> {
@@ -83,12 +83,12 @@ impl<S: Alter> AdjustKeeper for SqlKeeper<S> {
         ensures name { self.new.name ≡ self.old.name }
     {
         if self.name.as_str() != name {
-            return Err(self.failed());
+            return Err(failed(&mut self.faults));
         }
         match read_table(alloc, &mut self.connection, table, into) {
             Ok(()) => Ok(()),
             Err(TableError::Memory) => Err(KeepError::Memory),
-            Err(TableError::Refused) => Err(self.failed()),
+            Err(TableError::Refused) => Err(failed(&mut self.faults)),
         }
     }
 

@@ -59,11 +59,18 @@ pub fn words(alloc: Global, args: io::Result<Args>) -> Result<Vec<String>, Start
     ensures none { IfErr args (λ _. IsErr result) }
     ensures memory { OnOk args (IfErr result (λ why. why ≡ StartError.Memory)) }
 {
-    let mut args = match args {
-        Ok(args) => args,
-        Err(error) => return Err(why_no_words(&error)),
-    };
-    let _name = args.next();
+    match args {
+        Ok(args) => words_of(alloc, args),
+        Err(error) => Err(why_no_words(&error)),
+    }
+}
+
+fn words_of(alloc: Global, args: Args) -> Result<Vec<String>, StartError>
+    ensures words { IfOk result (λ words. words.items ≡ drop 1 (into_iter_items args)) }
+    ensures memory { IfErr result (λ why. why ≡ StartError.Memory) }
+{
+    let mut args = args;
+    drop(args.next());
     let mut words = Vec::new(alloc);
     for word in args {
         words.push(word)?;

@@ -28,14 +28,14 @@ impl<'a> FileKeeper<'a> {
     {
         FileKeeper { rt, faults: 0 }
     }
+}
 
-    fn failed(&mut self) -> KeepError
-        ensures count { self.new.faults ≡ count_plus self.old.faults 1 }
-        ensures failed { result ≡ KeepError.Failed }
-    {
-        self.faults = self.faults.saturating_add(1);
-        KeepError::Failed
-    }
+fn failed(faults: &mut u64) -> KeepError
+    ensures count { faults.new ≡ count_plus faults.old 1 }
+    ensures failed { result ≡ KeepError.Failed }
+{
+    *faults = faults.saturating_add(1);
+    KeepError::Failed
 }
 
 impl AdjustKeeper for FileKeeper<'_> {
@@ -58,7 +58,7 @@ impl AdjustKeeper for FileKeeper<'_> {
         match read_named(self.rt, alloc, name, table, into) {
             Ok(()) => Ok(()),
             Err(TableError::Memory) => Err(KeepError::Memory),
-            Err(TableError::Refused) => Err(self.failed()),
+            Err(TableError::Refused) => Err(failed(&mut self.faults)),
         }
     }
 
@@ -78,28 +78,42 @@ fn read_named(
 ) -> Result<(), TableError>
     ensures { OnErr result (into.new.items ≡ into.old.items) }
 {
-    let mut connection = open_copy(rt, alloc, name)?;
-    read_table(alloc, &mut connection, table, into)
+    match Connection::open_files(alloc, copied_files(rt, alloc, name)?, Options::new(1)) {
+        Ok(connection) => {
+            let mut connection = connection;
+            read_table(alloc, &mut connection, table, into)
+        }
+        Err((error, _)) => Err(open_error(&error)),
+    }
 }
 
 // The file and the log beside it are read whole and opened in memory: SQLite would make a file that isn't
 // there, and would write a log. An empty file is no database yet, and one whose transaction was cut off would
 // first have to be fixed.
-fn open_copy(
-    rt: &HostRuntime,
-    alloc: Global,
-    name: &str,
-) -> Result<Connection<FileStore<Memory>>, TableError> {
+fn copied_files(rt: &HostRuntime, alloc: Global, name: &str) -> Result<Files<Memory>, TableError>
+    ensures log { IfOk result (λ files. IsTrue (memory_is_usable files.log)) }
+    ensures db { IfOk result (λ files. IsTrue (memory_is_usable files.db)) }
+{
     let bytes = fs::read(rt, name).map_err(read_error)?;
     if bytes.is_empty() || is_cut_off(bytes_beside(rt, alloc, name, "journal")?.as_slice()) {
         return Err(TableError::Refused);
     }
     let db = copy_of(alloc, bytes.as_slice())?;
-    let log = copy_of(alloc, bytes_beside(rt, alloc, name, "wal")?.as_slice())?;
-    match Connection::open_files(alloc, Files { log, db }, Options::new(1)) {
-        Ok(connection) => Ok(connection),
-        Err((error, _)) => Err(open_error(&error)),
+    drop(bytes);
+    match log_of(rt, alloc, name) {
+        Ok(log) => Ok(Files { log, db }),
+        Err(error) => {
+            drop(db);
+            Err(error)
+        }
     }
+}
+
+fn log_of(rt: &HostRuntime, alloc: Global, name: &str) -> Result<Memory, TableError>
+    ensures { IfOk result (λ disk. IsTrue (memory_is_usable disk)) }
+{
+    let log = bytes_beside(rt, alloc, name, "wal")?;
+    copy_of(alloc, log.as_slice())
 }
 
 // Whether this is a rollback journal that is to be played back: the first byte of another one is 0.

@@ -1,8 +1,9 @@
 //! The files of the disk.
 
 ghost use Rattle.std.specs.Prelude.{◌≡◌, None, [], false};
-ghost use Rattle.pl_outside.specs.Counts.{count_end, count_plus};
+ghost use Rattle.pl_outside.specs.Counts.{count_end};
 
+use crate::faults::failed;
 use pl_outside::{Failed, Shelf};
 use std::fs::{self, File};
 use std::io::Read;
@@ -26,13 +27,6 @@ impl<'a> FileShelf<'a> {
             file: None,
             faults: 0,
         }
-    }
-
-    fn failed(&mut self) -> Failed
-        ensures { self.new.faults ≡ count_plus self.old.faults 1 }
-    {
-        self.faults = self.faults.saturating_add(1);
-        Failed
     }
 }
 
@@ -60,7 +54,7 @@ impl Shelf for FileShelf<'_> {
             }
             Err(_) => {
                 self.file = None;
-                Err(self.failed())
+                Err(failed(&mut self.faults))
             }
         }
     }
@@ -71,7 +65,7 @@ impl Shelf for FileShelf<'_> {
         };
         match file.read(into) {
             Ok(count) => Ok(count),
-            Err(_) => Err(self.failed()),
+            Err(_) => Err(failed(&mut self.faults)),
         }
     }
 

@@ -6,6 +6,7 @@
 
 mod command_line;
 mod ends;
+mod faults;
 mod file_keeper;
 mod file_shelf;
 mod stream;

@@ -3,8 +3,9 @@
 ghost use Rattle.std.specs.Prelude.{◌≡◌, ◌≤◌, ◌<◌, [], None, IfOk, OnOk, length, false};
 ghost use Rattle.std.specs.Io.Buffered.{writer_buffer, writer_contents};
 ghost use Rattle.std.specs.Io.KnownBytes.{Keeps, WriteAppends};
-ghost use Rattle.pl_outside.specs.Counts.{HasCause, count_end, count_plus};
+ghost use Rattle.pl_outside.specs.Counts.{HasCause, count_end};
 
+use crate::faults::failed;
 use pl_outside::{Failed, Sink};
 use std::io::{BufWriter, Write};
 
@@ -24,14 +25,6 @@ impl<W: Write + Drop> Stream<W> {
     {
         Stream { to, faults: 0 }
     }
-
-    fn failed(&mut self) -> Failed
-        ensures faults { self.new.faults ≡ count_plus self.old.faults 1 }
-        ensures to { self.new.to ≡ self.old.to }
-    {
-        self.faults = self.faults.saturating_add(1);
-        Failed
-    }
 }
 
 impl<W: Write + Drop> Stream<BufWriter<W>> {
@@ -45,7 +38,7 @@ impl<W: Write + Drop> Stream<BufWriter<W>> {
     {
         match self.to.flush() {
             Ok(()) => Ok(()),
-            Err(_) => Err(self.failed()),
+            Err(_) => Err(failed(&mut self.faults)),
         }
     }
 }
@@ -72,9 +65,9 @@ impl<W: Write + Drop> Sink for Stream<W> {
         ensures cause { HasCause self.old.faults self.new.faults result }
     {
         match self.to.write(bytes) {
-            Ok(0) if !bytes.is_empty() => Err(self.failed()),
+            Ok(0) if !bytes.is_empty() => Err(failed(&mut self.faults)),
             Ok(count) => Ok(count),
-            Err(_) => Err(self.failed()),
+            Err(_) => Err(failed(&mut self.faults)),
         }
     }
 

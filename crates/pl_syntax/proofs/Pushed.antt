@@ -36,10 +36,8 @@ same_top : (x : Frame) (fs : List m.Frame) → m.asked (frame_of x ∷ fs) ≡ m
 same_top x fs = of_frame (frame_of x)
   where
     of_frame : (f : m.Frame) → m.asked (f ∷ fs) ≡ m.asked (f ∷ [])
-    of_frame (m.Prefixed p s) = refl
-    of_frame (m.Behind p o a) = refl
     of_frame m.Group = refl
-    of_frame (m.Call c ps n) = refl
+    of_frame f = refl
 
 asked_onto : (x : Frame) (xs : List Frame) (y : Frame) (fs : List m.Frame) → slice_get (x ∷ xs) (length xs) ≡ Some y → m.asked (frames_onto (x ∷ xs) fs) ≡ m.asked (frame_of y ∷ [])
 unfolding frames_onto
@@ -73,10 +71,6 @@ built_tree v = list_tree (roll-ArgList (record { args = v })) ∙ ap (λ (x : Li
 
 -- a stack's frames
 
-pub open_new : (s : Stack) → s.frames.items ≡ [] → open_in s ≡ []
-unfolding open_in frames_of frames_onto
-open_new s h = ap frames_of h
-
 pub open_push : (s t : Stack) (x : Frame) → t.frames.items ≡ s.frames.items ++ (x ∷ []) → open_in t ≡ frame_of x ∷ open_in s
 unfolding open_in
 open_push s t x h = ap frames_of h ∙ frames_push s.frames.items x
@@ -100,10 +94,8 @@ open_none s xs e h = ap (λ z. m.asked (frames_of z)) (sym e) ∙ asked_none xs 
 -- how many are counted
 
 pub depth_push : (f : m.Frame) (fs : List m.Frame) → m.depth (f ∷ fs) ≡ m.depth fs + m.depth (f ∷ [])
-depth_push (m.Prefixed p s) fs = omega arith
-depth_push (m.Behind p o a) fs = omega arith
 depth_push m.Group fs = omega arith
-depth_push (m.Call c ps n) fs = omega arith
+depth_push f fs = omega arith
 
 onto_depth : (xs : List Frame) (fs : List m.Frame) → m.depth (frames_onto xs fs) ≤ length xs + m.depth fs
 unfolding frames_onto
@@ -111,10 +103,8 @@ onto_depth [] fs = omega arith
 onto_depth (x ∷ xs) fs = omega (arith, onto_depth xs (frame_of x ∷ fs), depth_push (frame_of x) fs, one_most (frame_of x))
   where
     one_most : (f : m.Frame) → m.depth (f ∷ []) ≤ 1
-    one_most (m.Prefixed p s) = omega arith
-    one_most (m.Behind p o a) = omega arith
     one_most m.Group = omega arith
-    one_most (m.Call c ps n) = omega arith
+    one_most f = omega arith
 
 pub depth_most : (xs : List Frame) → m.depth (frames_of xs) ≤ length xs
 unfolding frames_of
@@ -122,11 +112,3 @@ depth_most xs = omega (arith, onto_depth xs [])
 
 pub depth_after : (xs ys : List Frame) (x : Frame) → ys ≡ xs ++ (x ∷ []) → m.depth (frames_of ys) ≡ m.depth (frames_of xs) + m.depth (frame_of x ∷ [])
 depth_after xs ys x h = ap (λ z. m.depth (frames_of z)) h ∙ (ap m.depth (frames_push xs x) ∙ depth_push (frame_of x) (frames_of xs))
-
-pub depth_none : (xs : List Frame) → xs ≡ [] → 0 ≡ m.depth (frames_of xs)
-unfolding frames_of frames_onto
-depth_none xs h = sym (ap (λ z. m.depth (frames_of z)) h)
-
-pub depth_open : (s : Stack) (n : ℕ) → n ≡ m.depth (frames_of s.frames.items) → n ≡ m.depth (open_in s)
-unfolding open_in
-depth_open s n h = h

@@ -51,19 +51,19 @@ module _ {A : Type 0} {S : A → A → Type 0} {R : List A → List A → Type 0
         λ g. subst (λ l. R l (z ∷ ys)) (sym d) (b.1 (subst (S x) f g.0, subst (R (drop (i + 1) xs)) w g.1)),
       )
 
-  pub next : (P : Type 0) (xs ys : List A) (i : ℕ) (x y : A) → i < length xs → x ≡ get_or xs i x → 1 ≤ length ys → y ≡ get_or ys 0 y → P ↔ R (drop i xs) ys → S x y → P ↔ R (drop (i + 1) xs) (take (length ys - 1) (drop 1 ys))
-  next P xs ys i x y h e k f p s = let b = split xs ys i x y h e k f in (λ g. (b.0 (p.0 g)).1, λ g. p.1 (b.1 (s, g)))
+  pub next : {P : Type 0} (xs : List A) {ys : List A} {i : ℕ} {x y : A} → i < length xs → x ≡ get_or xs i x → 1 ≤ length ys → y ≡ get_or ys 0 y → P ↔ R (drop i xs) ys → S x y → P ↔ R (drop (i + 1) xs) (take (length ys - 1) (drop 1 ys))
+  next xs {ys = ys} {i = i} {x = x} {y = y} h e k f p s = let b = split xs ys i x y h e k f in (λ g. (b.0 (p.0 g)).1, λ g. p.1 (b.1 (s, g)))
 
-  pub apart : (P : Type 0) (xs ys : List A) (i : ℕ) (x y : A) (b : Bool) → i < length xs → x ≡ get_or xs i x → 1 ≤ length ys → y ≡ get_or ys 0 y → P ↔ R (drop i xs) ys → (b ≡ true) ↔ S x y → b ≡ false → (false ≡ true) ↔ P
-  apart P xs ys i x y b h e k f p s n = never (λ g. unequal (sym n ∙ s.1 ((split xs ys i x y h e k f).0 (p.0 g)).0))
+  pub apart : {P : Type 0} (xs : List A) {ys : List A} {i : ℕ} {x y : A} {b : Bool} → i < length xs → x ≡ get_or xs i x → 1 ≤ length ys → y ≡ get_or ys 0 y → P ↔ R (drop i xs) ys → (b ≡ true) ↔ S x y → b ≡ false → (false ≡ true) ↔ P
+  apart xs {ys = ys} {i = i} {x = x} {y = y} h e k f p s n = never (λ g. unequal (sym n ∙ s.1 ((split xs ys i x y h e k f).0 (p.0 g)).0))
 
-  pub short : (P : Type 0) (xs ys : List A) (i : ℕ) (x : A) → i < length xs → length ys < 1 → P ↔ R (drop i xs) ys → (false ≡ true) ↔ P
-  short P xs [] i x h k p = never (λ g. r.shorter (get_or xs i x) (drop (suc i) xs) (subst (λ l. R l []) (drop-cons xs i x h) (p.0 g)))
-  short P xs (y ∷ ys) i x h k p = absurd (omega arith)
+  pub short : {P : Type 0} (xs : List A) {ys : List A} {i : ℕ} {x : A} → i < length xs → x ≡ get_or xs i x → length ys < 1 → P ↔ R (drop i xs) ys → (false ≡ true) ↔ P
+  short xs {ys = []} {i = i} {x = x} h e k p = never (λ g. r.shorter (get_or xs i x) (drop (suc i) xs) (subst (λ l. R l []) (drop-cons xs i x h) (p.0 g)))
+  short xs {ys = y ∷ ys} h e k p = absurd (omega arith)
 
-  pub ended : (P : Type 0) (xs ys : List A) (i : ℕ) (b : Bool) → length xs ≤ i → b ≡ (length ys == 0) → P ↔ R (drop i xs) ys → (b ≡ true) ↔ P
-  ended P xs [] i b h e p = (λ g. p.1 (subst (λ l. R l []) (sym (drop_all i xs h)) r.none), λ g. e)
-  ended P xs (y ∷ ys) i b h e p = subst (λ z. (z ≡ true) ↔ P) (sym (e ∙ some_length y ys)) (never (λ g. r.longer y ys (subst (λ l. R l (y ∷ ys)) (drop_all i xs h) (p.0 g))))
+  pub ended : {P : Type 0} (xs : List A) {ys : List A} {i : ℕ} {b : Bool} → length xs ≤ i → b ≡ (length ys == 0) → P ↔ R (drop i xs) ys → (b ≡ true) ↔ P
+  ended xs {ys = []} {i = i} h e p = (λ g. p.1 (subst (λ l. R l []) (sym (drop_all i xs h)) r.none), λ g. e)
+  ended {P = P} xs {ys = y ∷ ys} {i = i} h e p = subst (λ z. (z ≡ true) ↔ P) (sym (e ∙ some_length y ys)) (never (λ g. r.longer y ys (subst (λ l. R l (y ∷ ys)) (drop_all i xs h) (p.0 g))))
 
 -- arguments
 
@@ -82,8 +82,8 @@ args_pairwise = record {
   both = λ x y xs ys. (λ h. ((cc, cc), cc), λ h. cc);
 }
 
-pub begun_args : (a b : ArgList) (xs ys : List Arg) → xs ≡ args_of a → ys ≡ args_of b → (bare_args (args_tree a) ≡ bare_args (args_tree b)) ↔ SameArgs xs ys
-begun_args a b xs ys e f =
+pub begun_args : (a b : ArgList) {xs ys : List Arg} → xs ≡ args_of a → ys ≡ args_of b → (bare_args (args_tree a) ≡ bare_args (args_tree b)) ↔ SameArgs xs ys
+begun_args a b {xs = xs} {ys = ys} e f =
     let x : bare_args (args_tree a) ≡ bare_args (m.args_of (args_list xs)) = ap bare_args (list_tree a ∙ ap (λ z. m.args_of (args_list z)) (sym e)) in
     let y : bare_args (args_tree b) ≡ bare_args (m.args_of (args_list ys)) = ap bare_args (list_tree b ∙ ap (λ z. m.args_of (args_list z)) (sym f)) in
     (λ h. sym x ∙ (h ∙ y), λ h. x ∙ (h ∙ sym y))

@@ -28,9 +28,6 @@ mutual
   unfolding bare tree_text
 
   bare_text : (e : Tree) → tree_text (bare e) ≡ tree_text e
-  bare_text (number p v) = refl
-  bare_text (text p t) = refl
-  bare_text (name p n) = refl
   bare_text (call p n ps) = ap (λ z. n ++ in_parentheses z) (bare_list true ps)
   bare_text (prefix p s e) = ap (λ z. prefix_text s ++ z) (operand (prefix_level s) e (bare_text e))
   bare_text (binary p o a b) =
@@ -40,6 +37,7 @@ mutual
   bare_text (method p e n ps) =
       ap (λ z. z ++ (codes "." ++ (n ++ in_parentheses (list_text true (bare_args ps))))) (operand 8 e (bare_text e))
       ∙ ap (λ z. placed_text (nat_le 8 (tree_level e)) (tree_text e) ++ (codes "." ++ (n ++ in_parentheses z))) (bare_list true ps)
+  bare_text e = refl
 
   bare_list : (first : Bool) (ps : Args) → list_text first (bare_args ps) ≡ list_text first ps
   bare_list first no_args = refl
@@ -48,9 +46,8 @@ mutual
       ∙ ap (λ z. comma_text first ++ (name_text n ++ (tree_text e ++ z))) (bare_list false ps)
 
 head_same : (h : Head) → head_text (bare_head h) ≡ head_text h
-head_same (LetHead p n) = refl
-head_same (ColumnHead p n) = refl
 head_same (ScreenHead p) = refl
+head_same h = refl
 
 bare_statements : (ss : List Statement) → statements_text (bare_script ss) ≡ statements_text ss
 unfolding bare_script statements_text

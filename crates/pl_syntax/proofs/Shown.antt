@@ -70,9 +70,9 @@ number_no_equals (pos n) rest h =
     within n h = grind (arith, nat_tests)
 number_no_equals (negsuc n) rest h = cc
 
-placed_no_equals : (b : Bool) (xs rest : List ℕ) → ((x : List ℕ) → Stops (λ c. c == 61) (xs ++ x)) → Stops (λ c. c == 61) (placed_text b xs ++ rest)
-placed_no_equals true xs rest f = subst (λ z. Stops (λ c. c == 61) z) (sym (append_assoc xs [] rest)) (f ([] ++ rest))
-placed_no_equals false xs rest f = refl
+placed_no_equals : (b : Bool) (xs ys rest : List ℕ) → ((x : List ℕ) → Stops (λ c. c == 61) (xs ++ x)) → Stops (λ c. c == 61) ((placed_text b xs ++ ys) ++ rest)
+placed_no_equals true xs ys rest f = subst (λ z. Stops (λ c. c == 61) z) (sym (append_assoc (xs ++ []) ys rest ∙ append_assoc xs [] (ys ++ rest))) (f (ys ++ rest))
+placed_no_equals false xs ys rest f = refl
 
 -- no operand begins with `=`
 tree_no_equals : (e : Tree) → tree_passes is_written e ≡ true → (rest : List ℕ) → Stops (λ b. b == 61) (tree_text e ++ rest)
@@ -83,34 +83,18 @@ tree_no_equals (name p n) h rest = name_no_equals n rest h
 tree_no_equals (call p n ps) h rest = let a = and_parts (is_name n) _ h in subst (λ z. Stops (λ b. b == 61) z) (sym (append_assoc n (in_parentheses (list_text true ps)) rest)) (name_no_equals n _ a.0)
 tree_no_equals (prefix p Minus e) h rest = refl
 tree_no_equals (prefix p Not e) h rest = refl
-tree_no_equals (binary p o a b) h rest =
-    let x = placed_text (leb (left_level o) (tree_level a)) (tree_text a) in
-    let y = binary_text o ++ placed_text (leb (right_level o) (tree_level b)) (tree_text b) in
-    subst (λ z. Stops (λ c. c == 61) z) (sym (append_assoc x y rest)) (placed_no_equals (leb (left_level o) (tree_level a)) (tree_text a) (y ++ rest) (tree_no_equals a (and_parts (tree_passes is_written a) _ h).0))
-tree_no_equals (member p e n) h rest =
-    let x = placed_text (leb 8 (tree_level e)) (tree_text e) in
-    let y = codes "." ++ n in
-    subst (λ z. Stops (λ c. c == 61) z) (sym (append_assoc x y rest)) (placed_no_equals (leb 8 (tree_level e)) (tree_text e) (y ++ rest) (tree_no_equals e (and_parts (tree_passes is_written e) _ h).0))
-tree_no_equals (method p e n ps) h rest =
-    let x = placed_text (leb 8 (tree_level e)) (tree_text e) in
-    let y = codes "." ++ (n ++ in_parentheses (list_text true ps)) in
-    subst (λ z. Stops (λ c. c == 61) z) (sym (append_assoc x y rest)) (placed_no_equals (leb 8 (tree_level e)) (tree_text e) (y ++ rest) (tree_no_equals e (and_parts (tree_passes is_written e) _ h).0))
+tree_no_equals (binary p o a b) h rest = placed_no_equals _ (tree_text a) _ rest (tree_no_equals a (and_parts (tree_passes is_written a) _ h).0)
+tree_no_equals (member p e n) h rest = placed_no_equals _ (tree_text e) _ rest (tree_no_equals e (and_parts (tree_passes is_written e) _ h).0)
+tree_no_equals (method p e n ps) h rest = placed_no_equals _ (tree_text e) _ rest (tree_no_equals e (and_parts (tree_passes is_written e) _ h).0)
 
 -- signs
 
 operator_shows : (o : BinarySign) (rest : List ℕ) (us : List Lexeme) (p : Place) → Shows rest us → Shows (binary_text o ++ rest) (mark p (t.Operator o) ∷ us)
-operator_shows Or rest us p k = blank_shows 32 _ _ refl (sign_shows 124 (32 ∷ rest) us p refl (λ m. refl) (blank_shows 32 rest us refl k))
-operator_shows And rest us p k = blank_shows 32 _ _ refl (sign_shows 38 (32 ∷ rest) us p refl (λ m. refl) (blank_shows 32 rest us refl k))
-operator_shows Less rest us p k = blank_shows 32 _ _ refl (sign_shows 60 (32 ∷ rest) us p refl (λ m. refl) (blank_shows 32 rest us refl k))
-operator_shows Greater rest us p k = blank_shows 32 _ _ refl (sign_shows 62 (32 ∷ rest) us p refl (λ m. refl) (blank_shows 32 rest us refl k))
-operator_shows Add rest us p k = blank_shows 32 _ _ refl (sign_shows 43 (32 ∷ rest) us p refl (λ m. refl) (blank_shows 32 rest us refl k))
-operator_shows Sub rest us p k = blank_shows 32 _ _ refl (sign_shows 45 (32 ∷ rest) us p refl (λ m. refl) (blank_shows 32 rest us refl k))
-operator_shows Mul rest us p k = blank_shows 32 _ _ refl (sign_shows 42 (32 ∷ rest) us p refl (λ m. refl) (blank_shows 32 rest us refl k))
-operator_shows Div rest us p k = blank_shows 32 _ _ refl (sign_shows 47 (32 ∷ rest) us p refl (λ m. refl) (blank_shows 32 rest us refl k))
 operator_shows LessEqual rest us p k = blank_shows 32 _ _ refl (pair_shows 60 (32 ∷ rest) us p refl (blank_shows 32 rest us refl k))
 operator_shows Equal rest us p k = blank_shows 32 _ _ refl (pair_shows 61 (32 ∷ rest) us p refl (blank_shows 32 rest us refl k))
 operator_shows GreaterEqual rest us p k = blank_shows 32 _ _ refl (pair_shows 62 (32 ∷ rest) us p refl (blank_shows 32 rest us refl k))
 operator_shows NotEqual rest us p k = blank_shows 32 _ _ refl (pair_shows 33 (32 ∷ rest) us p refl (blank_shows 32 rest us refl k))
+operator_shows o rest us p k = blank_shows 32 _ _ refl (sign_shows _ (32 ∷ rest) us p refl (λ m. refl) (blank_shows 32 rest us refl k))
 
 plain_sign : (rest : List ℕ) → false ≡ true → Stops (λ b. b == 61) rest
 plain_sign rest h = cc
@@ -132,12 +116,16 @@ regroup bs cs us vs e f k = subst (λ z. Shows z us) (sym e) (subst (λ z. Shows
 abbrev Operand : List ℕ → List Lexeme → Type 0
 Operand xs ts = (rest : List ℕ) (us : List Lexeme) → Clear rest → Shows rest us → Shows (xs ++ rest) (ts ++ us)
 
-placed_shows : (b : Bool) (xs : List ℕ) (ts : List Lexeme) → Operand xs ts → Operand (placed_text b xs) (placed b ts)
-placed_shows true xs ts f rest us c k = regroup ((xs ++ []) ++ rest) (xs ++ rest) (ts ++ us) (ts ++ us) (ap (λ z. z ++ rest) (append-nil xs)) refl (f rest us c k)
-placed_shows false xs ts f rest us c k =
+-- what stands in parentheses
+parens_show : (xs : List ℕ) (ts : List Lexeme) → Operand xs ts → (rest : List ℕ) (us : List Lexeme) → Shows rest us → Shows (in_parentheses xs ++ rest) ((here t.Open ∷ (ts ++ (here t.Close ∷ []))) ++ us)
+parens_show xs ts f rest us k =
     regroup (40 ∷ ((xs ++ (41 ∷ [])) ++ rest)) (40 ∷ (xs ++ (41 ∷ rest))) (here t.Open ∷ ((ts ++ (here t.Close ∷ [])) ++ us)) (here t.Open ∷ (ts ++ (here t.Close ∷ us)))
     (ap (λ z. 40 ∷ z) (append_assoc xs (41 ∷ []) rest)) (ap (λ z. here t.Open ∷ z) (append_assoc ts (here t.Close ∷ []) us))
     (open_shows (xs ++ (41 ∷ rest)) (ts ++ (here t.Close ∷ us)) (f (41 ∷ rest) (here t.Close ∷ us) (clear_at 41 rest refl refl refl) (close_shows rest us k)))
+
+placed_shows : (b : Bool) (xs : List ℕ) (ts : List Lexeme) → Operand xs ts → Operand (placed_text b xs) (placed b ts)
+placed_shows true xs ts f rest us c k = regroup ((xs ++ []) ++ rest) (xs ++ rest) (ts ++ us) (ts ++ us) (ap (λ z. z ++ rest) (append-nil xs)) refl (f rest us c k)
+placed_shows false xs ts f rest us c k = parens_show xs ts f rest us k
 
 -- the tokens of arguments, the first of them or more after a comma
 abbrev list_tokens : Bool → Args → List Lexeme
@@ -167,13 +155,6 @@ dot_shows n rest us p h s k = sign_shows 46 (n ++ rest) _ _ refl (plain_sign (n 
 clear_dot : (n rest : List ℕ) → is_name n ≡ true → Clear (46 ∷ (n ++ rest))
 clear_dot n rest h = (refl, (refl, λ e. name_begins n rest h))
 
--- arguments in their parentheses
-parens_show : (xs : List ℕ) (ts : List Lexeme) → Operand xs ts → (rest : List ℕ) (us : List Lexeme) → Shows rest us → Shows (in_parentheses xs ++ rest) ((here t.Open ∷ (ts ++ (here t.Close ∷ []))) ++ us)
-parens_show xs ts f rest us k =
-    regroup (40 ∷ ((xs ++ (41 ∷ [])) ++ rest)) (40 ∷ (xs ++ (41 ∷ rest))) (here t.Open ∷ ((ts ++ (here t.Close ∷ [])) ++ us)) (here t.Open ∷ (ts ++ (here t.Close ∷ us)))
-    (ap (λ z. 40 ∷ z) (append_assoc xs (41 ∷ []) rest)) (ap (λ z. here t.Open ∷ z) (append_assoc ts (here t.Close ∷ []) us))
-    (open_shows (xs ++ (41 ∷ rest)) (ts ++ (here t.Close ∷ us)) (f (41 ∷ rest) (here t.Close ∷ us) (clear_at 41 rest refl refl refl) (close_shows rest us k)))
-
 member_shows : (xs : List ℕ) (ts : List Lexeme) (p : Place) (n : List ℕ) → Operand xs ts → is_name n ≡ true → Operand (xs ++ (codes "." ++ n)) (ts ++ (here t.Dot ∷ (mark p (t.Name n) ∷ [])))
 member_shows xs ts p n f h rest us c k =
     regroup ((xs ++ (46 ∷ n)) ++ rest) (xs ++ (46 ∷ (n ++ rest))) ((ts ++ (here t.Dot ∷ (mark p (t.Name n) ∷ []))) ++ us) (ts ++ (here t.Dot ∷ (mark p (t.Name n) ∷ us)))
@@ -195,18 +176,8 @@ binary_shows o p xs ys ts vs f g rest us c k =
     (f (binary_text o ++ (ys ++ rest)) (mark p (t.Operator o) ∷ (vs ++ us)) (blank_first o (ys ++ rest)) (operator_shows o (ys ++ rest) (vs ++ us) p (g rest us c k)))
   where
     blank_first : (o : BinarySign) (x : List ℕ) → Clear (binary_text o ++ x)
-    blank_first Or x = clear_at 32 (124 ∷ (32 ∷ x)) refl refl refl
-    blank_first And x = clear_at 32 (38 ∷ (32 ∷ x)) refl refl refl
-    blank_first Less x = clear_at 32 (60 ∷ (32 ∷ x)) refl refl refl
-    blank_first LessEqual x = clear_at 32 (60 ∷ (61 ∷ (32 ∷ x))) refl refl refl
-    blank_first Greater x = clear_at 32 (62 ∷ (32 ∷ x)) refl refl refl
-    blank_first GreaterEqual x = clear_at 32 (62 ∷ (61 ∷ (32 ∷ x))) refl refl refl
-    blank_first Equal x = clear_at 32 (61 ∷ (61 ∷ (32 ∷ x))) refl refl refl
-    blank_first NotEqual x = clear_at 32 (33 ∷ (61 ∷ (32 ∷ x))) refl refl refl
-    blank_first Add x = clear_at 32 (43 ∷ (32 ∷ x)) refl refl refl
-    blank_first Sub x = clear_at 32 (45 ∷ (32 ∷ x)) refl refl refl
-    blank_first Mul x = clear_at 32 (42 ∷ (32 ∷ x)) refl refl refl
-    blank_first Div x = clear_at 32 (47 ∷ (32 ∷ x)) refl refl refl
+    blank_first Or x = (refl, (refl, λ e. absurd (no_point 32 refl e)))
+    blank_first o x = (refl, (refl, λ e. absurd (no_point 32 refl e)))
 
 prefixed_shows : (s : PrefixSign) (p : Place) (xs : List ℕ) (ts : List Lexeme) → Operand xs ts → Operand (prefix_text s ++ xs) (mark p (sign_token s) ∷ ts)
 prefixed_shows s p xs ts f rest us c k = regroup ((prefix_text s ++ xs) ++ rest) (prefix_text s ++ (xs ++ rest)) _ _ (append_assoc (prefix_text s) xs rest) refl (prefix_shows s (xs ++ rest) (ts ++ us) p (f rest us c k))

@@ -11,34 +11,21 @@ use Rattle.pl_tokens.proofs.Reading.{whole_read, whole_only}
 use Rattle.pl_syntax.specs.Spells.{Parsed, Spells, FirstFault}
 use Rattle.pl_syntax.specs.Said.{Said, Spelled, Faulty, said_by, said}
 
-same_script : {a b : Parsed} → Spelled a ≡ Spelled b → a ≡ b
-same_script h = cc
-
-same_kind : {k j : Kind} {p q : Place} → Faulty k p ≡ Faulty j q → k ≡ j
-same_kind h = cc
-
-same_place : {k j : Kind} {p q : Place} → Faulty k p ≡ Faulty j q → p ≡ q
-same_place h = cc
-
-no_fault : {a : Parsed} {k : Kind} {p : Place} → Faulty k p ≡ Spelled a → ⊥
-no_fault h = cc
-
-no_script : {a : Parsed} {k : Kind} {p : Place} → Spelled a ≡ Faulty k p → ⊥
-no_script h = cc
-
 -- a verdict that is right, and what is said by it
 spells_by : (bytes : List ℕ) (ts : List Lexeme) (tail : Tail) → Read start bytes ts tail → (v : Verdict) → Right v ts tail → (s : Parsed) → said_by (g.version_told ts) v tail ≡ Spelled s → Spells bytes s
 spells_by bytes ts (AtEnd p) x (Good ss) r s h =
-    let e : record { version = g.version_told ts; statements = ss; end = p } ≡ s = same_script h in
+    let e : record { version = g.version_told ts; statements = ss; end = p } ≡ s = cc in
     subst (λ z. Spells bytes z) e (record { tokens = ts; reads = x; short = r.short; derives = r.derives; version = refl })
-spells_by bytes ts (AtBad p) x (Good ss) r s h = absurd (no_fault h)
-spells_by bytes ts tail x (Fault k p) r s h = absurd (no_fault h)
+spells_by bytes ts (AtBad p) x (Good ss) r s h = absurd cc
+spells_by bytes ts tail x (Fault k p) r s h = absurd cc
 
 fault_by : (bytes : List ℕ) (ts : List Lexeme) (tail : Tail) → Read start bytes ts tail → (v : Verdict) → Right v ts tail → (k : Kind) (p : Place) → said_by (g.version_told ts) v tail ≡ Faulty k p → FirstFault bytes k p
-fault_by bytes ts (AtEnd q) x (Good ss) r k p h = absurd (no_script h)
+fault_by bytes ts (AtEnd q) x (Good ss) r k p h = absurd cc
 fault_by bytes ts (AtBad q) x (Good ss) r k p h = absurd (let e : AtBad q ≡ AtEnd r.end = r.ended in cc)
 fault_by bytes ts tail x (Fault j q) r k p h =
-    subst (λ z. FirstFault bytes z p) (same_kind h) (subst (λ z. FirstFault bytes j z) (same_place h) (record { tokens = ts; tail = tail; reads = x; first = r }))
+    let kind : j ≡ k = cc in
+    let place : q ≡ p = cc in
+    subst (λ z. FirstFault bytes z p) kind (subst (λ z. FirstFault bytes j z) place (record { tokens = ts; tail = tail; reads = x; first = r }))
 
 pub said-spells : (bytes : List ℕ) (s : Parsed) → said bytes ≡ Spelled s → Spells bytes s
 unfolding said

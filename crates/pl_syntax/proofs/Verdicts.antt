@@ -1,5 +1,5 @@
 -- The verdict over a text, token by token, and what it says of the bytes.
-use Rattle.std.proofs.Common.{◌≡◌, ℕ, zero, suc, ◌==◌, Bool, true, false, cond, leb, List, [], ◌∷◌, Some, Result, Ok, Err, refl, sym, ap, ap₂, subst, ◌∙◌, IfOk, IfErr, arith}
+use Rattle.std.proofs.Common.{◌≡◌, ℕ, zero, suc, ◌==◌, Bool, true, false, cond, leb, List, [], ◌∷◌, Some, Result, Ok, Err, refl, sym, ap, subst, ◌∙◌, IfOk, IfErr, arith}
 use Rattle.std.proofs.lemmas.Bool.Decides.{nat_tests}
 use Rattle.pl_grammar.specs.declared.Place.{Place}
 use Rattle.pl_grammar.specs.Machine.{Stop, Stuck, Deep}
@@ -41,9 +41,8 @@ unfolding verdict
 verdict_step n s t ts tail = by_tests (leb most_tokens n) (too_large t) (script_step most_depth t s) (λ s. verdict (counted n t) s ts tail)
   where
     by_step : (r : Result g.Stage Stop) (k : g.Stage → Verdict) → step_verdict (place_of t) r k ≡ after_step (place_of t) (stepped r) k
-    by_step (Ok x) k = refl
-    by_step (Err Stuck) k = refl
     by_step (Err Deep) k = refl
+    by_step r k = refl
 
     by_tests : (a b : Bool) (r : Result g.Stage Stop) (k : g.Stage → Verdict) → cond a (Fault f.LongStatement (place_of t)) (cond b (Fault f.NumberTooLarge (place_of t)) (step_verdict (place_of t) r k)) ≡ after_step (place_of t) (cond a (Err f.LongStatement) (cond b (Err f.NumberTooLarge) (stepped r))) k
     by_tests true b r k = refl
@@ -69,15 +68,6 @@ same_good h = cc
 same_end : {p q : Place} → AtEnd p ≡ AtEnd q → p ≡ q
 same_end h = cc
 
-not_good : {a : List g.Statement} {k : Kind} {p : Place} → Good a ≡ Fault k p → ⊥
-not_good h = cc
-
-same_kind : {k j : Kind} {p q : Place} → Fault k p ≡ Fault j q → k ≡ j
-same_kind h = cc
-
-same_place : {k j : Kind} {p q : Place} → Fault k p ≡ Fault j q → p ≡ q
-same_place h = cc
-
 abbrev made : ℕ → List g.Statement → Place → Parsed
 made n ss p = record { version = n; statements = ss; end = p }
 
@@ -88,7 +78,7 @@ answers_script : (r : Result Script SyntaxError) (x : Parsed) → HasVersion r x
 answers_script (Ok s) x v h = same_made v (sym (same_good h.0)) (sym (same_end h.1))
 answers_script (Err TooLong) x v h = absurd h
 answers_script (Err Memory) x v h = tt
-answers_script (Err e) x v h = absurd (not_good h)
+answers_script (Err e) x v h = absurd cc
 
 pub spelled_answers : (bytes : List ℕ) (r : Result Script SyntaxError) → Outcome bytes r → (x : Parsed) → Spells bytes x → AnswersScript r x
 spelled_answers bytes r o x s =
@@ -98,20 +88,13 @@ spelled_answers bytes r o x s =
     answers_script r x n (subst (λ z. Gives r (AtEnd x.end) z) v (gives_at bytes r o s.tokens (AtEnd x.end) s.reads))
 
 error_at : (e : Kind) (q : Place) (k : Kind) (p : Place) → Fault k p ≡ Fault e q → error_of e q ≡ error_of k p
-error_at e q k p h = sym (ap₂ error_of (same_kind h) (same_place h))
-
-no_fault : {a : List g.Statement} {k : Kind} {p : Place} → Fault k p ≡ Good a → ⊥
-no_fault h = cc
+error_at e q k p h = cc
 
 answers_fault : (r : Result Script SyntaxError) (k : Kind) (p : Place) (tail : Tail) → Gives r tail (Fault k p) → AnswersFault r k p
-answers_fault (Ok s) k p tail h = no_fault h.0
-answers_fault (Err (BadByte q)) k p tail h = error_at f.BadByte q k p h
-answers_fault (Err (Unexpected q)) k p tail h = error_at f.Unexpected q k p h
-answers_fault (Err (TooDeep q)) k p tail h = error_at f.TooDeep q k p h
-answers_fault (Err (NumberTooLarge q)) k p tail h = error_at f.NumberTooLarge q k p h
-answers_fault (Err (LongStatement q)) k p tail h = error_at f.LongStatement q k p h
+answers_fault (Ok s) k p tail h = let e = h.0 in cc
 answers_fault (Err TooLong) k p tail h = absurd h
 answers_fault (Err Memory) k p tail h = tt
+answers_fault (Err e) k p tail h = error_at _ _ k p h
 
 pub fault_answers : (bytes : List ℕ) (r : Result Script SyntaxError) → Outcome bytes r → (k : Kind) (p : Place) → FirstFault bytes k p → AnswersFault r k p
 fault_answers bytes r o k p x = answers_fault r k p x.tail (subst (λ z. Gives r x.tail z) (first_only x.first) (gives_at bytes r o x.tokens x.tail x.reads))
@@ -121,13 +104,9 @@ first_of bytes ts tail k p x h = record { tokens = ts; tail = tail; reads = x; f
 
 pub cause : (bytes : List ℕ) (r : Result Script SyntaxError) → Outcome bytes r → IfErr r (IsCause bytes)
 cause bytes (Ok s) o = tt
-cause bytes (Err (BadByte p)) o = first_of bytes o.tokens o.tail f.BadByte p o.reads o.gives
-cause bytes (Err (Unexpected p)) o = first_of bytes o.tokens o.tail f.Unexpected p o.reads o.gives
-cause bytes (Err (TooDeep p)) o = first_of bytes o.tokens o.tail f.TooDeep p o.reads o.gives
-cause bytes (Err (NumberTooLarge p)) o = first_of bytes o.tokens o.tail f.NumberTooLarge p o.reads o.gives
-cause bytes (Err (LongStatement p)) o = first_of bytes o.tokens o.tail f.LongStatement p o.reads o.gives
 cause bytes (Err TooLong) o = absurd o.gives
 cause bytes (Err Memory) o = tt
+cause bytes (Err e) o = first_of bytes o.tokens o.tail _ _ o.reads o.gives
 
 -- the bytes decide the script
 pub one_parsed : (bytes : List ℕ) (a b : Parsed) → Spells bytes a → Spells bytes b → a ≡ b
@@ -148,8 +127,8 @@ told_next : (r : Place) (t : Token) (ts : List Lexeme) → g.version_told (mark 
 unfolding g.version_told
 told_next r t ts = refl
 
-pub on_token : (bytes bs rest : List ℕ) (p q r : Place) (t : Token) (n k v u : ℕ) (s x : g.Stage) → Goes bytes p bs n v s → Begins p bs r t q rest → token_step n (mark r t) s ≡ Ok x → k ≡ counted n (mark r t) → u ≡ g.version_or v (g.token_version t) → Goes bytes q rest k u x
-on_token bytes bs rest p q r t n k v u s x goes b e size version ts tail y =
+pub on_token : {bytes bs rest : List ℕ} {p q r : Place} {t : Token} {n k v u : ℕ} {s x : g.Stage} → Goes bytes p bs n v s → Begins p bs r t q rest → token_step n (mark r t) s ≡ Ok x → k ≡ counted n (mark r t) → u ≡ g.version_or v (g.token_version t) → Goes bytes q rest k u x
+on_token {r = r} {t = t} {n = n} {v = v} {s = s} {x = x} goes b e size version ts tail y =
     let c = goes (mark r t ∷ ts) tail (b.reads ts tail y) in
     record {
       tokens = c.tokens;
@@ -158,8 +137,8 @@ on_token bytes bs rest p q r t n k v u s x goes b e size version ts tail y =
       told = c.told ∙ (ap (g.version_or v) (told_next r t ts) ∙ (or_or v (g.token_version t) (g.version_told ts) ∙ ap (λ m. g.version_or m (g.version_told ts)) (sym version)));
     }
 
-pub at_step_fault : (bytes bs rest : List ℕ) (p q r : Place) (t : Token) (n k v u : ℕ) (s : g.Stage) (e : SyntaxError) → Goes bytes p bs n v s → Begins p bs r t q rest → Steps (Err e) (token_step n (mark r t) s) k u r → Outcome bytes (Err e)
-at_step_fault bytes bs rest p q r t n k v u s e goes b h =
+pub at_step_fault : {bytes bs rest : List ℕ} {p q r : Place} {t : Token} {n v : ℕ} {s : g.Stage} {e : SyntaxError} → (k u : ℕ) → Goes bytes p bs n v s → Begins p bs r t q rest → Steps (Err e) (token_step n (mark r t) s) k u r → Outcome bytes (Err e)
+at_step_fault {rest = rest} {q = q} {r = r} {t = t} {n = n} {s = s} {e = e} k u goes b h =
     let y = is_read q rest in
     let c = goes (mark r t ∷ y.tokens) y.tail (b.reads y.tokens y.tail y.reads) in
     record { tokens = c.tokens; tail = y.tail; reads = c.reads; gives = of_error e c.tokens y.tokens y.tail (c.same ∙ verdict_step n s (mark r t) y.tokens y.tail) h; version = tt }
@@ -169,25 +148,22 @@ at_step_fault bytes bs rest p q r t n k v u s e goes b h =
 
     of_error : (e : SyntaxError) (us ts : List Lexeme) (tail : Tail) → verdict 0 g.Opening us tail ≡ after_step r (token_step n (mark r t) s) (λ s. verdict (counted n (mark r t)) s ts tail) → Steps (Err e) (token_step n (mark r t) s) k u r → Gives (Err e) tail (verdict 0 g.Opening us tail)
     of_error (BadByte p) us ts tail v h = absurd h
-    of_error (Unexpected p) us ts tail v h = of_kind f.Unexpected p us ts tail v h.0 h.1
-    of_error (TooDeep p) us ts tail v h = of_kind f.TooDeep p us ts tail v h.0 h.1
-    of_error (NumberTooLarge p) us ts tail v h = of_kind f.NumberTooLarge p us ts tail v h.0 h.1
-    of_error (LongStatement p) us ts tail v h = of_kind f.LongStatement p us ts tail v h.0 h.1
     of_error TooLong us ts tail v h = absurd h
     of_error Memory us ts tail v h = tt
+    of_error e us ts tail v h = of_kind _ _ us ts tail v h.0 h.1
 
-pub at_bad : (bytes bs : List ℕ) (p r : Place) (n v : ℕ) (s : g.Stage) → Goes bytes p bs n v s → Read p bs [] (AtBad r) → Outcome bytes (Err (BadByte r))
+pub at_bad : {bytes bs : List ℕ} {p r : Place} {n v : ℕ} {s : g.Stage} → Goes bytes p bs n v s → Read p bs [] (AtBad r) → Outcome bytes (Err (BadByte r))
 unfolding verdict
-at_bad bytes bs p r n v s goes x = let c = goes [] (AtBad r) x in record { tokens = c.tokens; tail = AtBad r; reads = c.reads; gives = c.same; version = tt }
+at_bad {r = r} goes x = let c = goes [] (AtBad r) x in record { tokens = c.tokens; tail = AtBad r; reads = c.reads; gives = c.same; version = tt }
 
 pub or_nothing : (v : ℕ) → g.version_or v (g.version_told []) ≡ v
 unfolding g.version_told
 or_nothing zero = refl
 or_nothing (suc v) = let some : (suc v == 0) ≡ false = grind (arith, nat_tests) in rw some refl
 
-pub at_end : (bytes bs : List ℕ) (p q : Place) (n v : ℕ) (s : g.Stage) (r : Result Script SyntaxError) → Goes bytes p bs n v s → Read p bs [] (AtEnd q) → Ends r (g.script_finish s) q → HasVersion r v → Outcome bytes r
+pub at_end : {bytes bs : List ℕ} {p q : Place} {n v : ℕ} {s : g.Stage} {r : Result Script SyntaxError} → Goes bytes p bs n v s → Read p bs [] (AtEnd q) → Ends r (g.script_finish s) q → HasVersion r v → Outcome bytes r
 unfolding verdict
-at_end bytes bs p q n v s r goes x h version =
+at_end {q = q} {v = v} {s = s} {r = r} goes x h version =
     let c = goes [] (AtEnd q) x in
     record { tokens = c.tokens; tail = AtEnd q; reads = c.reads; gives = of_result r c.tokens c.same h; version = subst (HasVersion r) (sym (c.told ∙ or_nothing v)) version }
   where
@@ -196,26 +172,26 @@ at_end bytes bs p q n v s r goes x h version =
     of_result (Err (Unexpected p)) us v h = v ∙ (ap (λ o. finish_verdict o q) h.0 ∙ ap (Fault f.Unexpected) (sym h.1))
     of_result (Err e) us v h = absurd h
 
-pub out_of_memory : (bytes : List ℕ) (r : Result Script SyntaxError) → r ≡ Err Memory → Outcome bytes r
-out_of_memory bytes r e = let y = is_read start bytes in subst (λ z. Outcome bytes z) (sym e) (record { tokens = y.tokens; tail = y.tail; reads = y.reads; gives = tt; version = tt })
+pub out_of_memory : (bytes : List ℕ) → Outcome bytes (Err Memory)
+out_of_memory bytes = let y = is_read start bytes in record { tokens = y.tokens; tail = y.tail; reads = y.reads; gives = tt; version = tt }
 
 -- what ends is a script
-ends_spelled : (bytes bs : List ℕ) (p q : Place) (n v : ℕ) (s : g.Stage) → (c : Continues bytes [] (AtEnd q) n v s) → (ss : List g.Statement) → g.script_finish s ≡ Some ss → Spelled c.tokens (AtEnd q) ss
+ends_spelled : {bytes : List ℕ} {q : Place} {n v : ℕ} {s : g.Stage} → (c : Continues bytes [] (AtEnd q) n v s) → {ss : List g.Statement} → g.script_finish s ≡ Some ss → Spelled c.tokens (AtEnd q) ss
 unfolding verdict
-ends_spelled bytes bs p q n v s c ss e =
+ends_spelled {q = q} c {ss = ss} e =
     let good : verdict 0 g.Opening c.tokens (AtEnd q) ≡ Good ss = c.same ∙ ap (λ o. finish_verdict o q) e in
     subst (λ v. Right v c.tokens (AtEnd q)) good (right_of c.tokens (AtEnd q))
 
 -- it is sound
-pub end_sound : (bytes bs : List ℕ) (p q : Place) (n v : ℕ) (s : g.Stage) → Goes bytes p bs n v s → Read p bs [] (AtEnd q) → (ss : List g.Statement) → g.script_finish s ≡ Some ss → are_sound is_written ss ≡ true
-end_sound bytes bs p q n v s goes x ss e =
+pub end_sound : {bytes bs : List ℕ} {p q : Place} {n v : ℕ} {s : g.Stage} → Goes bytes p bs n v s → Read p bs [] (AtEnd q) → (ss : List g.Statement) → g.script_finish s ≡ Some ss → are_sound is_written ss ≡ true
+end_sound {q = q} goes x ss e =
     let c = goes [] (AtEnd q) x in
-    let y = ends_spelled bytes bs p q n v s c ss e in
+    let y = ends_spelled c e in
     script_sound is_written y.derives y.short (read_written c.reads)
 
 -- and of a version of the language
-pub end_known : (bytes bs : List ℕ) (p q : Place) (n v : ℕ) (s : g.Stage) → Goes bytes p bs n v s → Read p bs [] (AtEnd q) → (ss : List g.Statement) → g.script_finish s ≡ Some ss → g.is_known v ≡ true
-end_known bytes bs p q n v s goes x ss e =
+pub end_known : {bytes bs : List ℕ} {p q : Place} {n v : ℕ} {s : g.Stage} → Goes bytes p bs n v s → Read p bs [] (AtEnd q) → (ss : List g.Statement) → g.script_finish s ≡ Some ss → g.is_known v ≡ true
+end_known {q = q} {v = v} goes x ss e =
     let c = goes [] (AtEnd q) x in
-    let y = ends_spelled bytes bs p q n v s c ss e in
+    let y = ends_spelled c e in
     ap g.is_known (sym (c.told ∙ or_nothing v)) ∙ script_known y.derives

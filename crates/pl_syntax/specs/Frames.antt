@@ -7,6 +7,7 @@ use Rattle.pl_syntax.specs.declared.tree.Arg.{Arg}
 use Rattle.pl_syntax.specs.declared.tree.Expr.{Expr}
 use Rattle.pl_syntax.specs.declared.stack.Callee.{Callee}
 use Rattle.pl_syntax.specs.declared.stack.Callee.TheVariants.{Function, Method}
+use Rattle.pl_syntax.specs.declared.stack.Called.{Called}
 use Rattle.pl_syntax.specs.declared.stack.Frame.{Frame}
 use Rattle.pl_syntax.specs.declared.stack.Frame.TheVariants.{Prefixed, Behind, Group, Call}
 use Rattle.pl_syntax.specs.declared.machine.Mode.{Mode}
@@ -24,11 +25,14 @@ arg_of a = record { name = a.name; tree = plain a.expr }
 abbrev pub args_list : List Arg → List m.Arg
 args_list ps = map arg_of ps
 
+abbrev pub call_of : Called → m.Frame
+call_of c = m.Call (callee_of c.callee) (args_list c.args.items) c.name
+
 abbrev pub frame_of : Frame → m.Frame
 frame_of (Prefixed p s) = m.Prefixed p s
 frame_of (Behind p s left) = m.Behind p s (plain left.value)
 frame_of Group = m.Group
-frame_of (Call c ps n) = m.Call (callee_of c) (args_list ps.items) n
+frame_of (Call c) = call_of c
 
 -- the innermost first, where the vector has it last
 unfoldable pub frames_onto : List Frame → List m.Frame → List m.Frame

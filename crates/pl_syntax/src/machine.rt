@@ -1,16 +1,18 @@
 //! The machine: what is open, and each token's move.
 
-ghost use Rattle.std.specs.Prelude.{◌≡◌, ◌++◌, ◌∷◌, [], IfOk, IfErr};
-ghost use Rattle.pl_grammar.specs.Machine.{join, close, operand, is_wanted, literal, named_move, sign_move, operator_move, dot_move, callee, open_move, applied, shut, shut_empty, next_arg, name_arg, close_move, comma_move, assign_move, move};
+ghost use Rattle.std.specs.Prelude.{◌≡◌, ◌++◌, ◌∷◌, [], Some, None, IfOk, IfErr, OnOk};
+ghost use Rattle.pl_grammar.specs.Machine.{join, close, operand, is_wanted, literal, named_move, sign_move, operator_move, behind, at, dot_move, callee, open_move, applied, shut, shut_empty, next_arg, name_arg, close_move, comma_move, assign_move, move};
+ghost use Rattle.pl_grammar.specs.Machine as m;
 ghost use Rattle.pl_grammar.specs.Tree.{mark};
 ghost use Rattle.pl_syntax.specs.Plain.{plain};
 ghost use Rattle.pl_syntax.specs.Open.{open_in};
-ghost use Rattle.pl_syntax.specs.Frames.{frame_of, mode_of, shown, shown_callee, callee_of, args_list, Moves};
+ghost use Rattle.pl_syntax.specs.Frames.{frame_of, call_of, mode_of, shown, shown_callee, callee_of, args_list, Moves};
 ghost use Rattle.pl_tokens.specs.Code.{token_of};
 ghost use Rattle.pl_syntax.specs.declared.machine.MoveError.TheVariants.{Memory};
 
 use crate::stack::{
-    Callee, Frame, Stack, frame_level_of, is_ended, left_level_of, level_of, prefix_level_of,
+    Called, Callee, Frame, Stack, frame_level_of, is_ended, left_level_of, level_of,
+    prefix_level_of,
 };
 use crate::tree::{Arg, ArgList, Expr, ExprNode};
 use pl_grammar::{BinarySign, Place, PrefixSign};
@@ -44,7 +46,7 @@ pub(crate) enum Mode {
 }
 
 /// Why there is no move.
-#[derive(Debug, Drop)]
+#[derive(Drop)]
 pub(crate) enum MoveError {
     Unexpected,
     Memory,
@@ -66,26 +68,38 @@ impl<T: Drop> From<AllocFailed<T>> for MoveError {
     }
 }
 
+fn boxed(alloc: Global, expr: Expr) -> Result<Box<Expr>, AllocError>
+    ensures { IfOk result (λ boxed. boxed.value ≡ expr) }
+{
+    Ok(Box::new(alloc, expr)?)
+}
+
 // The construct with its operand.
 fn joined(alloc: Global, frame: Frame, expr: Expr) -> Result<Expr, AllocError>
     ensures { IfOk result (λ joined. plain joined ≡ join (frame_of frame) (plain expr)) }
 {
     match frame {
         Frame::Prefixed { place, sign } => {
-            let operand = Box::new(alloc, expr)?;
+            let operand = boxed(alloc, expr)?;
             Ok(Expr {
                 place,
                 node: ExprNode::Prefix { sign, operand },
             })
         }
-        Frame::Behind { place, sign, left } => {
-            let right = Box::new(alloc, expr)?;
-            Ok(Expr {
+        Frame::Behind { place, sign, left } => match boxed(alloc, expr) {
+            Ok(right) => Ok(Expr {
                 place,
                 node: ExprNode::Binary { sign, left, right },
-            })
+            }),
+            Err(error) => {
+                drop(left);
+                Err(error)
+            }
+        },
+        frame => {
+            drop(frame);
+            Ok(expr)
         }
-        Frame::Group | Frame::Call { .. } => Ok(expr),
     }
 }
 
@@ -111,8 +125,13 @@ pub(crate) fn end_constructs(
     let mut expr = operand;
     while let Some(frame) = stack.pop() {
         if !is_ended(&frame, level) {
-            stack.push(frame)?;
-            return Ok(Ended { height, expr });
+            return match stack.push(frame) {
+                Ok(()) => Ok(Ended { height, expr }),
+                Err(_) => {
+                    drop(expr);
+                    Err(MoveError::Memory)
+                }
+            };
         }
         height = frame_level_of(&frame);
         expr = joined(alloc, frame, expr)?;
@@ -153,7 +172,24 @@ pub(crate) fn operand_of(mode: Mode) -> Option<Expr>
             })
         }
         Mode::Given { expr } => Some(expr),
-        Mode::Wanted | Mode::ArgWanted | Mode::Dotted { .. } => None,
+        mode => {
+            drop(mode);
+            None
+        }
+    }
+}
+
+// One construct more is open, and the machine stands so.
+fn opened(stack: &mut Stack, frame: Frame, mode: Mode) -> Result<Mode, MoveError>
+    ensures { Moves result (open_in stack.new)
+        (Some (at (mode_of mode) (frame_of frame ∷ open_in stack.old))) }
+{
+    match stack.push(frame) {
+        Ok(()) => Ok(mode),
+        Err(_) => {
+            drop(mode);
+            Err(MoveError::Memory)
+        }
     }
 }
 
@@ -202,9 +238,29 @@ fn at_sign(
     ensures { Moves result (open_in stack.new) (sign_move place sign wanted (open_in stack.old)) }
 {
     if wanted && stack.asked() <= prefix_level_of(sign) {
-        stack.push(Frame::Prefixed { place, sign })?;
-        Ok(Mode::Wanted)
+        opened(stack, Frame::Prefixed { place, sign }, Mode::Wanted)
     } else {
+        Err(MoveError::Unexpected)
+    }
+}
+
+// A binary sign behind its left operand.
+fn put_behind(
+    alloc: Global,
+    stack: &mut Stack,
+    ended: Ended,
+    place: Place,
+    sign: BinarySign,
+) -> Result<Mode, MoveError>
+    ensures { Moves result (open_in stack.new) (behind place sign
+        (record { height = ended.height; tree = plain ended.expr; frames = (open_in stack.old) })) }
+{
+    let Ended { height, expr } = ended;
+    if left_level_of(sign) <= height {
+        let left = boxed(alloc, expr)?;
+        opened(stack, Frame::Behind { place, sign, left }, Mode::Wanted)
+    } else {
+        drop(expr);
         Err(MoveError::Unexpected)
     }
 }
@@ -223,15 +279,8 @@ fn at_operator(
     let wanted = wants(&mode);
     match operand_of(mode) {
         Some(expr) => {
-            let Ended { height, expr } = end_constructs(alloc, stack, level_of(sign), expr)?;
-            if left_level_of(sign) <= height {
-                let left = Box::new(alloc, expr)?;
-                stack.push(Frame::Behind { place, sign, left })?;
-                Ok(Mode::Wanted)
-            } else {
-                drop(expr);
-                Err(MoveError::Unexpected)
-            }
+            let ended = end_constructs(alloc, stack, level_of(sign), expr)?;
+            put_behind(alloc, stack, ended, place, sign)
         }
         None => match sign {
             BinarySign::Sub => at_sign(stack, wanted, place, PrefixSign::Minus),
@@ -246,7 +295,7 @@ fn at_dot(alloc: Global, stack: &mut Stack, mode: Mode) -> Result<Mode, MoveErro
 {
     match operand_of(mode) {
         Some(expr) => Ok(Mode::Dotted {
-            object: Box::new(alloc, expr)?,
+            object: boxed(alloc, expr)?,
         }),
         None => Err(MoveError::Unexpected),
     }
@@ -283,26 +332,27 @@ fn at_open(alloc: Global, stack: &mut Stack, mode: Mode) -> Result<Mode, MoveErr
 {
     if wants(&mode) {
         drop(mode);
-        stack.push(Frame::Group)?;
-        return Ok(Mode::Wanted);
+        return opened(stack, Frame::Group, Mode::Wanted);
     }
     match callee_of_mode(mode) {
         Some(callee) => {
-            stack.push(Frame::Call {
+            let call = Called {
                 callee,
                 args: Vec::new(alloc),
                 name: None,
-            })?;
-            Ok(Mode::ArgWanted)
+            };
+            opened(stack, Frame::Call(call), Mode::ArgWanted)
         }
         None => Err(MoveError::Unexpected),
     }
 }
 
-// The call of the callee with its arguments.
-fn call_of(callee: Callee, args: Vec<Arg>) -> Expr
-    ensures { plain result ≡ applied (callee_of callee) (args_list args.items) }
+// The call with the arguments that it has.
+fn called(call: Called) -> Expr
+    ensures { plain result ≡ applied (callee_of call.callee) (args_list call.args.items) }
 {
+    let Called { callee, args, name } = call;
+    drop(name);
     let args = ArgList { args };
     match callee {
         Callee::Function { place, name } => Expr {
@@ -326,15 +376,29 @@ fn call_of(callee: Callee, args: Vec<Arg>) -> Expr
     }
 }
 
-// The arguments with one more.
-fn with_arg(args: Vec<Arg>, arg: Arg) -> Result<Vec<Arg>, MoveError>
-    ensures ok { IfOk result (λ more. more.items ≡ args.items ++ arg ∷ []) }
+fn push_arg(args: &mut Vec<Arg>, arg: Arg) -> Result<(), AllocError>
+    ensures { OnOk result (args.new.items ≡ args.old.items ++ arg ∷ []) }
+{
+    args.push(arg)?;
+    Ok(())
+}
+
+// The call with one argument more, which is this.
+fn with_arg(call: Called, expr: Expr) -> Result<Called, MoveError>
+    ensures ok { IfOk result (λ more. call_of more ≡ m.Call (callee_of call.callee)
+        (args_list call.args.items ++ record { name = call.name; tree = plain expr } ∷ []) None) }
     ensures err { IfErr result (λ e. e ≡ Memory) }
 {
+    let Called { callee, args, name } = call;
     let mut args = args;
-    match args.push(arg) {
-        Ok(()) => Ok(args),
+    match push_arg(&mut args, Arg { name, expr }) {
+        Ok(()) => Ok(Called {
+            callee,
+            args,
+            name: None,
+        }),
         Err(_) => {
+            drop(callee);
             drop(args);
             Err(MoveError::Memory)
         }
@@ -347,21 +411,11 @@ fn shut_by(stack: &mut Stack, expr: Expr) -> Result<Mode, MoveError>
 {
     match stack.pop() {
         Some(Frame::Group) => Ok(Mode::Given { expr }),
-        Some(Frame::Call { callee, args, name }) => match with_arg(args, Arg { name, expr }) {
-            Ok(args) => Ok(Mode::Given {
-                expr: call_of(callee, args),
-            }),
-            Err(error) => {
-                drop(callee);
-                Err(error)
-            }
-        },
-        Some(frame) => {
+        Some(Frame::Call(call)) => Ok(Mode::Given {
+            expr: called(with_arg(call, expr)?),
+        }),
+        frame => {
             drop(frame);
-            drop(expr);
-            Err(MoveError::Unexpected)
-        }
-        None => {
             drop(expr);
             Err(MoveError::Unexpected)
         }
@@ -369,31 +423,20 @@ fn shut_by(stack: &mut Stack, expr: Expr) -> Result<Mode, MoveError>
 }
 
 // A `)` after the `(` of a call.
-fn shut_empty_by(stack: &mut Stack, mode: Mode) -> Result<Mode, MoveError>
-    ensures { Moves result (open_in stack.new) (shut_empty (mode_of mode) (open_in stack.old)) }
+fn shut_empty_by(stack: &mut Stack) -> Result<Mode, MoveError>
+    ensures { Moves result (open_in stack.new) (shut_empty m.ArgWanted (open_in stack.old)) }
 {
-    match mode {
-        Mode::ArgWanted => match stack.pop() {
-            Some(Frame::Call { callee, args, name }) => {
-                drop(name);
-                if args.is_empty() {
-                    Ok(Mode::Given {
-                        expr: call_of(callee, args),
-                    })
-                } else {
-                    drop(callee);
-                    drop(args);
-                    Err(MoveError::Unexpected)
-                }
-            }
-            Some(frame) => {
-                drop(frame);
+    match stack.pop() {
+        Some(Frame::Call(call)) => {
+            if call.args.is_empty() {
+                Ok(Mode::Given { expr: called(call) })
+            } else {
+                drop(call);
                 Err(MoveError::Unexpected)
             }
-            None => Err(MoveError::Unexpected),
-        },
-        mode => {
-            drop(mode);
+        }
+        frame => {
+            drop(frame);
             Err(MoveError::Unexpected)
         }
     }
@@ -404,26 +447,12 @@ fn next_by(stack: &mut Stack, expr: Expr) -> Result<Mode, MoveError>
     ensures { Moves result (open_in stack.new) (next_arg (plain expr) (open_in stack.old)) }
 {
     match stack.pop() {
-        Some(Frame::Call { callee, args, name }) => match with_arg(args, Arg { name, expr }) {
-            Ok(args) => {
-                stack.push(Frame::Call {
-                    callee,
-                    args,
-                    name: None,
-                })?;
-                Ok(Mode::ArgWanted)
-            }
-            Err(error) => {
-                drop(callee);
-                Err(error)
-            }
-        },
-        Some(frame) => {
-            drop(frame);
-            drop(expr);
-            Err(MoveError::Unexpected)
+        Some(Frame::Call(call)) => {
+            let call = with_arg(call, expr)?;
+            opened(stack, Frame::Call(call), Mode::ArgWanted)
         }
-        None => {
+        frame => {
+            drop(frame);
             drop(expr);
             Err(MoveError::Unexpected)
         }
@@ -435,24 +464,20 @@ fn name_by(stack: &mut Stack, word: Word) -> Result<Mode, MoveError>
     ensures { Moves result (open_in stack.new) (name_arg word (open_in stack.old)) }
 {
     match stack.pop() {
-        Some(
-            Frame::Call {
-                callee,
-                args,
-                name: _,
-            },
-        ) => {
-            stack.push(Frame::Call {
+        Some(Frame::Call(Called { callee, args, name })) => {
+            drop(name);
+            let call = Called {
                 callee,
                 args,
                 name: Some(word),
-            })?;
-            Ok(Mode::Wanted)
+            };
+            opened(stack, Frame::Call(call), Mode::Wanted)
         }
-        Some(Frame::Group | Frame::Prefixed { .. } | Frame::Behind { .. }) => Err(
-            MoveError::Unexpected,
-        ),
-        None => Err(MoveError::Unexpected),
+        frame => {
+            drop(frame);
+            drop(word);
+            Err(MoveError::Unexpected)
+        }
     }
 }
 
@@ -462,7 +487,7 @@ fn at_close(alloc: Global, stack: &mut Stack, mode: Mode) -> Result<Mode, MoveEr
         (close_move (operand (mode_of mode)) (mode_of mode) (open_in stack.old)) }
 {
     match mode {
-        Mode::ArgWanted => shut_empty_by(stack, Mode::ArgWanted),
+        Mode::ArgWanted => shut_empty_by(stack),
         mode => match operand_of(mode) {
             Some(expr) => {
                 let ended = end_constructs(alloc, stack, 0, expr)?;

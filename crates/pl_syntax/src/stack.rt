@@ -37,11 +37,15 @@ pub(crate) enum Frame {
         left: Box<Expr>,
     },
     Group,
-    Call {
-        callee: Callee,
-        args: Vec<Arg>,
-        name: Option<Word>,
-    },
+    Call(Called),
+}
+
+/// A call that is open: the arguments before this one, and its name where it has one.
+#[derive(Drop)]
+pub(crate) struct Called {
+    pub(crate) callee: Callee,
+    pub(crate) args: Vec<Arg>,
+    pub(crate) name: Option<Word>,
 }
 
 // The level of a binary sign.
@@ -96,7 +100,7 @@ pub(crate) fn frame_level_of(frame: &Frame) -> u8
     match frame {
         Frame::Prefixed { sign, .. } => prefix_level_of(*sign),
         Frame::Behind { sign, .. } => level_of(*sign),
-        Frame::Group | Frame::Call { .. } => 0,
+        Frame::Group | Frame::Call(_) => 0,
     }
 }
 
@@ -107,7 +111,7 @@ pub(crate) fn is_ended(frame: &Frame, level: u8) -> bool
     match frame {
         Frame::Prefixed { sign, .. } => level <= prefix_level_of(*sign),
         Frame::Behind { sign, .. } => level <= level_of(*sign),
-        Frame::Group | Frame::Call { .. } => false,
+        Frame::Group | Frame::Call(_) => false,
     }
 }
 
@@ -118,7 +122,7 @@ fn asked_in(frame: &Frame) -> u8
     match frame {
         Frame::Prefixed { sign, .. } => prefix_level_of(*sign),
         Frame::Behind { sign, .. } => right_level_of(*sign),
-        Frame::Group | Frame::Call { .. } => 1,
+        Frame::Group | Frame::Call(_) => 1,
     }
 }
 
@@ -128,7 +132,7 @@ fn counts(frame: &Frame) -> usize
 {
     match frame {
         Frame::Behind { .. } => 0,
-        Frame::Prefixed { .. } | Frame::Group | Frame::Call { .. } => 1,
+        Frame::Prefixed { .. } | Frame::Group | Frame::Call(_) => 1,
     }
 }
 
@@ -144,6 +148,7 @@ impl Stack {
     ghost use Rattle.pl_syntax.specs.Open.{open_in};
 
     // Nothing is open.
+    #[tactic(auto, unfolding(crate::specs::Open::open_in, crate::specs::Frames::frames_of, crate::specs::Frames::frames_onto))]
     pub(crate) fn new(alloc: Global) -> Stack
         ensures { open_in result ≡ [] }
     {
@@ -178,6 +183,7 @@ impl Stack {
     }
 
     // How many of the constructs that the limit counts are open.
+    #[tactic(auto, unfolding(crate::specs::Open::open_in))]
     pub(crate) fn depth(&self) -> usize
         ensures { result ≡ depth (open_in self.now) }
     {

@@ -1,6 +1,6 @@
 //! The stages of a script round its expressions, and each token's move.
 
-ghost use Rattle.std.specs.Prelude.{◌≡◌, OnOk, ◌++◌, ◌∷◌, []};
+ghost use Rattle.std.specs.Prelude.{◌≡◌, Some, OnOk, ◌++◌, ◌∷◌, []};
 ghost use Rattle.pl_grammar.specs.Tree.{mark};
 ghost use Rattle.pl_grammar.specs.Machine.{finished, operand, move, at};
 ghost use Rattle.pl_grammar.specs.Script.{token_version, version_of, version_or, opening_move, version_move, given_move, between_move, name_move, assign_head, ended, within_move, script_move, stage_depth, LetHead, ColumnHead};
@@ -181,21 +181,29 @@ fn at_head_end(
             mode: Mode::Wanted,
             stack: Stack::new(alloc),
         }),
-        _ => Err(MoveError::Unexpected),
+        token => {
+            drop(token);
+            drop(statements);
+            drop(head);
+            Err(MoveError::Unexpected)
+        }
     }
 }
 
 // The expression that was read, where it may end here.
-fn finished_expr(alloc: Global, mode: Mode, stack: Stack) -> Result<Expr, MoveError>
-    ensures { Finishes result (finished (operand (mode_of mode)) (open_in stack)) }
+fn finished_expr(alloc: Global, mode: Mode, stack: &mut Stack) -> Result<Expr, MoveError>
+    ensures { Finishes result (finished (operand (mode_of mode)) (open_in stack.old)) }
 {
-    let mut stack = stack;
     match operand_of(mode) {
         Some(expr) => {
-            let ended = end_constructs(alloc, &mut stack, 0, expr)?;
+            let ended = end_constructs(alloc, stack, 0, expr)?;
             match stack.pop() {
                 None => Ok(ended.expr),
-                Some(_) => Err(MoveError::Unexpected),
+                Some(frame) => {
+                    drop(frame);
+                    drop(ended);
+                    Err(MoveError::Unexpected)
+                }
             }
         }
         None => Err(MoveError::Unexpected),
@@ -203,9 +211,22 @@ fn finished_expr(alloc: Global, mode: Mode, stack: Stack) -> Result<Expr, MoveEr
 }
 
 // One more statement.
+fn with_statement(statements: Vec<Statement>, statement: Statement) -> Result<Stage, MoveError>
+    ensures { StageMoves result (Some (g.Between (statements_of statements.items
+        ++ (statement_of statement ∷ [])))) }
+{
+    let mut statements = statements;
+    match add(&mut statements, statement) {
+        Ok(()) => Ok(Stage::Between { statements }),
+        Err(_) => {
+            drop(statements);
+            Err(MoveError::Memory)
+        }
+    }
+}
+
 fn add(statements: &mut Vec<Statement>, statement: Statement) -> Result<(), AllocError>
-    ensures { OnOk result (statements_of statements.new.items ≡ statements_of statements.old.items
-        ++ (statement_of statement ∷ [])) }
+    ensures { OnOk result (statements.new.items ≡ statements.old.items ++ (statement ∷ [])) }
 {
     statements.push(statement)?;
     Ok(())
@@ -222,10 +243,17 @@ fn at_end(
     ensures { StageMoves result (ended (statements_of statements.items) (head_of head)
         (finished (operand (mode_of mode)) (open_in stack)) (token_of Token.Semicolon)) }
 {
-    let mut statements = statements;
-    let expr = finished_expr(alloc, mode, stack)?;
-    add(&mut statements, stated(head, expr))?;
-    Ok(Stage::Between { statements })
+    let mut stack = stack;
+    let finished = finished_expr(alloc, mode, &mut stack);
+    drop(stack);
+    match finished {
+        Ok(expr) => with_statement(statements, stated(head, expr)),
+        Err(error) => {
+            drop(statements);
+            drop(head);
+            Err(error)
+        }
+    }
 }
 
 // A token within an expression.
@@ -246,13 +274,20 @@ fn at_expression(
         Token::Semicolon => at_end(alloc, statements, head, mode, stack),
         token => {
             let mut stack = stack;
-            let mode = moved(alloc, &mut stack, mode, place, token)?;
-            Ok(Stage::Within {
-                statements,
-                head,
-                mode,
-                stack,
-            })
+            match moved(alloc, &mut stack, mode, place, token) {
+                Ok(mode) => Ok(Stage::Within {
+                    statements,
+                    head,
+                    mode,
+                    stack,
+                }),
+                Err(error) => {
+                    drop(statements);
+                    drop(head);
+                    drop(stack);
+                    Err(error)
+                }
+            }
         }
     }
 }

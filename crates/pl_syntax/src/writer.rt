@@ -102,6 +102,7 @@ fn put_decimal(number: u64, out: &mut Vec<u8>) -> Result<(), AllocError>
 }
 
 // The six digits of a number below a million.
+#[tactic(auto, unfolding(pl_spec::specs::Dates::digits))]
 fn six_digits(number: u64) -> [u8; 6]
     ensures { result ≡ digits 6 number }
 {
