@@ -68,14 +68,8 @@ err e = Err e
 pub ok-not-full : {A : Type 0} (x : A) (e : GraphError) → Ok x ≡ Err e → ⊥
 ok-not-full x e h = (let no : Ok x ≡ Err e = h in cc)
 
-err-one : {A : Type 0} (x y : GraphError) → err {A = A} x ≡ err {A = A} y → x ≡ y
-err-one x y h = cc
-
 pub memory-not-full : {A : Type 0} → err {A = A} Memory ≡ err {A = A} Full → ⊥
-memory-not-full h = (let no : Memory ≡ Full = err-one Memory Full h in cc)
-
-pub fresh-new : (g : Graph) (n : Node) → place_from 0 g n ≡ None → IsNew g n
-fresh-new g n h k e = not-there 0 g n h k e
+memory-not-full h = cc
 
 pub there-old : (g : Graph) (n : Node) (k : ℕ) → place_from 0 g n ≡ Some k → IsNew g n → ⊥
 there-old g n k h new = let w = place-is 0 g n k h in new w.0 w.2
