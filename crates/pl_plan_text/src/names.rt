@@ -7,7 +7,7 @@ ghost use Rattle.pl_terms.specs.Windows.{window_in};
 ghost use Rattle.pl_plan_text.specs.Names.{kind_name};
 
 use pl_spec::Column;
-use pl_terms::{TermKind, window_kind, window_row};
+use pl_terms::{LabelValue, TermKind, window_kind, window_row};
 
 pub(crate) fn column_name(column: Column) -> &'static str
     ensures { result.now ≡ column_name column }
@@ -58,8 +58,18 @@ fn other_name(kind: &TermKind) -> &'static str
         TermKind::GreaterEqual => "GreaterEqual",
         TermKind::Equal => "Equal",
         TermKind::NotEqual => "NotEqual",
-        TermKind::LabelIs { .. } => "LabelIs",
-        TermKind::LabelIsNot { .. } => "LabelIsNot",
+        TermKind::LabelIs {
+            label: LabelValue::Text(_),
+        } => "LabelIs",
+        TermKind::LabelIs {
+            label: LabelValue::Number(_),
+        } => "LabelIs",
+        TermKind::LabelIsNot {
+            label: LabelValue::Text(_),
+        } => "LabelIsNot",
+        TermKind::LabelIsNot {
+            label: LabelValue::Number(_),
+        } => "LabelIsNot",
         TermKind::Clip { .. } => "Clip",
         TermKind::FillNa => "FillNa",
         TermKind::IsNull => "IsNull",

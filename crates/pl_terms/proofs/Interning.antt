@@ -13,7 +13,7 @@ use Rattle.pl_pipeline.proofs.Trees.{term_at-node}
 use Rattle.pl_pipeline.proofs.Distinct.{one_tree}
 use Rattle.pl_terms.specs.Nodes.{place_from, Interned, interned}
 use Rattle.pl_terms.specs.Laws.{IsNew}
-use Rattle.pl_terms.proofs.Shared.{not-there, place-is, graph-more}
+use Rattle.pl_terms.proofs.Shared.{not-there, puts, graph-more}
 use Rattle.pl_terms.proofs.Numbered.{refused-full}
 
 -- ---- the trees of one node more
@@ -109,20 +109,12 @@ new-put g n ok few low fresh room =
       trees = inr (new-tree g n more, trees-more [] g n);
     }
 
-pub put : (g : Graph) (n : Node) (i : Interned) → IsGraph g → length n.inputs ≤ 3 → MentionsBelow n (length g) → interned g n ≡ Some i → IsPut g n i
-unfolding interned
-put g n i ok few low h = here (place_from 0 g n) refl (nat_lt (length g) most_terms) refl
-  where
-    here : (o : Option ℕ) → place_from 0 g n ≡ o → (b : Bool) → nat_lt (length g) most_terms ≡ b → IsPut g n i
-    here (Some k) p b q =
-        let w = place-is 0 g n k p in
-        let at : w.0 ≡ k = (let e : k ≡ 0 + w.0 = w.1 in omega arith) in
-        let same : record { number = k; graph = g } ≡ i = (let s : Some (record { number = k; graph = g }) ≡ Some i = sym (rw p refl) ∙ h in cc) in
-        subst (IsPut g n) same (old-put g n k ok (sym (ap (slice_get g) at) ∙ w.2))
-    here None p true q =
-        let same : record { number = length g; graph = g ++ n ∷ [] } ≡ i = (let s : Some (record { number = length g; graph = g ++ n ∷ [] }) ≡ Some i = sym (rw (p, q) refl) ∙ h in cc) in
-        subst (IsPut g n) same (new-put g n ok few low p q)
-    here None p false q = absurd (let s : None ≡ Some i = sym (rw (p, q) refl) ∙ h in cc)
+pub put : (g : Graph) (n : Node) (i : Interned) → IsGraph g → length n.inputs ≤ 3 → MentionsBelow n (length g)
+    → interned g n ≡ Some i → IsPut g n i
+put g n i ok few low h = elim (puts g n i h) [
+  | inl w ↦ subst (IsPut g n) w.2 (old-put g n w.0 ok w.1)
+  | inr w ↦ subst (IsPut g n) w.2 (new-put g n ok few low w.0 w.1)
+]
 
 -- a node that is refused would be one more than 256
 pub record IsFull (g : Graph) (n : Node) : Type 0 where

@@ -8,7 +8,7 @@ use Rattle.std.specs.Prelude.{Result, Ok, Err}
 use Rattle.pl_terms.specs.declared.graph.GraphError.{GraphError}
 use Rattle.pl_terms.specs.declared.graph.GraphError.TheVariants.{Full, Memory}
 use Rattle.pl_terms.specs.Laws.{IsFirstAt, IsNew, OldNodesStay, NewNodesFollow}
-use Rattle.pl_terms.proofs.Same.{node-same, node-only}
+use Rattle.pl_terms.proofs.Same.{nodes-decide}
 use Rattle.pl_terms.proofs.Shared.{not-there, place-is, kept}
 
 -- ---- the place of a node
@@ -18,12 +18,12 @@ unfolding place_from
 first-from i [] n k h = absurd (let no : None ≡ Some n = h.0 in cc)
 first-from i (m ∷ ms) n zero h =
     let is : m ≡ n = (let s : Some m ≡ Some n = h.0 in cc) in
-    let yes : same_node m n ≡ true = ap (λ x. same_node x n) is ∙ node-same n in
+    let yes : same_node m n ≡ true = ap (λ x. same_node x n) is ∙ (nodes-decide n n).1 refl in
     ap (λ b. cond b (Some i) (place_from (i + 1) ms n)) yes ∙ ap Some (let e : i ≡ i + 0 = omega arith in e)
 first-from i (m ∷ ms) n (suc k) h = here (same_node m n) refl (first-from (i + 1) ms n k (h.0, λ j e. let l : suc k ≤ suc j = h.1 (suc j) e in omega arith))
   where
     here : (b : Bool) → same_node m n ≡ b → place_from (i + 1) ms n ≡ Some (i + 1 + k) → cond (same_node m n) (Some i) (place_from (i + 1) ms n) ≡ Some (i + suc k)
-    here true q rest = absurd (let l : suc k ≤ 0 = h.1 0 (ap Some (node-only m n q)) in omega arith)
+    here true q rest = absurd (let l : suc k ≤ 0 = h.1 0 (ap Some ((nodes-decide m n).0 q)) in omega arith)
     here false q rest = ap (λ b. cond b (Some i) (place_from (i + 1) ms n)) q ∙ rest ∙ ap Some (let e : i + 1 + k ≡ i + suc k = omega arith in e)
 
 new-none : (g : Graph) (n : Node) → IsNew g n → place_from 0 g n ≡ None
@@ -68,14 +68,8 @@ err e = Err e
 pub ok-not-full : {A : Type 0} (x : A) (e : GraphError) → Ok x ≡ Err e → ⊥
 ok-not-full x e h = (let no : Ok x ≡ Err e = h in cc)
 
-err-one : {A : Type 0} (x y : GraphError) → err {A = A} x ≡ err {A = A} y → x ≡ y
-err-one x y h = cc
-
 pub memory-not-full : {A : Type 0} → err {A = A} Memory ≡ err {A = A} Full → ⊥
-memory-not-full h = (let no : Memory ≡ Full = err-one Memory Full h in cc)
-
-pub fresh-new : (g : Graph) (n : Node) → place_from 0 g n ≡ None → IsNew g n
-fresh-new g n h k e = not-there 0 g n h k e
+memory-not-full h = cc
 
 pub there-old : (g : Graph) (n : Node) (k : ℕ) → place_from 0 g n ≡ Some k → IsNew g n → ⊥
 there-old g n k h new = let w = place-is 0 g n k h in new w.0 w.2

@@ -67,14 +67,12 @@ own-tree g k n e =
     (r.below, ap (tree_at (trees g)) (sym at) ∙ r.tree, λ j h. r.same j (omega arith))
 
 own-kind : (k i : Kind) → is_downsampled k ≡ false → sort_over k i ≡ k
-own-kind (kind.Downsample f) i h = absurd (let no : true ≡ false = h in cc)
-own-kind (kind.Constant c) i h = refl
+own-kind (kind.Downsample f) i h = cc
 own-kind k i h = refl
 
 over-kind : (k i : Kind) → is_downsampled k ≡ true → sort_over k i ≡ i
 over-kind (kind.Downsample f) i h = refl
-over-kind (kind.Constant c) i h = absurd (let no : false ≡ true = h in cc)
-over-kind k i h = absurd (let no : false ≡ true = h in cc)
+over-kind k i h = cc
 
 -- a term that isn't downsampled
 pub kind-own : (g : Graph) (k : ℕ) (n : Node) → slice_get g k ≡ Some n → is_downsampled n.kind ≡ false → kind_at g k ≡ n.kind
@@ -87,8 +85,8 @@ kind-input g k n u e h f l =
     ap sort_kind r.1 ∙ over-kind n.kind _ h ∙ here n.inputs f r.0 (r.2 u l)
   where
     here : (is : List Input) → first_term is ≡ Some u → (below : List Term) → tree_at below u ≡ term_at g u → sort_kind (input_tree below (slice_get is 0)) ≡ kind_at g u
-    here [] f below s = absurd (let no : None ≡ Some u = f in cc)
-    here (BarColumn c ∷ is) f below s = absurd (let no : None ≡ Some u = f in cc)
+    here [] f below s = cc
+    here (BarColumn c ∷ is) f below s = cc
     here (TermInput j ∷ is) f below s = let same : j ≡ u = (let x : Some j ≡ Some u = f in cc) in ap (λ i. sort_kind (tree_at below i)) same ∙ ap sort_kind s
 
 -- and of none
@@ -98,9 +96,8 @@ kind-none g k n e h f =
     ap sort_kind r.1 ∙ over-kind n.kind _ h ∙ here n.inputs f r.0
   where
     here : (is : List Input) → first_term is ≡ None → (below : List Term) → sort_kind (input_tree below (slice_get is 0)) ≡ kind.Constant MISSING
-    here [] f below = refl
-    here (BarColumn c ∷ is) f below = refl
-    here (TermInput j ∷ is) f below = absurd (let no : Some j ≡ None = f in cc)
+    here (TermInput j ∷ is) f below = cc
+    here is f below = refl
 
 sort-there : (g : Graph) (k : ℕ) (n : Node) → slice_get g k ≡ Some n → sort_at g k ≡ Some (sort_of (kind_at g k))
 sort-there g k n e = ap (option_map (λ m. sort_of (kind_at g k))) e
@@ -147,9 +144,8 @@ sort-kept g h k x f s =
 -- ---- the nodes of the code
 
 first-there : (is : List Input) (u : ℕ) → first_term is ≡ Some u → slice_get is 0 ≡ Some (TermInput u)
-first-there [] u f = absurd (let no : None ≡ Some u = f in cc)
-first-there (BarColumn c ∷ is) u f = absurd (let no : None ≡ Some u = f in cc)
-first-there (TermInput j ∷ is) u f = let same : j ≡ u = (let x : Some j ≡ Some u = f in cc) in ap (λ i. Some (TermInput i)) same
+first-there (TermInput j ∷ is) u f = cc
+first-there is u f = cc
 
 module _ (ns : List code.Node) (t : ℕ) (n : code.Node) (at : slice_get ns t ≡ Some n) where
   there : slice_get (graph_of ns) t ≡ Some (node_of n)
