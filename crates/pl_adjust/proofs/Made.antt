@@ -20,7 +20,7 @@ use Rattle.pl_spec.specs.World.{Adjustment}
 use Rattle.pl_adjust.specs.declared.adjust.Adjust.{Adjust}
 use Rattle.pl_adjust.specs.declared.columns.Row.{Row}
 use Rattle.pl_adjust.specs.Events.{PutsCell, event_of}
-use Rattle.pl_adjust.specs.Columns.{AreKept, IsByPlace, StandByDay, by_place, in_column, in_columns, place_cmp}
+use Rattle.pl_adjust.specs.Columns.{AreKept, IsByPlace, AreByDay, by_place, in_column, in_columns, place_cmp}
 use Rattle.pl_adjust.specs.Rows.{row_of}
 use Rattle.pl_adjust.specs.Tables.{adjustments_in, of_walk, ok_unless}
 use Rattle.pl_adjust.specs.Walk.{Fault, first_fault, walk}
@@ -52,7 +52,7 @@ InTurn x y = x.col ≡ y.col → x.event.day ≤ℤ y.event.day
 in_turn : (ys : List ColumnAdjustment) → IsSorted place_cmp ys → AllPairs InTurn ys
 in_turn ys up i j d h l = (not_in_front _ _ _ _ (sorted_far in_front front_order ys up i j d (omega arith) l)).1
 
-turns_each : (ys : List ColumnAdjustment) → AllPairs InTurn ys → StandByDay ys
+turns_each : (ys : List ColumnAdjustment) → AllPairs InTurn ys → AreByDay ys
 turns_each ys turns col i j d h l =
     let all = filter_passes (λ (x : ColumnAdjustment). x.col == col) ys in
     AllPairs-filter InTurn (λ x. x.col == col) ys turns i j d h l (one _ _ (all i d (omega arith)) (all j d l))
@@ -60,7 +60,7 @@ turns_each ys turns col i j d h l =
     one : (a b : ℕ) → (a == col) ≡ true → (b == col) ≡ true → a ≡ b
     one a b t u = grind (arith, nat_tests)
 
-pub by_day_each : (ys : List ColumnAdjustment) → IsSorted place_cmp ys → StandByDay ys
+pub by_day_each : (ys : List ColumnAdjustment) → IsSorted place_cmp ys → AreByDay ys
 by_day_each ys up = turns_each ys (in_turn ys up)
 
 -- ---- each column is one of an asset

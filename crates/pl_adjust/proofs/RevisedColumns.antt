@@ -21,7 +21,7 @@ use Rattle.pl_lifetimes.proofs.SidColumns.{asset_of}
 use Rattle.pl_bars.proofs.BarSearch.{IsCell-bar_cell}
 use Rattle.pl_adjust.specs.declared.revisions.Revision.{Revision}
 use Rattle.pl_adjust.specs.Revisions.{AreRevisions, Rule, revisions_of}
-use Rattle.pl_adjust.specs.Columns.{StandByDay, by_place, in_column}
+use Rattle.pl_adjust.specs.Columns.{AreByDay, by_place, in_column}
 use Rattle.pl_adjust.specs.Events.{PutsCell}
 use Rattle.pl_adjust.specs.Revised.{AreKnown, IsKnown, revised, revised_by, revised_columns, revised_in}
 use Rattle.pl_adjust.specs.Tables.{adjustments_in}
@@ -65,7 +65,7 @@ cols_with assets old rows more all =
     All-permutation (λ (x : ColumnAdjustment). x.col < length assets) (old ++ rows) (by_place (old ++ rows)) (by_place-permutes (old ++ rows))
     (All-append (λ (x : ColumnAdjustment). x.col < length assets) old rows all more)
 
-pub days_with : (xs : List ColumnAdjustment) → StandByDay (by_place xs)
+pub days_with : (xs : List ColumnAdjustment) → AreByDay (by_place xs)
 days_with xs = by_day_each (by_place xs) (sorted-by_place xs)
 
 -- ---- the order in which they act

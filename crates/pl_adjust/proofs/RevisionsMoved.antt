@@ -31,7 +31,7 @@ use Rattle.pl_calendar.specs.Days.{AreDays}
 use Rattle.pl_lifetimes.specs.Assets.{AreAssets}
 use Rattle.pl_spec.proofs.Lists.{filter-map, filter-swap}
 use Rattle.pl_adjust.specs.declared.revisions.Revision.{Revision}
-use Rattle.pl_adjust.specs.Columns.{StandByDay, by_place, in_column}
+use Rattle.pl_adjust.specs.Columns.{AreByDay, by_place, in_column}
 use Rattle.pl_adjust.specs.Revised.{AreKnown, ChangeAlike, IsKnown, revised, revised_by, revised_columns, revised_in}
 use Rattle.pl_adjust.specs.Revisions.{Rule, breaks, revision_in, header, is_same, revision_or_rule, revisions_of}
 use Rattle.pl_adjust.specs.Revisions as rules
@@ -252,7 +252,7 @@ changed-alike days assets ud ua first records others m old xs e =
 
 -- What is revised stands in the columns of assets, and by day.
 pub kept-revised : (days : List ℤ) (assets : List AssetRow) → AreDays days → AreAssets assets → (records : List Record) (old xs : List ColumnAdjustment)
-    → All (λ x. x.col < length assets) old → revised_in days assets old records ≡ Ok xs → All (λ x. x.col < length assets) xs × StandByDay xs
+    → All (λ x. x.col < length assets) old → revised_in days assets old records ≡ Ok xs → All (λ x. x.col < length assets) xs × AreByDay xs
 unfolding revised_in
 kept-revised days assets ud ua records old xs cols e =
     let was = made-of (revised_by assets old) (revisions_of days assets records) xs e in

@@ -14,7 +14,7 @@ use Rattle.pl_outside.specs.declared.keeper.Table.{Table}
 use Rattle.pl_outside.specs.declared.keeper.Table.TheVariants.{Splits, Mergers, Dividends}
 use Rattle.pl_adjust.specs.declared.error.AdjustError.{AdjustError}
 use Rattle.pl_adjust.specs.Events.{event_of}
-use Rattle.pl_adjust.specs.Faults.{Tells, fault_of}
+use Rattle.pl_adjust.specs.Faults.{MeetsFault, fault_of}
 use Rattle.pl_adjust.specs.Columns.{col_in, in_column}
 use Rattle.pl_adjust.specs.Rows.{row_of}
 use Rattle.pl_adjust.specs.Walk.{Fault, TableRow, fault_at, first_fault, in_table, walk}
@@ -95,6 +95,6 @@ walk-faults splits mergers dividends =
 -- an error that tells a fault tells what follows from it
 pub tells_then : {A : Type 0} (result : Result A AdjustError) (error : AdjustError) {part all : Option Fault}
     → IsErrAnd result (λ e. e ≡ error) → IfSome (fault_of error) (λ f. part ≡ Some f)
-    → ((f : Fault) → part ≡ Some f → all ≡ Some f) → Tells result all
+    → ((f : Fault) → part ≡ Some f → all ≡ Some f) → MeetsFault result all
 tells_then result error is told follows =
     let err = err_from_is_err_and result is in rw (err.1, err.2) (IfSome_then (fault_of error) told follows)

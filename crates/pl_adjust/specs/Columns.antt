@@ -26,9 +26,9 @@ in_columns cols adjusts = zip2 (λ col x. record { col = col; event = event_of x
 abbrev pub events_at : List ColumnAdjustment → ℕ → List Event
 events_at xs col = map (λ x. x.event) (filter (λ x. x.col == col) xs)
 
--- those of a column stand by day
-abbrev pub StandByDay : List ColumnAdjustment → Type 0
-StandByDay xs = (col : ℕ) → AllPairs (λ x y. x.event.day ≤ℤ y.event.day) (filter (λ x. x.col == col) xs)
+-- those of a column are by day
+abbrev pub AreByDay : List ColumnAdjustment → Type 0
+AreByDay xs = (col : ℕ) → AllPairs (λ x y. x.event.day ≤ℤ y.event.day) (filter (λ x. x.col == col) xs)
 
 -- first by column, and then by day
 abbrev pub place_cmp : ColumnAdjustment → ColumnAdjustment → Ordering

@@ -12,6 +12,6 @@ fault_of TooMany = Some faults.TooMany
 fault_of Memory = None
 
 -- a call that answers Ok met no fault, and one that answers a fault met that one
-abbrev pub Tells : {A : Type 0} → Result A AdjustError → Option Fault → Type 0
-Tells (Ok x) fault = fault ≡ None
-Tells (Err e) fault = IfSome (fault_of e) (λ f. fault ≡ Some f)
+abbrev pub MeetsFault : {A : Type 0} → Result A AdjustError → Option Fault → Type 0
+MeetsFault (Ok x) fault = fault ≡ None
+MeetsFault (Err e) fault = IfSome (fault_of e) (λ f. fault ≡ Some f)

@@ -8,7 +8,7 @@ ghost use Rattle.pl_records.specs.Records.{csv_records};
 ghost use Rattle.pl_spec.specs.AsOf.{adjustments_by};
 ghost use Rattle.pl_adjust.specs.Events.{PutCells, PutsCell, event_of};
 ghost use Rattle.std.specs.List.Sorted.{IsSorted};
-ghost use Rattle.pl_adjust.specs.Columns.{IsByPlace, StandByDay, events_at, place_cmp};
+ghost use Rattle.pl_adjust.specs.Columns.{IsByPlace, AreByDay, events_at, place_cmp};
 ghost use Rattle.pl_adjust.specs.Faults.{fault_of};
 ghost use Rattle.pl_adjust.specs.Revised.{AreKnown, revised_by, revised_columns, revised_in};
 ghost use Rattle.pl_adjust.specs.RevisionFaults as revision_faults;
@@ -90,7 +90,7 @@ impl Adjustments {
         // The adjustments of the rows, or their first fault. Only want of memory may come beside.
         ensures exact { Answers (λ a. a) fault_of result
             (adjustments_in assets.now splits.now mergers.now dividends.now) }
-        ensures in_order { IfOk result StandByDay }
+        ensures in_order { IfOk result AreByDay }
         // Each is of the column of an asset.
         ensures cols { IfOk result (All (λ x. x.col < length assets.now)) }
     {
@@ -178,7 +178,7 @@ impl Adjustments {
     /// How many adjustments there are. Those of an asset are by day, and what overwrites a cell is a cell.
     pub fn len(&self) -> usize
         ensures length { result ≡ length self.now }
-        ensures in_order { StandByDay self.now }
+        ensures in_order { AreByDay self.now }
         ensures cells { All (λ x. PutsCell x.event) self.now }
     {
         self.cols.len()

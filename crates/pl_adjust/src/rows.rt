@@ -6,7 +6,7 @@ ghost use Rattle.std.specs.Int.RustNames.{unsigned_abs};
 ghost use Rattle.pl_spec.specs.Order.{adjustment_in, day_of_time, is_of};
 ghost use Rattle.pl_adjust.specs.Events.{event_of};
 ghost use Rattle.pl_adjust.specs.Columns.{col_in};
-ghost use Rattle.pl_adjust.specs.Faults.{Tells};
+ghost use Rattle.pl_adjust.specs.Faults.{MeetsFault};
 ghost use Rattle.pl_adjust.specs.Rows.{row_of};
 ghost use Rattle.pl_adjust.specs.Tables.{of_rows, of_walk};
 ghost use Rattle.pl_adjust.specs.Walk.{fault_at, first_fault, in_table, is_effective, kind_of};
@@ -39,7 +39,7 @@ pub(crate) fn rows_of(
 ) -> Result<Vec<Row>, AdjustError>
     ensures rows { IfOk result (λ rows. map row_of rows.items
         ≡ of_walk assets.now splits.now mergers.now dividends.now) }
-    ensures fault { Tells result (first_fault 0 (walk splits.now mergers.now dividends.now)) }
+    ensures fault { MeetsFault result (first_fault 0 (walk splits.now mergers.now dividends.now)) }
 {
     let mut rows = Vec::new(alloc);
     read_table(assets, Table::Splits, splits, 0, &mut rows)?;
@@ -65,7 +65,7 @@ fn read_table(
     requires { before + length raw.now < 2 ^ 64 }
     ensures rows { OnOk result (map row_of rows.new.items
         ≡ map row_of rows.old.items ++ of_rows assets.now (kind_of table) raw.now) }
-    ensures fault { Tells result (first_fault before (in_table table raw.now)) }
+    ensures fault { MeetsFault result (first_fault before (in_table table raw.now)) }
 {
     for (i, row) in raw.iter().enumerate() {
         let adjust = adjust_of(table, row, before + i)?;
@@ -81,7 +81,7 @@ fn read_table(
 fn adjust_of(table: Table, row: &RawAdjust, before: usize) -> Result<Adjust, AdjustError>
     ensures adjust { IfOk result (λ a.
         event_of a ≡ (adjustment_in (kind_of table) row.now).event) }
-    ensures fault { Tells result (fault_at before (record { table = table; row = row.now })) }
+    ensures fault { MeetsFault result (fault_at before (record { table = table; row = row.now })) }
 {
     if before >= MOST_ROWS {
         return Err(AdjustError::TooMany);

@@ -2,7 +2,7 @@
 use Rattle.std.proofs.Common.{◌≡◌, ◌≤◌, length, Result, Ok, Err, refl, arith}
 use Rattle.pl_spec.specs.Rounding.{div_round}
 use Rattle.pl_grammar.specs.Faults.{verdict}
-use Rattle.pl_grammar.specs.Script.{script_move, version_told}
+use Rattle.pl_grammar.specs.Script.{script_move, first_version}
 use Rattle.pl_tokens.specs.Front.{front}
 use Rattle.pl_tokens.specs.Reading.{reading}
 use Rattle.pl_syntax.specs.declared.script.Script.{Script}
@@ -16,7 +16,7 @@ use Rattle.pl_syntax.proofs.TextsSaid.{said-spells}
 use Rattle.pl_bench.specs.Pipeline.{bench_text, bench_script}
 
 text-said : said bench_text ≡ Spelled bench_script
-unfolding said bench_text bench_script reading front verdict script_move version_told div_round
+unfolding said bench_text bench_script reading front verdict script_move first_version div_round
 text-said = refl
 
 pub text-spells : Spells bench_text bench_script

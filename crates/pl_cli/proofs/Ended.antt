@@ -16,9 +16,9 @@ use Rattle.pl_load.specs.Views.{ShelfView, KeeperView, Change, change, unchanged
 use Rattle.pl_load.specs.Loads.{IsLoadOf}
 use Rattle.pl_load.proofs.Calls.{shelf-same, keeper-same, alone-same, begins-none, plus-none}
 use Rattle.pl_cli.specs.declared.commands.Stats.{Stats}
-use Rattle.pl_cli.specs.Texts.{text_of, TakesSteps, TellsNumbers}
+use Rattle.pl_cli.specs.Texts.{text_of, TakesSteps, IsNumbersLine}
 use Rattle.pl_cli.specs.Runs.{Observed}
-use Rattle.pl_cli.specs.Commands.{IsEnd, IsDone, IsCaused, IsKept, IsAnswered, SinkView, SinkLeft, sink_view, sink_change, observed_by, stats_told}
+use Rattle.pl_cli.specs.Commands.{IsEnd, IsDone, IsCaused, IsKept, IsAnswered, SinkView, SinkLeft, sink_view, sink_change, observed_by, line_of_stats}
 
 -- ---- a sink
 
@@ -59,8 +59,8 @@ pub no-more : (before now : ℕ) → now ≡ before → now ≤ before + 0
 no-more before now same = omega (arith, same)
 
 -- no numbers are told
-pub quiet : (r : Result (Option Stats) Fault) → IfOk r (λ stats. stats ≡ None) → IfOk r (λ stats. stats_told stats ≡ [])
-quiet (Ok x) e = ap stats_told e
+pub quiet : (r : Result (Option Stats) Fault) → IfOk r (λ stats. stats ≡ None) → IfOk r (λ stats. line_of_stats stats ≡ [])
+quiet (Ok x) e = ap line_of_stats e
 quiet (Err f) e = tt
 
 pub when-ok : {A : Type 0} (r : Result (Option Stats) Fault) → A → OnOk r A
@@ -80,7 +80,7 @@ risen-caused usage shelf keeper out kept f k h = k
 module _ {T : Type 0} {shelf : Change ShelfView} {keeper : Change KeeperView} {q : Request} {Means : Contents → T → Type 0} where
   -- the answer of a command whose work is loaded
   answers : {l : Result T Fault} {r : Result (Option Stats) Fault} {out : Change SinkView} {steps : Change ℕ} (h : IsLoadOf shelf keeper (Some q) (λ held. work held (Some q)) Means l)
-      → OnOk r (IsDone (observed_by shelf keeper out steps) h.held (Some q)) → IfOk r (λ stats. TellsNumbers h.held (Some q) (stats_told stats))
+      → OnOk r (IsDone (observed_by shelf keeper out steps) h.held (Some q)) → IfOk r (λ stats. IsNumbersLine h.held (Some q) (line_of_stats stats))
       → IfErr r (IsEnd (observed_by shelf keeper out steps) h.held (Some q)) → HasRead (work h.held (Some q)) h.reads r
       → IfErr r (IsCaused (Some q ≡ None) (Rose shelf.before.faults shelf.after.faults) (Rose keeper.before.faults keeper.after.faults) (Rose out.before.faults out.after.faults) (IsKept out steps))
       → SinkLeft out → IsAnswered shelf keeper out steps (Some q) r
@@ -111,7 +111,7 @@ module _ {T : Type 0} {shelf : Change ShelfView} {keeper : Change KeeperView} {q
 
   module _ {x : T} (out : Change SinkView) (steps : Change ℕ) (h : IsLoadOf shelf keeper (Some q) (λ held. work held (Some q)) Means (Ok x)) where
     all-written : (stats : Option Stats) → SinkWrites out (text_of h.held (Some q)) (Ok stats) → TakesSteps h.held (Some q) (λ n. steps.after ≡ steps.before + n)
-        → TellsNumbers h.held (Some q) (stats_told stats) → IsAnswered shelf keeper out steps (Some q) (Ok stats)
+        → IsNumbersLine h.held (Some q) (line_of_stats stats) → IsAnswered shelf keeper out steps (Some q) (Ok stats)
     all-written stats w cost told =
         answers {r = Ok stats} {out = out} {steps = steps} h (record { passed = h.ends.passed; text = w.all; room_left = w.room_left; cost = cost }) told tt
         (read-all (Ok stats) (sym h.has_read.whole)) tt (record { stays = w.stays; later = w.later })
@@ -125,7 +125,7 @@ module _ {T : Type 0} {shelf : Change ShelfView} {keeper : Change KeeperView} {q
     -- the text is written, or after a prefix it isn't
     pub written : (r : Result (Option Stats) Fault) → SinkWrites out (text_of h.held (Some q)) r → IfErr r (λ f. f ≡ Unwritten)
         → OnOk r (TakesSteps h.held (Some q) (λ n. steps.after ≡ steps.before + n)) → TakesSteps h.held (Some q) (λ n. steps.after ≤ steps.before + n)
-        → IfOk r (λ stats. TellsNumbers h.held (Some q) (stats_told stats)) → IsAnswered shelf keeper out steps (Some q) r
+        → IfOk r (λ stats. IsNumbersLine h.held (Some q) (line_of_stats stats)) → IsAnswered shelf keeper out steps (Some q) r
     written (Ok stats) w is cost most told = all-written stats w cost told
     written (Err f) w is cost most told =
         subst (λ g. IsAnswered shelf keeper out steps (Some q) (Err g)) (sym is) (not-written (subst (λ g. SinkWrites out (text_of h.held (Some q)) (Err g)) is w) most)
@@ -135,7 +135,7 @@ module _ {T : Type 0} {shelf : Change ShelfView} {keeper : Change KeeperView} {q
       → IsErrOf r Memory ⊎ SinkWrites (change o o') (text_of h.held (Some q)) r → IfErr r (λ f. (f ≡ Memory) ⊎ (f ≡ Unwritten))
       → (IsErrOf r Memory → (o' ≡ o) × (n' ≡ n))
       → OnOk r (TakesSteps h.held (Some q) (λ k. n' ≡ n + k)) → IsErrOf r Memory ⊎ TakesSteps h.held (Some q) (λ k. n' ≤ n + k)
-      → IfOk r (λ stats. TellsNumbers h.held (Some q) (stats_told stats)) → IsAnswered shelf keeper (change o o') (change n n') (Some q) r
+      → IfOk r (λ stats. IsNumbersLine h.held (Some q) (line_of_stats stats)) → IsAnswered shelf keeper (change o o') (change n n') (Some q) r
   written-or o o' n n' h r w is kept cost most told = elim w [
     | inl m ↦ want r m (kept m)
     | inr t ↦ elim most [ inl m ↦ want r m (kept m) | inr s ↦ here r t is kept cost s told ]
@@ -148,7 +148,7 @@ module _ {T : Type 0} {shelf : Change ShelfView} {keeper : Change KeeperView} {q
 
       here : (r : Result (Option Stats) Fault) → SinkWrites (change o o') (text_of h.held (Some q)) r → IfErr r (λ f. (f ≡ Memory) ⊎ (f ≡ Unwritten))
           → (IsErrOf r Memory → (o' ≡ o) × (n' ≡ n)) → OnOk r (TakesSteps h.held (Some q) (λ k. n' ≡ n + k)) → TakesSteps h.held (Some q) (λ k. n' ≤ n + k)
-          → IfOk r (λ stats. TellsNumbers h.held (Some q) (stats_told stats)) → IsAnswered shelf keeper (change o o') (change n n') (Some q) r
+          → IfOk r (λ stats. IsNumbersLine h.held (Some q) (line_of_stats stats)) → IsAnswered shelf keeper (change o o') (change n n') (Some q) r
       here (Ok x) t is kept cost most told = written (change o o') (change n n') h (Ok x) t tt cost most told
       here (Err f) t is kept cost most told = elim is [
         | inl m ↦ want (Err f) (ap (λ z. Err z) m) (kept (ap (λ z. Err z) m))

@@ -17,7 +17,7 @@ use Rattle.pl_load.proofs.Joined.{wants-memory}
 use Rattle.pl_cli.specs.Texts.{text_of}
 use Rattle.pl_cli.specs.Runs.{Observed, HasRoom, IsRun}
 use Rattle.pl_cli.specs.declared.commands.Stats.{Stats}
-use Rattle.pl_cli.specs.Commands.{IsEnd, IsEnded, SinkView, observed_by, fault_of, numbers_told}
+use Rattle.pl_cli.specs.Commands.{IsEnd, IsEnded, SinkView, observed_by, fault_of, line_of_numbers}
 use Rattle.pl_cli.proofs.Keepers.{store-named}
 
 judged-is : (steps : List WorkStep) (asked : Option Request) (o : Option Fault) → first_fault steps ≡ o → EndsJudged steps asked (judged_status o) (judged_line asked o)
@@ -88,7 +88,7 @@ up-to-whole steps reads f a b c h = h
 -- ---- the whole
 
 run-is : (o : Observed) (asked : Option Request) (r : Result (Option Stats) Fault) → IsEnded o asked r
-    → IsRun o asked (judged_status (fault_of r)) (judged_line asked (fault_of r)) (numbers_told r)
+    → IsRun o asked (judged_status (fault_of r)) (judged_line asked (fault_of r)) (line_of_numbers r)
 run-is o asked (Ok x) h =
     record {
       held = h.held;
@@ -129,7 +129,7 @@ run-is o asked (Err f) h =
     }
 
 pub run-of : (o : Observed) (asked : Option Request) (r : Result (Option Stats) Fault) (status : ℕ) → status ≡ judged_status (fault_of r)
-    → IsEnded o asked r → IsRun o asked status (judged_line asked (fault_of r)) (numbers_told r)
+    → IsEnded o asked r → IsRun o asked status (judged_line asked (fault_of r)) (line_of_numbers r)
 run-of o asked r status e h = rw e (run-is o asked r h)
 
 -- ---- what is asked for

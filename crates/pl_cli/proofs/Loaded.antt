@@ -18,7 +18,7 @@ use Rattle.pl_load.specs.declared.loading.Loaded.{Loaded}
 use Rattle.pl_load.specs.Loads.{IsLoaded}
 use Rattle.pl_world.specs.Worlds.{owned_world}
 use Rattle.pl_world.specs.Known.{ShowsSame}
-use Rattle.pl_cli.specs.Texts.{text_of, check_text, numbers_of, present_in, table_stats, run_stats, TakesSteps, TellsNumbers}
+use Rattle.pl_cli.specs.Texts.{text_of, check_text, numbers_of, present_in, table_stats, run_stats, TakesSteps, IsNumbersLine}
 use Rattle.pl_cli.specs.Commands.{loaded_text, loaded_steps, loaded_stats}
 
 same-text : (format : Format) (v w : World) (p r : Pipeline) (a b from to : ℕ) → ShowsSame v w r from to → p ≡ r → a ≡ from → b ≡ to
@@ -46,7 +46,7 @@ same-steps v w p r plan size e c = rw (e, c) refl
 
 -- the numbers of what was loaded are those of the run
 pub loaded-numbers : (held : Contents) (q : RunRequest) (l : Loaded) (line : List ℕ) → IsLoaded held q l
-    → line ≡ loaded_stats q.options.stats l q.options.chunk → TellsNumbers held (Some (Run q)) line
+    → line ≡ loaded_stats q.options.stats l q.options.chunk → IsNumbersLine held (Some (Run q)) line
 loaded-numbers held q l line h e = (
   l.plan,
   record { is = rw h.pipeline h.plan; from = sym h.from; to = sym h.to },

@@ -22,7 +22,7 @@ use Rattle.pl_runner.specs.Runs.{run_steps}
 use Rattle.pl_feed.specs.Feeds.{daily_steps}
 use Rattle.pl_cli.specs.declared.commands.Stats.{Stats}
 use Rattle.pl_table.specs.Numbers.{stats_line}
-use Rattle.pl_cli.specs.Texts.{text_of, table_stats, present_in, TakesSteps, TellsNumbers}
+use Rattle.pl_cli.specs.Texts.{text_of, table_stats, present_in, TakesSteps, IsNumbersLine}
 use Rattle.pl_cli.specs.Runs.{Observed, HasRoom}
 
 -- the table of what was loaded, its steps in chunks of so many sessions, and the line of its numbers where it
@@ -51,13 +51,13 @@ abbrev pub loaded_days : Loaded → ℕ
 loaded_days l = daily_steps (owned_world l.world) (pipeline_of l.checked) l.plan.to
 
 -- the line of the numbers that a command gives
-abbrev pub stats_told : Option Stats → List ℕ
-stats_told None = []
-stats_told (Some s) = stats_line s.numbers.rows s.numbers.cells s.numbers.peak s.numbers.bound s.applied s.present
+abbrev pub line_of_stats : Option Stats → List ℕ
+line_of_stats None = []
+line_of_stats (Some s) = stats_line s.numbers.rows s.numbers.cells s.numbers.peak s.numbers.bound s.applied s.present
 
-abbrev pub numbers_told : Result (Option Stats) Fault → List ℕ
-numbers_told (Ok stats) = stats_told stats
-numbers_told (Err fault) = []
+abbrev pub line_of_numbers : Result (Option Stats) Fault → List ℕ
+line_of_numbers (Ok stats) = line_of_stats stats
+line_of_numbers (Err fault) = []
 
 abbrev pub fault_of : {T : Type 0} → Result T Fault → Option Fault
 fault_of (Ok x) = None
@@ -82,7 +82,7 @@ pub record IsEnded (o : Observed) (asked : Option Request) (result : Result (Opt
   pub held : Contents
   pub are_held : AreHeld o.files o.lists asked held
   pub done : OnOk result (IsDone o held asked)
-  pub told : IfOk result (λ stats. TellsNumbers held asked (stats_told stats))
+  pub told : IfOk result (λ stats. IsNumbersLine held asked (line_of_stats stats))
   pub ended : IfErr result (IsEnd o held asked)
   pub reads : List Source
   pub has_read : HasRead (work held asked) reads result

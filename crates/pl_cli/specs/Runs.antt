@@ -10,7 +10,7 @@ use Rattle.pl_judge.specs.Stages.{IsFront}
 use Rattle.pl_judge.specs.Steps.{Source, first_fault, reads_in, names_read, tables_read}
 use Rattle.pl_judge.specs.Work.{work}
 use Rattle.pl_judge.specs.Ends.{Ends, EndsJudged, EndsForMemory}
-use Rattle.pl_cli.specs.Texts.{text_of, TakesSteps, TellsNumbers}
+use Rattle.pl_cli.specs.Texts.{text_of, TakesSteps, IsNumbersLine}
 
 -- What the parts of the outside tell as a run begins, and what is told of them and of the steps as it ends.
 pub record Observed : Type 0 where
@@ -66,7 +66,7 @@ pub record IsRun (o : Observed) (asked : Option Request) (status : ℕ) (line nu
   pub ends : Ends (work held asked) asked status line
   pub text : status ≡ 0 → TakesAll o.taken o.taken_now (text_of held asked)
   pub prefix : status ≡ 9 → TakesPrefix o.taken o.taken_now (text_of held asked)
-  pub told : status ≡ 0 → TellsNumbers held asked numbers
+  pub told : status ≡ 0 → IsNumbersLine held asked numbers
   pub quiet : ¬ (status ≡ 0) → numbers ≡ []
   -- What was read: all that the work reads up to its end, each file and each table once and in their order;
   -- where a read failed or memory ran out, some of that from the front. No other name was begun, and no other

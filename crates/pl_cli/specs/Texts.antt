@@ -115,7 +115,7 @@ run_stats held q steps =
     let present = present_in (world_known held q) p (index_of (days_held held) q.from.day) (index_of (days_held held) q.to.day) in
     if q.options.stats then table_stats w p (rows_asked w p q) steps present else []
 
--- With its text a run tells the line of its numbers where it is asked for; nothing else tells numbers.
-abbrev pub TellsNumbers : Contents → Option Request → List ℕ → Type 0
-TellsNumbers held (Some (Run q)) told = TakesSteps held (Some (Run q)) (λ n. told ≡ run_stats held q n)
-TellsNumbers held asked told = told ≡ []
+-- With its text a run gives the line of its numbers where it is asked for; nothing else gives numbers.
+abbrev pub IsNumbersLine : Contents → Option Request → List ℕ → Type 0
+IsNumbersLine held (Some (Run q)) line = TakesSteps held (Some (Run q)) (λ n. line ≡ run_stats held q n)
+IsNumbersLine held asked line = line ≡ []

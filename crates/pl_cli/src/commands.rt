@@ -9,7 +9,7 @@ ghost use Rattle.pl_load.specs.Loads.{IsReadyRun};
 ghost use Rattle.pl_terms.specs.Checked.{pipeline_of};
 ghost use Rattle.pl_table.specs.Numbers.{stats_line};
 ghost use Rattle.pl_cli.specs.Texts.{check_text};
-ghost use Rattle.pl_cli.specs.Commands.{IsAnswered, sink_change, loaded_text, loaded_present, loaded_steps, loaded_stats, stats_told};
+ghost use Rattle.pl_cli.specs.Commands.{IsAnswered, sink_change, loaded_text, loaded_present, loaded_steps, loaded_stats, line_of_stats};
 
 use crate::present::present_of;
 use itoa::Buffer;
@@ -69,7 +69,7 @@ fn write_loaded<O: Sink, L: Ledger>(
     ensures writes { IsErrOf result Fault.Memory
         ⊎ Writes O.taken O.faults O.sound O.room out.old out.new
         (loaded_text loaded.now options.now.format) result }
-    ensures stats { IfOk result (λ stats. stats_told stats
+    ensures stats { IfOk result (λ stats. line_of_stats stats
         ≡ loaded_stats options.now.stats loaded.now options.now.chunk) }
     ensures fault { IfErr result (λ fault. (fault ≡ Fault.Memory) ⊎ (fault ≡ Fault.Unwritten)) }
     ensures memory { IsErrOf result Fault.Memory → (out.new ≡ out.old) × (steps.new ≡ steps.old) }
@@ -96,7 +96,7 @@ fn write_loaded<O: Sink, L: Ledger>(
 // The numbers of a run, where they are asked for.
 fn stats_of(asked: bool, report: &RunReport, loaded: &Loaded) -> Option<Stats>
     requires ready { IsReadyRun loaded.now }
-    ensures { stats_told result
+    ensures { line_of_stats result
         ≡ (if asked then stats_line report.now.rows report.now.cells report.now.peak loaded.now.plan.bound
         report.now.applied (loaded_present loaded.now) else []) }
 {

@@ -9,7 +9,7 @@ ghost use Rattle.pl_words.specs.Views.{request_of};
 ghost use Rattle.pl_judge.specs.Faults.{judged_status, judged_line};
 ghost use Rattle.pl_cli.specs.Runs.{observed, IsRun};
 ghost use Rattle.pl_load.specs.Views.{change, shelf_change, keeper_change};
-ghost use Rattle.pl_cli.specs.Commands.{IsAnswered, sink_change, fault_of, numbers_told};
+ghost use Rattle.pl_cli.specs.Commands.{IsAnswered, sink_change, fault_of, line_of_numbers};
 
 use crate::cells::explain_command;
 use crate::commands::{Stats, check_command, fmt_command, plan_command, run_command};
@@ -148,7 +148,7 @@ fn finish<E: Sink>(
     ensures status { result ≡ judged_status (fault_of ended) }
     ensures told { IsTold E.taken E.faults E.sound E.room err.old err.new
         (judged_line (option_map (λ q. request_of q.now) asked.entry) (fault_of ended)
-        ++ numbers_told ended) }
+        ++ line_of_numbers ended) }
     ensures err { LeavesSink E.sound E.faults err.old err.new }
 {
     match ended {

@@ -13,14 +13,14 @@ use Rattle.pl_adjarray.proofs.Worlds.{whole_counts}
 use Rattle.pl_exec.specs.declared.chunk_inputs.ChunkInputs.{ChunkInputs}
 use Rattle.pl_exec.specs.declared.windows.Bars.{Bars}
 use Rattle.pl_exec.specs.Tasks.{first_row, row_count, count_in, graph_in, low_in, sids_in, term_steps, columns_of, columns_of_term, window_of_term}
-use Rattle.pl_exec.specs.ChunkInputs.{AreBars, AreMoved, GoOn, GoesOn, HasBarsAt, HasBegun, HaveBegun, IsColumnRun, advanced, buffer_at, buffer_for, buffered, counted, new_column, one_col, passed, stand_at, steps_at, steps_of, task_of, traversal_at}
+use Rattle.pl_exec.specs.ChunkInputs.{AreBars, AreMoved, GoOn, GoesOn, HasBarsAt, HasBegun, HaveBegun, IsColumnRun, advanced, buffer_at, buffer_for, buffered, counted, new_column, one_col, passed, session_reached, steps_at, steps_of, task_of, traversal_at}
 use Rattle.pl_workspace.specs.Slots.{Slots}
 use Rattle.pl_exec.proofs.NewColumns.{part, columns_sum}
 
 not_first : (a b : ℕ) → a < b → (b == a) ≡ false
 not_first a b h = grind (arith, nat_tests)
 
-stand_advances : (b : Buffered) (size m : ℕ) → 1 ≤ size → advances (record { array = b; window = size; session = stand_at b size m }) ≡ m
+stand_advances : (b : Buffered) (size m : ℕ) → 1 ≤ size → advances (record { array = b; window = size; session = session_reached b size m }) ≡ m
 stand_advances b size zero h = rw (eq-eqb b.first b.first refl) refl
 stand_advances b size (suc i) h = let e = not_first b.first (b.first + size + i) (omega arith) in rw e (let r : b.first + size + i + 1 - (b.first + size) ≡ suc i = omega arith in r)
 
@@ -79,11 +79,11 @@ module _ (j : ChunkInputs) (w : Slots) (k : ℕ) (n : spec.Node) (run : IsColumn
 
   -- ---- what is counted
 
-  at_end : (p : ℕ) → stand_at (buffer_at j k n cols p) n.window (count_in (task_of j) k) ≡ first_row (task_of j) k + row_count (task_of j) k
+  at_end : (p : ℕ) → session_reached (buffer_at j k n cols p) n.window (count_in (task_of j) k) ≡ first_row (task_of j) k + row_count (task_of j) k
   at_end p =
       let c = some_count in let r = first_of (new_column n p) in let s = window_is in
       let e : count_in (task_of j) k ≡ suc (count_in (task_of j) k - 1) = omega arith in
-      ap (stand_at (buffer_at j k n cols p) n.window) e ∙ (let q : (buffer_at j k n cols p).first + n.window + (count_in (task_of j) k - 1) ≡ first_row (task_of j) k + row_count (task_of j) k = omega arith in q)
+      ap (session_reached (buffer_at j k n cols p) n.window) e ∙ (let q : (buffer_at j k n cols p).first + n.window + (count_in (task_of j) k - 1) ≡ first_row (task_of j) k + row_count (task_of j) k = omega arith in q)
 
   ended : (p : ℕ) (v : Traversal) → v ≡ traversal_at j k n cols p (count_in (task_of j) k) → applied_at v.array v.session ≡ steps_at j k n cols p
   ended p v e = ap (λ (u : Traversal). applied_at u.array u.session) e ∙ ap (applied_at (buffer_at j k n cols p)) (at_end p)

@@ -203,13 +203,13 @@ buffer_at j k n cols p = buffer_for j k cols (new_column n p)
 abbrev pub one_col : ChunkInputs → ℕ → List ℕ
 one_col j i = get_or j.cols.now i 0 ∷ []
 
--- where a traversal stands after so many advances
-abbrev pub stand_at : Buffered → ℕ → ℕ → ℕ
-stand_at b size zero = b.first
-stand_at b size (suc n) = b.first + size + n
+-- the session that a traversal has reached after so many advances
+abbrev pub session_reached : Buffered → ℕ → ℕ → ℕ
+session_reached b size zero = b.first
+session_reached b size (suc n) = b.first + size + n
 
 abbrev pub traversal_at : ChunkInputs → ℕ → spec.Node → List ℕ → ℕ → ℕ → Traversal
-traversal_at j k n cols p m = record { array = buffer_at j k n cols p; window = n.window; session = stand_at (buffer_at j k n cols p) n.window m }
+traversal_at j k n cols p m = record { array = buffer_at j k n cols p; window = n.window; session = session_reached (buffer_at j k n cols p) n.window m }
 
 -- what holds of the traversal of each place
 pub record OfEach (P : ℕ → Traversal → Type 0) (b : Bars) : Type 0 where

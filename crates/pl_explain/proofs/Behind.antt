@@ -34,7 +34,7 @@ use Rattle.pl_world.specs.declared.world.World.{World}
 use Rattle.pl_world.specs.Worlds.{world_of, IsMade}
 use Rattle.pl_world.specs.Evaluations.{IsAsked, IsAskedInput}
 use Rattle.pl_explain.specs.Reading.{ArePut, IsRoomy}
-use Rattle.pl_explain.specs.Walking.{MayBeDerived, CanStandIn}
+use Rattle.pl_explain.specs.Walking.{MayBeDerived, CanBeDerivedWithin}
 use Rattle.pl_explain.proofs.Values.{over-read}
 
 -- ---- putting
@@ -119,7 +119,7 @@ sessions-held c checked k n e =
 
 module _ (w : World) (c : Parts) (checked : IsChecked (pipeline_of c)) where
   -- the premises of a value that may stand may stand
-  pub premises-stand : (t a d : ℕ) → MayBeDerived w c (TermValue t a (pos d)) → Each (CanStandIn w c (t + 1)) (premises (world_of w) (pipeline_of c) (number_in (world_of w) (pipeline_of c)) (TermValue t a (pos d)))
+  pub premises-stand : (t a d : ℕ) → MayBeDerived w c (TermValue t a (pos d)) → Each (CanBeDerivedWithin w c (t + 1)) (premises (world_of w) (pipeline_of c) (number_in (world_of w) (pipeline_of c)) (TermValue t a (pos d)))
   premises-stand t a d h = premises_ready (world_of w) (pipeline_of c) checked.graph (sessions-held c checked) (number_in (world_of w) (pipeline_of c)) (TermValue t a (pos d)) (t + 1) h (omega arith)
 
   module _ (t a d : ℕ) (h : MayBeDerived w c (TermValue t a (pos d))) where

@@ -47,7 +47,7 @@ use Rattle.pl_explain.proofs.Given.{given-yes}
 use Rattle.pl_explain.proofs.Values.{premises-front, premises-masked}
 use Rattle.pl_explain.specs.declared.walk.Walk.{Walk}
 use Rattle.pl_explain.specs.Judging.{IsTable}
-use Rattle.pl_explain.specs.Walking.{MayBeDerived, CanStandIn, HasWalked, HoldsSoFar, Finishes, IsPut, IsTooLong, IsWalkTo}
+use Rattle.pl_explain.specs.Walking.{MayBeDerived, CanBeDerivedWithin, HasWalked, HoldsSoFar, Finishes, IsPut, IsTooLong, IsWalkTo}
 use Rattle.pl_explain.proofs.Behind.{premises-stand, sessions-held}
 use Rattle.pl_explain.proofs.Standing.{stands-more}
 use Rattle.pl_explain.proofs.Walks.{walk-both, walk-states, walk-more, long-front, long-back, long-first, long-last, deeper, deeper-long}
@@ -74,9 +74,9 @@ module _ (facts : List code.Fact) (i : ℕ) (f : code.Fact) (at : slice_get fact
       ap (map fact_of) (sym (take-append-drop (i + 1) facts)) ∙ map-append fact_of (take (i + 1) facts) (drop (i + 1) facts)
       ∙ ap (λ l. l ++ map fact_of (drop (i + 1) facts)) passed-more
 
-  module _ (w : World) (c : Parts) (most : ℕ) (stand : Each (CanStandIn w c most) (map fact_of facts)) where
-    pub all-stand : CanStandIn w c most (fact_of f)
-    all-stand = each_at (λ x. CanStandIn w c most (fact_of x)) facts i f (each_of_map (CanStandIn w c most) fact_of facts stand) at
+  module _ (w : World) (c : Parts) (most : ℕ) (stand : Each (CanBeDerivedWithin w c most) (map fact_of facts)) where
+    pub all-stand : CanBeDerivedWithin w c most (fact_of f)
+    all-stand = each_at (λ x. CanBeDerivedWithin w c most (fact_of x)) facts i f (each_of_map (CanBeDerivedWithin w c most) fact_of facts stand) at
 
     module _ (old mid : Walk) (first : Finishes w c most old mid (map fact_of (take i facts))) where
       pub all-more : (new : Walk) → Finishes w c (depth_of (fact_of f)) mid new (fact_of f ∷ []) → Finishes w c most old new (map fact_of (take (i + 1) facts))
@@ -198,8 +198,8 @@ module _ {w : World} {c : Parts} {old : Walk} (from : HoldsSoFar w c old) (t : �
   kept : mask_passes w c n.mask a s ≡ true → own ≡ read ++ facts_read w c t a s
   kept passed = premises-masked w c from.table.ready.checked t n is a s from.table.ready.texts there true passed ∙ ap (λ l. l ++ facts_read w c t a s) (sym same)
 
-  pub mask-stands : MayBeDerived w c (TermValue t a (pos s)) → Each (CanStandIn w c (t + 1)) read
-  mask-stands h = each_front (CanStandIn w c (t + 1)) read front.0 (subst (λ fs. Each (CanStandIn w c (t + 1)) fs) front.1 (premises-stand w c from.table.ready.checked t a s h))
+  pub mask-stands : MayBeDerived w c (TermValue t a (pos s)) → Each (CanBeDerivedWithin w c (t + 1)) read
+  mask-stands h = each_front (CanBeDerivedWithin w c (t + 1)) read front.0 (subst (λ fs. Each (CanBeDerivedWithin w c (t + 1)) fs) front.1 (premises-stand w c from.table.ready.checked t a s h))
 
   pub mask-long : IsTooLong w c (t + 1) old read → IsTooLong w c (t + 1) old own
   mask-long long = subst (λ fs. IsTooLong w c (t + 1) old fs) (sym front.1) (long-front w c (t + 1) old read front.0 long)
@@ -214,10 +214,10 @@ module _ {w : World} {c : Parts} {old : Walk} (from : HoldsSoFar w c old) (t : �
     pub mask-known : o ≡ None → ⊥
     mask-known e = let bad : None ≡ Some (mask_passes w c n.mask a s) = sym e ∙ known in cc
 
-    pub facts-stand : o ≡ Some true → MayBeDerived w c (TermValue t a (pos s)) → Each (CanStandIn w c (t + 1)) (facts_read w c t a s)
+    pub facts-stand : o ≡ Some true → MayBeDerived w c (TermValue t a (pos s)) → Each (CanBeDerivedWithin w c (t + 1)) (facts_read w c t a s)
     facts-stand e h =
-        each_back (CanStandIn w c (t + 1)) read (facts_read w c t a s)
-        (subst (λ fs. Each (CanStandIn w c (t + 1)) fs) (kept (passed true e)) (premises-stand w c from.table.ready.checked t a s h))
+        each_back (CanBeDerivedWithin w c (t + 1)) read (facts_read w c t a s)
+        (subst (λ fs. Each (CanBeDerivedWithin w c (t + 1)) fs) (kept (passed true e)) (premises-stand w c from.table.ready.checked t a s h))
 
     pub stopped-finished : o ≡ Some false → Finishes w c (t + 1) old mid own
     stopped-finished e =

@@ -46,8 +46,8 @@ MayBeDerived w c (TermValue t a d) =
     (is_fitting (world_of w) (pipeline_of c) (TermValue t a d) ≡ true) × HasDay (world_of w) d × (pos 0 ≤ℤ reach (world_of w).days (term_at (pipeline_of c).graph t) d)
 
 -- it may, and is at most so deep
-abbrev pub CanStandIn : World → Parts → ℕ → Fact → Type 0
-CanStandIn w c depth f = MayBeDerived w c f × (depth_of f ≤ depth)
+abbrev pub CanBeDerivedWithin : World → Parts → ℕ → Fact → Type 0
+CanBeDerivedWithin w c depth f = MayBeDerived w c f × (depth_of f ≤ depth)
 
 -- after the facts that it had finished, the walk has finished these, which are at most so deep
 abbrev pub Finishes : World → Parts → ℕ → Walk → Walk → List Fact → Type 0

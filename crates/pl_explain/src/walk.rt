@@ -20,7 +20,7 @@ ghost use Rattle.pl_terms.specs.Uses.{is_used};
 ghost use Rattle.pl_explain.specs.Given.{facts_read, has, has_all, own_facts, HasRow, KeepsRows};
 ghost use Rattle.pl_explain.specs.Keys.{fact_of};
 ghost use Rattle.pl_derivation.specs.declared.error.ExplainError.TheVariants.{TooLong};
-ghost use Rattle.pl_explain.specs.Walking.{MayBeDerived, CanStandIn, IsPut, IsWalkTo, HoldsSoFar};
+ghost use Rattle.pl_explain.specs.Walking.{MayBeDerived, CanBeDerivedWithin, IsPut, IsWalkTo, HoldsSoFar};
 
 use crate::bars::seen_cells;
 use crate::basis::{Basis, node_in, parts_are_ready};
@@ -145,7 +145,7 @@ fn finish_all<L: Ledger>(
     steps: &mut Steps<L>,
 ) -> Result<(), ExplainError>
     requires stands { HoldsSoFar source.now.world source.now.checked.now walk.old }
-    requires facts { Each (CanStandIn source.now.world source.now.checked.now (t.0 + 1))
+    requires facts { Each (CanBeDerivedWithin source.now.world source.now.checked.now (t.0 + 1))
         (map fact_of facts.now) }
     ensures { IsWalkTo source.now.world source.now.checked.now (t.0 + 1) (map fact_of facts.now)
         walk.old walk.new result }
@@ -245,7 +245,7 @@ fn finish_kind<L: Ledger>(
     requires session { session < length source.now.world.sessions.now }
     requires fact { MayBeDerived source.now.world source.now.checked.now
         (TermValue t.0 (sid_at source.now.world.assets.now col) (pos session)) }
-    requires facts { Each (CanStandIn source.now.world source.now.checked.now (t.0 + 1))
+    requires facts { Each (CanBeDerivedWithin source.now.world source.now.checked.now (t.0 + 1))
         (facts_read source.now.world source.now.checked.now t.0
         (sid_at source.now.world.assets.now col) session) }
     ensures { IsWalkTo source.now.world source.now.checked.now (t.0 + 1)

@@ -14,7 +14,7 @@ use Rattle.pl_spec.proofs.Ranges.{range-rises}
 use Rattle.pl_spec.proofs.Lists.{no-pairs}
 use Rattle.pl_bars.specs.Bars.{cell_at}
 use Rattle.pl_bars.proofs.BarSearch.{cell_at-IsCell}
-use Rattle.pl_adjust.specs.Columns.{StandByDay, events_at}
+use Rattle.pl_adjust.specs.Columns.{AreByDay, events_at}
 use Rattle.pl_adjust.specs.Events.{PutsCell}
 use Rattle.pl_adjust.proofs.Kept.{cells_at}
 use Rattle.pl_world.specs.declared.world.World.{World}
@@ -32,7 +32,7 @@ due-by (Some last) day e p = let q : int_le e.day day ≡ true = grind (p, arith
 due-later : (last day : ℤ) (e : Event) → is_due (Some last) day e ≡ true → last <ℤ e.day
 due-later last day e p = let q : int_lt last e.day ≡ true = grind (p, arith) in grind (arith, ints)
 
-pub events-up : (xs : List ColumnAdjustment) → StandByDay xs → (col : ℕ) → AllPairs (λ e f. e.day ≤ℤ f.day) (events_at xs col)
+pub events-up : (xs : List ColumnAdjustment) → AreByDay xs → (col : ℕ) → AllPairs (λ e f. e.day ≤ℤ f.day) (events_at xs col)
 events-up xs up col = AllPairs-map (λ (e f : Event). e.day ≤ℤ f.day) (λ (x : ColumnAdjustment). x.event) (filter (λ x. x.col == col) xs) (up col)
 
 pub many : (w : World) (s : ℕ) → length (fed_days w s) ≡ s

@@ -10,7 +10,7 @@ use Rattle.pl_grammar.specs.declared.Place.{Place}
 use Rattle.pl_grammar.specs.Tree.{Token, Name, Number, Assign, Semicolon, PipelineWord, LetWord, ColumnWord, ScreenWord, Lexeme, mark, Tree}
 use Rattle.pl_grammar.specs.Grammar.{Derives}
 use Rattle.pl_grammar.specs.Machine.{State, Stop, Deep, first, move, depth, state_depth, step, allowed, then_run, run_by, run, finish}
-use Rattle.pl_grammar.specs.Script.{Head, LetHead, ColumnHead, ScreenHead, Statement, HeadRead, let_read, column_read, screen_read, Statements, no_statement, statement, version_of, is_known, is_version, version_or, version_told, Script, script, Viable, Stage, Opening, VersionWanted, VersionGiven, Between, LetWanted, ColumnWanted, AssignWanted, Within, if_version, opening_move, version_move, given_move, between_move, name_move, assign_head, ended, within_move, script_move, stage_depth, script_step, script_run, script_finish}
+use Rattle.pl_grammar.specs.Script.{Head, LetHead, ColumnHead, ScreenHead, Statement, HeadRead, let_read, column_read, screen_read, Statements, no_statement, statement, version_of, is_known, is_version, version_or, first_version, Script, script, Viable, Stage, Opening, VersionWanted, VersionGiven, Between, LetWanted, ColumnWanted, AssignWanted, Within, if_version, opening_move, version_move, given_move, between_move, name_move, assign_head, ended, within_move, script_move, stage_depth, script_step, script_run, script_finish}
 use Rattle.pl_grammar.proofs.Sound.{Has, move_keeps, Keeps}
 use Rattle.pl_grammar.proofs.Runs.{same_ok, no_ok, run-append, run_on, run_step, run_nil, allowed_some, bound_ok}
 use Rattle.pl_grammar.proofs.Viable.{some_name, derives_finish, CanEnd, can_end, has_finish, nothing_read}
@@ -86,8 +86,8 @@ known_first zero m h = absurd (let bad : false ≡ true = h in cc)
 known_first (suc n) m h = let some : (suc n == 0) ≡ false = grind (arith, nat_tests) in rw some refl
 
 -- the version that a script tells is one of the language
-pub script_known : {d : ℕ} {ts : List Lexeme} {ss : List Statement} → Script d ts ss → is_known (version_told ts) ≡ true
-unfolding version_told
+pub script_known : {d : ℕ} {ts : List Lexeme} {ss : List Statement} → Script d ts ss → is_known (first_version ts) ≡ true
+unfolding first_version
 script_known (script {v = v} h rest) = ap is_known (known_first (version_of v) _ h) ∙ h
 
 -- the tokens that the machine has read

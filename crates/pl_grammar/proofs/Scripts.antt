@@ -2,7 +2,7 @@
 use Rattle.std.proofs.Common.{◌≡◌, ℕ, suc, ◌+◌, ◌≤◌, ◌==◌, Bool, true, false, ◌&&◌, ◌||◌, ◌⊎◌, inl, inr, leb, List, [], ◌∷◌, ◌++◌, length, refl, sym, ap, ap₂, subst, ◌∙◌, arith, length-append}
 use Rattle.std.proofs.lemmas.Bool.{le-leb, leb-true, and_from, and_parts, or_cases, eqb-true}
 use Rattle.pl_grammar.specs.Tree.{Token, Name, Number, LargeNumber, Assign, Semicolon, PipelineWord, LetWord, ColumnWord, Lexeme, mark, Tree}
-use Rattle.pl_grammar.specs.Script.{Head, LetHead, ColumnHead, ScreenHead, Statement, HeadRead, let_read, column_read, screen_read, Statements, no_statement, statement, version_of, is_known, token_version, version_or, version_told, Script, script}
+use Rattle.pl_grammar.specs.Script.{Head, LetHead, ColumnHead, ScreenHead, Statement, HeadRead, let_read, column_read, screen_read, Statements, no_statement, statement, version_of, is_known, token_version, version_or, first_version, Script, script}
 use Rattle.pl_grammar.specs.Faults.{most_depth, most_tokens, token_counted, token_too_large, IsShort}
 use Rattle.pl_grammar.specs.Printed.{nowhere, here, tree_level, tokens, tree_depth}
 use Rattle.pl_grammar.specs.Places.{SameTokens, same_none, same_next}
@@ -126,9 +126,9 @@ pub script_derives : (p : Token → Bool) (n : ℕ) (ss : List Statement) → is
 unfolding script_tokens
 script_derives p n ss k h = script (ap is_known (number_told n k) ∙ k) (statements_derive p ss h)
 
-pub script_told : (n : ℕ) (ss : List Statement) → is_known n ≡ true → version_told (script_tokens n ss) ≡ n
-unfolding script_tokens version_told
-script_told n ss k = ap (λ m. version_or m (version_told (here Semicolon ∷ statements_tokens ss))) (number_told n k) ∙ known_first n _ k
+pub script_told : (n : ℕ) (ss : List Statement) → is_known n ≡ true → first_version (script_tokens n ss) ≡ n
+unfolding script_tokens first_version
+script_told n ss k = ap (λ m. version_or m (first_version (here Semicolon ∷ statements_tokens ss))) (number_told n k) ∙ known_first n _ k
 
 statements_short : (p : Token → Bool) (ss : List Statement) → are_sound p ss ≡ true → IsShort 0 (statements_tokens ss)
 unfolding statements_tokens are_sound IsShort
@@ -149,8 +149,8 @@ script_short p n ss h = (omega arith, refl, (omega arith, refl, (omega arith, re
 
 -- the same tokens at other places
 
-pub same_told : {ts us : List Lexeme} → SameTokens ts us → version_told us ≡ version_told ts
-unfolding version_told
+pub same_told : {ts us : List Lexeme} → SameTokens ts us → first_version us ≡ first_version ts
+unfolding first_version
 same_told same_none = refl
 same_told (same_next {t = t} q s) = ap (version_or (token_version t)) (same_told s)
 

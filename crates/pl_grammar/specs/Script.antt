@@ -50,10 +50,10 @@ token_version t = 0
 abbrev pub version_or : ℕ → ℕ → ℕ
 version_or n m = if n == 0 then m else n
 
--- the version that the first of some tokens tells which tells one; a script's first number is its version
-unfoldable pub version_told : List Lexeme → ℕ
-version_told [] = 0
-version_told (mark p t ∷ ts) = version_or (token_version t) (version_told ts)
+-- the version that the first of some tokens gives which gives one; a script's first number is its version
+unfoldable pub first_version : List Lexeme → ℕ
+first_version [] = 0
+first_version (mark p t ∷ ts) = version_or (token_version t) (first_version ts)
 
 -- the tokens derive the script with these statements
 pub data Script : ℕ → List Lexeme → List Statement → Type 0 where

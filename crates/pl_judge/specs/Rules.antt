@@ -118,12 +118,12 @@ rows_fault (rows.BadRatio table id) = Row table id BadRatio
 
 -- ---- what the errors of code tell: a fault of the input, or want of memory
 
-abbrev pub told : {F : Type 0} → (F → Fault) → Option F → Fault
-told says None = Memory
-told says (Some f) = says f
+abbrev pub fault_or_memory : {F : Type 0} → (F → Fault) → Option F → Fault
+fault_or_memory says None = Memory
+fault_or_memory says (Some f) = says f
 
-abbrev pub told_at : {R : Type 0} → (ℕ → R → Fault) → Option (reading.Fault R) → Fault
-told_at says f = told (λ f. says f.line f.rule) f
+abbrev pub line_fault : {R : Type 0} → (ℕ → R → Fault) → Option (reading.Fault R) → Fault
+line_fault says f = fault_or_memory (λ f. says f.line f.rule) f
 
 abbrev pub syntax_error : SyntaxError → Fault
 syntax_error (errors.BadByte place) = Syntax place misspelled.BadByte

@@ -48,7 +48,7 @@ IsRisen shelf keeper (Unloaded table) = keeper
 IsRisen shelf keeper Unwritten = ⊥
 IsRisen shelf keeper fault = ⊤
 
--- the fault that an error tells, which is of the input or want of memory
-pub record Tells (fault told : Fault) : Type 0 where
+-- the fault of an error, which is of the input or want of memory
+pub record IsErrorFault (fault said : Fault) : Type 0 where
   pub is : fault ≡ told
   pub inside : IsRisen ⊥ ⊥ fault

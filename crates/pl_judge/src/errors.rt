@@ -1,8 +1,8 @@
 //! What the errors of the readers and of the checker are to a command.
 
 ghost use Rattle.std.specs.Prelude.{◌≡◌};
-ghost use Rattle.pl_judge.specs.Stages.{Tells};
-ghost use Rattle.pl_judge.specs.Rules.{told_at, told, sessions_fault, assets_fault, labels_fault, numbers_fault, bars_fault, revisions_fault, payouts_fault, rows_fault, syntax_error, rule_fault, check_error, plan_error, lines_error, explain_error};
+ghost use Rattle.pl_judge.specs.Stages.{IsErrorFault};
+ghost use Rattle.pl_judge.specs.Rules.{line_fault, fault_or_memory, sessions_fault, assets_fault, labels_fault, numbers_fault, bars_fault, revisions_fault, payouts_fault, rows_fault, syntax_error, rule_fault, check_error, plan_error, lines_error, explain_error};
 
 use crate::{DataFault, Fault, Limit, RowFault, RuleFault, SyntaxFault};
 use pl_adjust::{AdjustError, RevisionsError};
@@ -40,7 +40,7 @@ impl From<Memory> for Fault {
 }
 
 impl From<SyntaxError> for Fault {
-    ghost from_gives = { λ error fault. Tells fault (syntax_error error) };
+    ghost from_gives = { λ error fault. IsErrorFault fault (syntax_error error) };
 
     fn from(error: SyntaxError) -> Fault {
         match error {
@@ -56,7 +56,7 @@ impl From<SyntaxError> for Fault {
 }
 
 impl From<CheckError> for Fault {
-    ghost from_gives = { λ error fault. Tells fault (check_error error) };
+    ghost from_gives = { λ error fault. IsErrorFault fault (check_error error) };
 
     fn from(error: CheckError) -> Fault {
         match error {
@@ -69,7 +69,7 @@ impl From<CheckError> for Fault {
 impl From<CalendarError> for Fault {
     ghost use Rattle.pl_calendar.specs.Faults as calendar;
 
-    ghost from_gives = { λ error fault. Tells fault (told_at sessions_fault (calendar.fault_of error)) };
+    ghost from_gives = { λ error fault. IsErrorFault fault (line_fault sessions_fault (calendar.fault_of error)) };
 
     fn from(error: CalendarError) -> Fault {
         let file = InputFile::Sessions;
@@ -86,7 +86,7 @@ impl From<CalendarError> for Fault {
 impl From<AssetsError> for Fault {
     ghost use Rattle.pl_lifetimes.specs.Faults as assets;
 
-    ghost from_gives = { λ error fault. Tells fault (told_at assets_fault (assets.fault_of error)) };
+    ghost from_gives = { λ error fault. IsErrorFault fault (line_fault assets_fault (assets.fault_of error)) };
 
     fn from(error: AssetsError) -> Fault {
         let file = InputFile::Assets;
@@ -104,7 +104,7 @@ impl From<AssetsError> for Fault {
 impl From<LabelsError> for Fault {
     ghost use Rattle.pl_assets.specs.LabelFaults as labels;
 
-    ghost from_gives = { λ error fault. Tells fault (told_at labels_fault (labels.fault_of error)) };
+    ghost from_gives = { λ error fault. IsErrorFault fault (line_fault labels_fault (labels.fault_of error)) };
 
     fn from(error: LabelsError) -> Fault {
         let file = InputFile::Labels;
@@ -123,7 +123,7 @@ impl From<LabelsError> for Fault {
 impl From<NumbersError> for Fault {
     ghost use Rattle.pl_numbers.specs.NumberFaults as numbers;
 
-    ghost from_gives = { λ error fault. Tells fault (told_at numbers_fault (numbers.fault_of error)) };
+    ghost from_gives = { λ error fault. IsErrorFault fault (line_fault numbers_fault (numbers.fault_of error)) };
 
     fn from(error: NumbersError) -> Fault {
         let file = InputFile::Numbers;
@@ -141,7 +141,7 @@ impl From<NumbersError> for Fault {
 impl From<BarsError> for Fault {
     ghost use Rattle.pl_bars.specs.Faults as bars;
 
-    ghost from_gives = { λ error fault. Tells fault (told_at bars_fault (bars.fault_of error)) };
+    ghost from_gives = { λ error fault. IsErrorFault fault (line_fault bars_fault (bars.fault_of error)) };
 
     fn from(error: BarsError) -> Fault {
         let file = InputFile::Bars;
@@ -161,7 +161,7 @@ impl From<BarsError> for Fault {
 impl From<RevisionsError> for Fault {
     ghost use Rattle.pl_adjust.specs.RevisionFaults as revisions;
 
-    ghost from_gives = { λ error fault. Tells fault (told_at revisions_fault (revisions.fault_of error)) };
+    ghost from_gives = { λ error fault. IsErrorFault fault (line_fault revisions_fault (revisions.fault_of error)) };
 
     fn from(error: RevisionsError) -> Fault {
         let file = InputFile::Revisions;
@@ -182,7 +182,7 @@ impl From<RevisionsError> for Fault {
 impl From<PayoutsError> for Fault {
     ghost use Rattle.pl_payouts.specs.Faults as payouts;
 
-    ghost from_gives = { λ error fault. Tells fault (told_at payouts_fault (payouts.fault_of error)) };
+    ghost from_gives = { λ error fault. IsErrorFault fault (line_fault payouts_fault (payouts.fault_of error)) };
 
     fn from(error: PayoutsError) -> Fault {
         let file = InputFile::Payouts;
@@ -198,7 +198,7 @@ impl From<PayoutsError> for Fault {
 }
 
 impl From<LinesError> for Fault {
-    ghost from_gives = { λ error fault. Tells fault (lines_error error) };
+    ghost from_gives = { λ error fault. IsErrorFault fault (lines_error error) };
 
     fn from(error: LinesError) -> Fault {
         match error {
@@ -212,7 +212,7 @@ impl From<LinesError> for Fault {
 }
 
 impl From<ExplainError> for Fault {
-    ghost from_gives = { λ error fault. Tells fault (explain_error error) };
+    ghost from_gives = { λ error fault. IsErrorFault fault (explain_error error) };
 
     fn from(error: ExplainError) -> Fault {
         match error {
@@ -225,7 +225,7 @@ impl From<ExplainError> for Fault {
 impl From<AdjustError> for Fault {
     ghost use Rattle.pl_adjust.specs.Faults as rows;
 
-    ghost from_gives = { λ error fault. Tells fault (told rows_fault (rows.fault_of error)) };
+    ghost from_gives = { λ error fault. IsErrorFault fault (fault_or_memory rows_fault (rows.fault_of error)) };
 
     fn from(error: AdjustError) -> Fault {
         match error {
@@ -246,7 +246,7 @@ impl From<AdjustError> for Fault {
 }
 
 impl From<PlanError> for Fault {
-    ghost from_gives = { λ error fault. Tells fault (plan_error error) };
+    ghost from_gives = { λ error fault. IsErrorFault fault (plan_error error) };
 
     fn from(error: PlanError) -> Fault {
         match error {
@@ -265,7 +265,7 @@ fn misspelled(place: Place, fault: SyntaxFault) -> Fault
 
 // A rule that the script of a pipeline file breaks.
 fn broken(place: Place, fault: CheckFault) -> Fault
-    ensures { Tells result (rule_fault fault place) }
+    ensures { IsErrorFault result (rule_fault fault place) }
 {
     match fault {
         CheckFault::UnknownName => ruled(place, RuleFault::UnknownName),

@@ -13,7 +13,7 @@ use Rattle.std.proofs.lemmas.Simd.{map-map}
 use Rattle.pl_pipeline.specs.declared.RankOrder.{RankOrder}
 use Rattle.pl_pipeline.specs.declared.RankOrder.TheVariants.{Ascending, Descending}
 use Rattle.pl_pipeline.specs.Cross.{Entry, values, precedes, preceding, earlier_same, ordinal}
-use Rattle.pl_laws.specs.ListLaws.{StandsBefore}
+use Rattle.pl_laws.specs.ListLaws.{ComesBefore}
 use Rattle.pl_spec.proofs.Counts.{count-cons, count-within, count-fewer, map-agree}
 use Rattle.pl_spec.proofs.Members.{In, in-contains}
 
@@ -173,7 +173,7 @@ same_value : (b c d : Bool) → c ≡ true → d ≡ true → (b || (c && d)) �
 same_value true c d e f = refl
 same_value false c d e f = rw (e, f) refl
 
-stands : (order : RankOrder) (e f : Entry) → StandsBefore order e f → comes_before order e f ≡ true
+stands : (order : RankOrder) (e f : Entry) → ComesBefore order e f → comes_before order e f ≡ true
 unfolding comes_before
 stands order e f (inl t) = rw t refl
 stands Ascending e f (inr h) = same_value (int_lt e.1 f.1) (int_eq f.1 e.1) (nat_lt e.0 f.0) (grind (arith, ints)) (grind (arith, nat_tests))
@@ -186,7 +186,7 @@ none_before order e (f ∷ fs) h =
     rw (count-cons (λ g. comes_before order g e) f fs, no) (omega (arith, none_before order e fs (λ k d l. h (suc k) d (omega arith))))
 
 -- as many entries come before the one at place i
-place-in_order : (order : RankOrder) (list : List Entry) → AllPairs (StandsBefore order) list → (i : ℕ) (e : Entry) → slice_get list i ≡ Some e → count_by (λ f. comes_before order f e) list ≡ i
+place-in_order : (order : RankOrder) (list : List Entry) → AllPairs (ComesBefore order) list → (i : ℕ) (e : Entry) → slice_get list i ≡ Some e → count_by (λ f. comes_before order f e) list ≡ i
 place-in_order order [] up i e at = absurd (cc)
 place-in_order order (f ∷ fs) up zero e at =
     let same : f ≡ e = cc in
@@ -195,12 +195,12 @@ place-in_order order (f ∷ fs) up zero e at =
     (rw (count-cons (λ h. comes_before order h f) f fs, no) (omega (arith, none_before order f fs (λ k d l. stands order f (get_or fs k d) (up 0 (suc k) d (omega arith) (omega arith))))))
 place-in_order order (f ∷ fs) up (suc i) e at =
     let within : i < length fs = slice_get_within fs i e at in
-    let first : StandsBefore order f (get_or fs i e) = up 0 (suc i) e (omega arith) (omega arith) in
+    let first : ComesBefore order f (get_or fs i e) = up 0 (suc i) e (omega arith) (omega arith) in
     let yes : comes_before order f e ≡ true = subst (λ (g : Entry). comes_before order f g ≡ true) (get_or_from_slice_get fs i e e at) (stands order f (get_or fs i e) first) in
     rw (count-cons (λ h. comes_before order h e) f fs, yes)
     (omega (arith, place-in_order order fs (λ i j d l m. up (suc i) (suc j) d (omega arith) (omega arith)) i e at))
 
-pub ordinals-places : (order : RankOrder) (list sorted : List Entry) → IsPermutation list sorted → AllPairs (StandsBefore order) sorted
+pub ordinals-places : (order : RankOrder) (list sorted : List Entry) → IsPermutation list sorted → AllPairs (ComesBefore order) sorted
     → (i : ℕ) (e : Entry) → slice_get sorted i ≡ Some e → ordinal order list e.0 e.1 ≡ i + 1
 ordinals-places order list sorted moved up i e at =
     let all : count_by (λ f. comes_before order f e) sorted ≡ count_by (λ f. comes_before order f e) list = sum_by-IsPermutation (λ f. cond (comes_before order f e) 1 0) list sorted moved in

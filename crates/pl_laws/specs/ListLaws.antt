@@ -22,13 +22,13 @@ ValuesAreSorted = (vs sorted : List ℤ) → IsPermutation vs sorted → AllPair
 abbrev pub ValuesAreCounted : Type 0
 ValuesAreCounted = (vs : List ℤ) (i : ℕ) (v : ℤ) → i < length vs → IsValueAt vs i (value_at vs i) × (IsValueAt vs i v → v ≡ value_at vs i)
 
--- e stands before f: its value comes first, or of two equal values its sid does
-abbrev pub StandsBefore : RankOrder → Entry → Entry → Type 0
-StandsBefore order e f = (precedes order e.1 f.1 ≡ true) ⊎ ((e.1 ≡ f.1) × (e.0 < f.0))
+-- e comes before f: its value comes first, or of two equal values its sid does
+abbrev pub ComesBefore : RankOrder → Entry → Entry → Type 0
+ComesBefore order e f = (precedes order e.1 f.1 ≡ true) ⊎ ((e.1 ≡ f.1) × (e.0 < f.0))
 
--- the entries in order stand at the places of their ordinal ranks, from 1
+-- the entries in order are at the places of their ordinal ranks, from 1
 abbrev pub OrdinalsArePlaces : Type 0
-OrdinalsArePlaces = (order : RankOrder) (list sorted : List Entry) → IsPermutation list sorted → AllPairs (StandsBefore order) sorted
+OrdinalsArePlaces = (order : RankOrder) (list sorted : List Entry) → IsPermutation list sorted → AllPairs (ComesBefore order) sorted
     → (i : ℕ) (e : Entry) → slice_get sorted i ≡ Some e → ordinal order list e.0 e.1 ≡ i + 1
 
 -- where no two entries have one sid, each of the numbers from 1 on is the place of one entry

@@ -12,7 +12,7 @@ use Rattle.pl_words.specs.declared.request.InputFile.{InputFile}
 use Rattle.pl_judge.specs.declared.fault.Fault.{Fault}
 use Rattle.pl_judge.specs.declared.fault.Fault.TheVariants.{Unread, Unloaded, Passed, Memory}
 use Rattle.pl_judge.specs.declared.fault.Limit.{Limit}
-use Rattle.pl_judge.specs.Rules.{told_at}
+use Rattle.pl_judge.specs.Rules.{line_fault}
 use Rattle.pl_judge.specs.Steps.{WorkStep, first_fault}
 use Rattle.pl_judge.specs.Work.{cap_of, limit_of, read_step, file_fault, fault_in}
 use Rattle.pl_judge.specs.Stages.{IsStop, IsRisen, StopsOutside}
@@ -186,6 +186,6 @@ read-fails {c = c} f rule Means fault h =
 
 -- the fault that an error of a reader tells
 pub reader-tells : {A R : Type 0} (says : ℕ → R → Fault) (read : Result A (reading.Fault R)) (o : Option (reading.Fault R)) (fault : Fault)
-    → fault ≡ told_at says o → IfSome o (λ f. read ≡ Err f) → (fault_in says read ≡ Some fault) ⊎ (fault ≡ Memory)
+    → fault ≡ line_fault says o → IfSome o (λ f. read ≡ Err f) → (fault_in says read ≡ Some fault) ⊎ (fault ≡ Memory)
 reader-tells says read None fault e h = inr e
 reader-tells says read (Some f) fault e h = inl (rw (h, e) refl)

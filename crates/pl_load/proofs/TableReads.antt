@@ -14,7 +14,7 @@ use Rattle.pl_outside.specs.declared.keeper.Table.TheVariants.{Splits, Mergers, 
 use Rattle.pl_words.specs.declared.request.InputFile.{InputFile}
 use Rattle.pl_judge.specs.declared.fault.Fault.{Fault}
 use Rattle.pl_judge.specs.declared.fault.Fault.TheVariants.{Unloaded, Memory}
-use Rattle.pl_judge.specs.Rules.{told, rows_fault}
+use Rattle.pl_judge.specs.Rules.{fault_or_memory, rows_fault}
 use Rattle.pl_judge.specs.Held.{adjustments_asked, adjustments_from}
 use Rattle.pl_judge.specs.Steps.{Source, WorkStep, ReachesRead, reads_in, names_read, tables_read, rule}
 use Rattle.pl_judge.specs.Steps.Source.{Load}

@@ -5,12 +5,12 @@ use Rattle.pl_pipeline.specs.Lows.{IsLow, least_reach}
 use Rattle.pl_terms.specs.Uses.{outputs}
 use Rattle.pl_planner.specs.Plans.{low_at, extra, IsAsked}
 use Rattle.pl_plan_text.specs.Text.{plan_text}
-use Rattle.pl_plan_text.specs.Laws.{PlansAreTold}
+use Rattle.pl_plan_text.specs.Laws.{PlanTextsAreExact}
 
 back : (from low : ℕ) → low ≤ from → pos low ≡ pos from -ℤ pos (from - low)
 back from low h = omega (arith, ints)
 
-pub plans-told : PlansAreTold
+pub plans-told : PlanTextsAreExact
 plans-told days p plan is = record {
   extra = extra plan;
   low = λ t used. (let asked : IsAsked plan t plan.from = (is.used t ∙ used, (same plan.from, is.order)) in

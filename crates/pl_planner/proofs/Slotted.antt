@@ -8,7 +8,7 @@ use Rattle.std.proofs.lemmas.List.Folds.{sum_by-replicate}
 use Rattle.pl_planner.specs.declared.uses.Use.{Use}
 use Rattle.pl_planner.specs.declared.slots.TermSlots.{TermSlots}
 use Rattle.pl_planner.specs.Uses.{is_kept}
-use Rattle.pl_planner.specs.Slotting.{no_slots, slots_at, own_slot, kept_below, one, IsHad, IsHadBefore, IsLowest, IsSlotted, AreSlotted, Takes, Tells, IsTaken}
+use Rattle.pl_planner.specs.Slotting.{no_slots, slots_at, own_slot, kept_below, one, IsHad, IsHadBefore, IsLowest, IsSlotted, AreSlotted, Takes, AreMarksOf, IsTaken}
 use Rattle.pl_planner.proofs.Counting.{all_same, count_more, one-or}
 
 pub none_taken : (uses : List Use) (slots : List TermSlots) (k : ℕ) (taken : List Bool) → taken ≡ replicate 260 false → IsTaken uses slots k 0 taken
@@ -111,7 +111,7 @@ count_few uses k (suc n) =
 
 -- ---- one slot after another
 
-tells_more : (T : ℕ → Type 0) (taken : List Bool) (slot : ℕ) → Tells T taken → slot < length taken → Tells (λ s. T s ⊎ (slot ≡ s)) (set taken slot true)
+tells_more : (T : ℕ → Type 0) (taken : List Bool) (slot : ℕ) → AreMarksOf T taken → slot < length taken → AreMarksOf (λ s. T s ⊎ (slot ≡ s)) (set taken slot true)
 tells_more T taken slot tells inside = record {
   yes = λ s h. elim h [
     | inl t ↦ elim (cases_eq s slot) [
@@ -128,7 +128,7 @@ tells_more T taken slot tells inside = record {
 
 -- the marks tell which slots are taken, n at most
 record Stand (T : ℕ → Type 0) (taken : List Bool) (n : ℕ) : Type 0 where
-  pub tells : Tells T taken
+  pub tells : AreMarksOf T taken
   pub size : length taken ≡ 260
   pub few : sum_by one taken ≤ n
 
@@ -144,7 +144,7 @@ module _ (T : ℕ → Type 0) (taken new : List Bool) (n slot : ℕ) (is : Stand
 
   next : n < 260 → Stand (λ s. T s ⊎ (slot ≡ s)) new (n + 1)
   next few = record {
-    tells = subst (Tells (λ s. T s ⊎ (slot ≡ s))) (sym takes.taken) (tells_more T taken slot is.tells (let l = low in let z = is.size in omega arith));
+    tells = subst (AreMarksOf (λ s. T s ⊎ (slot ≡ s))) (sym takes.taken) (tells_more T taken slot is.tells (let l = low in let z = is.size in omega arith));
     size = takes.size ∙ is.size;
     few = (let m = is.few in let e = takes.count in omega arith);
   }

@@ -52,15 +52,15 @@ pub record AreSlotted (uses : List Use) (slots : List TermSlots) : Type 0 where
   pub each : (k : ℕ) → k < length slots → IsSlotted uses slots k (slots_at slots k)
   pub few : (t : ℕ) → own_slot slots t ≤ most_terms
 
--- those marks tell which slots are taken
-pub record Tells (IsTaken : ℕ → Type 0) (taken : List Bool) : Type 0 where
+-- the marks are those of the slots that are taken
+pub record AreMarksOf (IsTaken : ℕ → Type 0) (taken : List Bool) : Type 0 where
   pub yes : (s : ℕ) → IsTaken s → get_or taken s false ≡ true
   pub no : (s : ℕ) → get_or taken s false ≡ true → IsTaken s
 
 -- the slots of the terms below n that are kept up to term k are taken, and no more than there are such terms
 pub record IsTaken (uses : List Use) (slots : List TermSlots) (k n : ℕ) (taken : List Bool) : Type 0 where
   pub size : length taken ≡ most_terms + 4
-  pub tells : Tells (IsHad uses slots k n) taken
+  pub tells : AreMarksOf (IsHad uses slots k n) taken
   pub few : sum_by one taken ≤ count_by (is_kept uses k) (range_with_len 0 n)
 
 -- the lowest slot that isn't taken is, and is taken then

@@ -1,7 +1,7 @@
 -- The canonical text of a script spells it again.
 use Rattle.std.proofs.Common.{◌≡◌, ℕ, true, List, Result, Ok, Err, refl, ap, subst, sym, ◌∙◌}
 use Rattle.pl_grammar.specs.declared.Place.{Place}
-use Rattle.pl_grammar.specs.Script.{Statement, is_known, version_told}
+use Rattle.pl_grammar.specs.Script.{Statement, is_known, first_version}
 use Rattle.pl_grammar.specs.Whole.{are_sound, bare_script}
 use Rattle.pl_grammar.proofs.Scripts.{script_derives, script_told, script_short, same_told, same_short, replaced_script}
 use Rattle.pl_tokens.specs.Sound.{is_written}
@@ -23,7 +23,7 @@ spells_again n ss end k h =
     let r = (script_shows n ss k h).from start in
     let d = replaced_script (script_derives is_written n ss k h) r.tokens r.same in
     let s : Parsed = record { version = n; statements = d.statements; end = r.end } in
-    let told : version_told r.tokens ≡ n = same_told r.same ∙ script_told n ss k in
+    let told : first_version r.tokens ≡ n = same_told r.same ∙ script_told n ss k in
     let x : Spells (script_text n ss) s = record { tokens = r.tokens; reads = r.reads; short = same_short r.same 0 (script_short is_written n ss h); derives = d.derives; version = sym told } in
     record {
       script = s;

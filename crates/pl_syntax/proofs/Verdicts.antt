@@ -30,7 +30,7 @@ pub record Continues (bytes : List ℕ) (ts : List Lexeme) (tail : Tail) (n v : 
   pub tokens : List Lexeme
   pub reads : Read start bytes tokens tail
   pub same : verdict 0 g.Opening tokens tail ≡ verdict n s ts tail
-  pub told : g.version_told tokens ≡ g.version_or v (g.version_told ts)
+  pub told : g.first_version tokens ≡ g.version_or v (g.first_version ts)
 
 abbrev pub after_step : Place → Result g.Stage Kind → (g.Stage → Verdict) → Verdict
 after_step p (Ok s) k = k s
@@ -84,7 +84,7 @@ pub spelled_answers : (bytes : List ℕ) (r : Result Script SyntaxError) → Out
 spelled_answers bytes r o x s =
     let v : verdict 0 g.Opening s.tokens (AtEnd x.end) ≡ Good x.statements = spelled_only s.tokens (AtEnd x.end) x.statements (record { end = x.end; ended = refl; short = s.short; derives = s.derives }) in
     let told = one_way start bytes o.tokens s.tokens o.tail (AtEnd x.end) o.reads s.reads in
-    let n : HasVersion r x.version = subst (HasVersion r) (ap g.version_told told.0 ∙ sym s.version) o.version in
+    let n : HasVersion r x.version = subst (HasVersion r) (ap g.first_version told.0 ∙ sym s.version) o.version in
     answers_script r x n (subst (λ z. Gives r (AtEnd x.end) z) v (gives_at bytes r o s.tokens (AtEnd x.end) s.reads))
 
 error_at : (e : Kind) (q : Place) (k : Kind) (p : Place) → Fault k p ≡ Fault e q → error_of e q ≡ error_of k p
@@ -112,7 +112,7 @@ cause bytes (Err e) o = first_of bytes o.tokens o.tail _ _ o.reads o.gives
 pub one_parsed : (bytes : List ℕ) (a b : Parsed) → Spells bytes a → Spells bytes b → a ≡ b
 one_parsed bytes a b x y =
     let same = one_way start bytes x.tokens y.tokens (AtEnd a.end) (AtEnd b.end) x.reads y.reads in
-    same_made (x.version ∙ (ap g.version_told same.0 ∙ sym y.version)) (one_script most_depth y.tokens a.statements b.statements (subst (λ z. g.Script most_depth z a.statements) same.0 x.derives) y.derives) (same_end same.1)
+    same_made (x.version ∙ (ap g.first_version same.0 ∙ sym y.version)) (one_script most_depth y.tokens a.statements b.statements (subst (λ z. g.Script most_depth z a.statements) same.0 x.derives) y.derives) (same_end same.1)
 
 -- the reader's turns
 
@@ -123,8 +123,8 @@ or_or : (a b c : ℕ) → g.version_or a (g.version_or b c) ≡ g.version_or (g.
 or_or zero b c = refl
 or_or (suc a) b c = let some : (suc a == 0) ≡ false = grind (arith, nat_tests) in rw some (rw some refl)
 
-told_next : (r : Place) (t : Token) (ts : List Lexeme) → g.version_told (mark r t ∷ ts) ≡ g.version_or (g.token_version t) (g.version_told ts)
-unfolding g.version_told
+told_next : (r : Place) (t : Token) (ts : List Lexeme) → g.first_version (mark r t ∷ ts) ≡ g.version_or (g.token_version t) (g.first_version ts)
+unfolding g.first_version
 told_next r t ts = refl
 
 pub on_token : {bytes bs rest : List ℕ} {p q r : Place} {t : Token} {n k v u : ℕ} {s x : g.Stage} → Goes bytes p bs n v s → Begins p bs r t q rest → token_step n (mark r t) s ≡ Ok x → k ≡ counted n (mark r t) → u ≡ g.version_or v (g.token_version t) → Goes bytes q rest k u x
@@ -134,7 +134,7 @@ on_token {r = r} {t = t} {n = n} {v = v} {s = s} {x = x} goes b e size version t
       tokens = c.tokens;
       reads = c.reads;
       same = c.same ∙ (verdict_step n s (mark r t) ts tail ∙ (ap (λ z. after_step r z (λ s. verdict (counted n (mark r t)) s ts tail)) e ∙ ap (λ m. verdict m x ts tail) (sym size)));
-      told = c.told ∙ (ap (g.version_or v) (told_next r t ts) ∙ (or_or v (g.token_version t) (g.version_told ts) ∙ ap (λ m. g.version_or m (g.version_told ts)) (sym version)));
+      told = c.told ∙ (ap (g.version_or v) (told_next r t ts) ∙ (or_or v (g.token_version t) (g.first_version ts) ∙ ap (λ m. g.version_or m (g.first_version ts)) (sym version)));
     }
 
 pub at_step_fault : {bytes bs rest : List ℕ} {p q r : Place} {t : Token} {n v : ℕ} {s : g.Stage} {e : SyntaxError} → (k u : ℕ) → Goes bytes p bs n v s → Begins p bs r t q rest → Steps (Err e) (token_step n (mark r t) s) k u r → Outcome bytes (Err e)
@@ -156,8 +156,8 @@ pub at_bad : {bytes bs : List ℕ} {p r : Place} {n v : ℕ} {s : g.Stage} → G
 unfolding verdict
 at_bad {r = r} goes x = let c = goes [] (AtBad r) x in record { tokens = c.tokens; tail = AtBad r; reads = c.reads; gives = c.same; version = tt }
 
-pub or_nothing : (v : ℕ) → g.version_or v (g.version_told []) ≡ v
-unfolding g.version_told
+pub or_nothing : (v : ℕ) → g.version_or v (g.first_version []) ≡ v
+unfolding g.first_version
 or_nothing zero = refl
 or_nothing (suc v) = let some : (suc v == 0) ≡ false = grind (arith, nat_tests) in rw some refl
 

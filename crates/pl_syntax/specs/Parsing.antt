@@ -3,7 +3,7 @@ use Rattle.std.specs.Prelude.{ℕ, ◌≡◌, ◌<◌, if◌then◌else◌, nat_
 use Rattle.pl_grammar.specs.declared.Place.{Place}
 use Rattle.pl_grammar.specs.Machine.{Stop, Stuck, Deep}
 use Rattle.pl_grammar.specs.Script as g
-use Rattle.pl_grammar.specs.Script.{Statement, script_step, version_told}
+use Rattle.pl_grammar.specs.Script.{Statement, script_step, first_version}
 use Rattle.pl_grammar.specs.Tree.{Lexeme}
 use Rattle.pl_grammar.specs.Faults as f
 use Rattle.pl_grammar.specs.Faults.{Kind, Tail, AtEnd, Verdict, Good, Fault, too_large, most_tokens, most_depth, verdict}
@@ -102,4 +102,4 @@ pub record Outcome (bytes : List ℕ) (result : Result Script SyntaxError) : Typ
   pub tail : Tail
   pub reads : Read start bytes tokens tail
   pub gives : Gives result tail (verdict 0 g.Opening tokens tail)
-  pub version : HasVersion result (version_told tokens)
+  pub version : HasVersion result (first_version tokens)

@@ -1,7 +1,7 @@
 -- What a text says: the script that it spells, or its first fault.
 use Rattle.std.specs.Prelude.{◌≡◌, ◌↔◌, ℕ, List}
 use Rattle.pl_grammar.specs.declared.Place.{Place}
-use Rattle.pl_grammar.specs.Script.{Opening, version_told}
+use Rattle.pl_grammar.specs.Script.{Opening, first_version}
 use Rattle.pl_grammar.specs.Faults as f
 use Rattle.pl_grammar.specs.Faults.{Kind, Tail, AtEnd, AtBad, Verdict, Good, Fault, verdict}
 use Rattle.pl_tokens.specs.Reading.{whole}
@@ -19,7 +19,7 @@ said_by n (Fault k p) tail = Faulty k p
 
 -- by the verdict over its tokens
 unfoldable pub said : List ℕ → Said
-said bytes = let r = whole bytes in said_by (version_told r.0) (verdict 0 Opening r.0 r.1) r.1
+said bytes = let r = whole bytes in said_by (first_version r.0) (verdict 0 Opening r.0 r.1) r.1
 
 -- That is the script which the bytes spell by the grammar's rules, or the first fault of the text; so each
 -- text has one of both.

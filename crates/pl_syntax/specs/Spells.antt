@@ -2,7 +2,7 @@
 use Rattle.std.specs.Prelude.{ℕ, ◌≡◌, List}
 use Rattle.pl_grammar.specs.declared.Place.{Place}
 use Rattle.pl_grammar.specs.Tree.{Lexeme}
-use Rattle.pl_grammar.specs.Script.{Statement, Script, version_told}
+use Rattle.pl_grammar.specs.Script.{Statement, Script, first_version}
 use Rattle.pl_grammar.specs.Whole.{bare_script}
 use Rattle.pl_grammar.specs.Faults.{Tail, AtEnd, Kind, IsShort, IsFirst, most_depth}
 use Rattle.pl_tokens.specs.Text.{start, Read}
@@ -21,7 +21,7 @@ pub record Spells (bytes : List ℕ) (s : Parsed) : Type 0 where
   pub reads : Read start bytes tokens (AtEnd s.end)
   pub short : IsShort 0 tokens
   pub derives : Script most_depth tokens s.statements
-  pub version : s.version ≡ version_told tokens
+  pub version : s.version ≡ first_version tokens
 
 -- the first fault of the text is of this kind and at this place
 pub record FirstFault (bytes : List ℕ) (kind : Kind) (place : Place) : Type 0 where

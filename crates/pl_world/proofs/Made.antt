@@ -24,7 +24,7 @@ use Rattle.pl_bars.specs.Bars.{cell_at, is_before}
 use Rattle.pl_bars.proofs.BarWorlds.{cells_raw}
 use Rattle.pl_numbers.specs.Numbers as number_tables
 use Rattle.pl_numbers.proofs.NumberKeys as number_keys
-use Rattle.pl_adjust.specs.Columns.{StandByDay, events_at}
+use Rattle.pl_adjust.specs.Columns.{AreByDay, events_at}
 use Rattle.pl_adjust.proofs.Sids.{column_events}
 use Rattle.pl_world.specs.declared.world.World.{World}
 use Rattle.pl_world.specs.Worlds.{world_of, AreSound, IsMade, PartsMakeAWorld}
@@ -112,7 +112,7 @@ pub record AreParts (days : List ℤ) (assets : List AssetRow) (labels : List Co
   pub bars_up : AllPairs (λ a b. IsTrue (is_before b.col b.session a)) bars
 
 module _ (days : List ℤ) (assets : List AssetRow) (labels : List ColumnLabel) (texts : List (List ℕ)) (bars : List BarRow) (are : AreParts days assets labels bars)
-    (adjustments : List ColumnAdjustment) (adjustments_in : All (λ x. x.col < length assets) adjustments) (in_order : StandByDay adjustments) (numbers : List ColumnNumber) where
+    (adjustments : List ColumnAdjustment) (adjustments_in : All (λ x. x.col < length assets) adjustments) (in_order : AreByDay adjustments) (numbers : List ColumnNumber) where
   abbrev whole : spec.World
   whole = parts.world_of days assets labels texts bars adjustments numbers
 

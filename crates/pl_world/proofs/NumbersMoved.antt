@@ -15,7 +15,7 @@ use Rattle.pl_assets.specs.Labels.{LabelTable}
 use Rattle.pl_numbers.specs.Numbers.{Rule, NumberTable, key_in, names_of, number_rows_in, numbers_of, table_of}
 use Rattle.pl_numbers.proofs.NumbersMoved.{numbers-moved}
 use Rattle.pl_numbers.proofs.NumbersRead as numbers_read
-use Rattle.pl_adjust.specs.Columns.{StandByDay}
+use Rattle.pl_adjust.specs.Columns.{AreByDay}
 use Rattle.pl_world.specs.Laws.{ShowAlike}
 use Rattle.pl_world.specs.Records.{AreMoved, NumbersInAnyOrder}
 use Rattle.pl_world.proofs.Made.{AreParts, is_world, numbers-once}
@@ -49,7 +49,7 @@ others-read assets (r ∷ rs) [] m table e = absurd m
 others-read assets (r ∷ rs) (q ∷ qs) m table e = rw m.0 at (numbers-moved assets r rs qs m.1 table e)
 
 module _ (days : List ℤ) (assets : List AssetRow) (labels : LabelTable) (bars : List BarRow) (are : AreParts days assets labels.rows bars)
-    (adjustments : List ColumnAdjustment) (adjustments_in : All (λ x. x.col < length assets) adjustments) (in_order : StandByDay adjustments) where
+    (adjustments : List ColumnAdjustment) (adjustments_in : All (λ x. x.col < length assets) adjustments) (in_order : AreByDay adjustments) where
   abbrev whole : List ColumnNumber → World
   whole numbers = parts.world_of days assets labels.rows labels.texts bars adjustments numbers
 

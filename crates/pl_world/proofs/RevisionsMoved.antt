@@ -12,7 +12,7 @@ use Rattle.pl_calendar.proofs.DaysRead.{AreDays-read}
 use Rattle.pl_lifetimes.specs.Assets.{AreAssets}
 use Rattle.pl_lifetimes.proofs.AssetsRead.{AreAssets-read}
 use Rattle.pl_assets.specs.Labels.{LabelTable}
-use Rattle.pl_adjust.specs.Columns.{StandByDay}
+use Rattle.pl_adjust.specs.Columns.{AreByDay}
 use Rattle.pl_adjust.specs.Revised.{revised_in}
 use Rattle.pl_adjust.proofs.RevisionsMoved.{PickedAlike, kept-revised, picked-alike}
 use Rattle.pl_adjust.proofs.Sids.{parts_events}
@@ -32,7 +32,7 @@ module _ (days : List ℤ) (assets : List AssetRow) (labels : LabelTable) (bars 
   abbrev whole : List ColumnAdjustment → World
   whole xs = parts.world_of days assets labels.rows labels.texts bars xs numbers
 
-  made : (xs : List ColumnAdjustment) → All (λ x. x.col < length assets) xs × StandByDay xs → IsWorld (whole xs)
+  made : (xs : List ColumnAdjustment) → All (λ x. x.col < length assets) xs × AreByDay xs → IsWorld (whole xs)
   made xs kept = is_world days assets labels.rows labels.texts bars are xs kept.0 kept.1 numbers
 
   seen : (xs ys : List ColumnAdjustment) → PickedAlike xs ys → SeenInAll (whole xs) (whole ys)

@@ -14,7 +14,7 @@ use Rattle.pl_lifetimes.specs.Assets.{assets_of}
 use Rattle.pl_assets.specs.Labels.{LabelTable, labels_of}
 use Rattle.pl_bars.specs.Bars.{bars_of}
 use Rattle.pl_numbers.specs.Numbers.{NumberTable, numbers_of}
-use Rattle.pl_adjust.specs.Columns.{StandByDay}
+use Rattle.pl_adjust.specs.Columns.{AreByDay}
 use Rattle.pl_adjust.specs.Revised.{revised_in}
 use Rattle.pl_world.specs.Laws.{ShowAlike}
 
@@ -53,7 +53,7 @@ RecordsInAnyOrder = (files others : DataFiles) → FilesAreMoved files others
     → AreReadAs files days assets labels bars
     → (other : LabelTable) × AreReadAs others days assets other bars × IsPermutation labels.rows other.rows
     × ((adjustments : List ColumnAdjustment)
-    → All (λ x. x.col < length assets) adjustments → StandByDay adjustments → (numbers : List ColumnNumber)
+    → All (λ x. x.col < length assets) adjustments → AreByDay adjustments → (numbers : List ColumnNumber)
     → ShowAlike (parts.world_of days assets labels.rows labels.texts bars adjustments numbers)
     (parts.world_of days assets other.rows other.texts bars adjustments numbers))
 
@@ -66,7 +66,7 @@ NumbersInAnyOrder = (files : DataFiles) (days : List ℤ) (assets : List AssetRo
     → (numbers : NumberTable) → numbers_of assets records ≡ Ok numbers
     → (other : NumberTable) × (numbers_of assets others ≡ Ok other) × IsPermutation numbers.rows other.rows
     × ((adjustments : List ColumnAdjustment)
-    → All (λ x. x.col < length assets) adjustments → StandByDay adjustments
+    → All (λ x. x.col < length assets) adjustments → AreByDay adjustments
     → ShowAlike (parts.world_of days assets labels.rows labels.texts bars adjustments numbers.rows)
     (parts.world_of days assets labels.rows labels.texts bars adjustments other.rows))
 

@@ -12,7 +12,7 @@ use Rattle.pl_calendar.specs.Days.{AreDays}
 use Rattle.pl_lifetimes.specs.Assets.{AreAssets}
 use Rattle.pl_assets.specs.Labels.{AreLabels}
 use Rattle.pl_bars.specs.Bars.{AreBars}
-use Rattle.pl_adjust.specs.Columns.{StandByDay}
+use Rattle.pl_adjust.specs.Columns.{AreByDay}
 use Rattle.pl_adjust.specs.Events.{PutsCell}
 use Rattle.pl_numbers.specs.Numbers.{AreNumbers}
 use Rattle.pl_world.specs.declared.owned.OwnedWorld.{OwnedWorld}
@@ -54,7 +54,7 @@ pub record AreSound (w : World) : Type 0 where
   pub assets : AreAssets w.assets.now
   pub labels : AreLabels w.labels.now
   pub bars : AreBars w.bars.now
-  pub in_order : StandByDay w.adjustments.now
+  pub in_order : AreByDay w.adjustments.now
   pub puts : All (λ x. PutsCell x.event) w.adjustments.now
   pub numbers : AreNumbers w.numbers.now
 

@@ -3,7 +3,7 @@ use Rattle.std.proofs.lemmas.Result.{err_from_is_err_and, on_ok_weaker, IfOk-wea
 use Rattle.pl_words.specs.Request.{Run}
 use Rattle.pl_words.specs.Views.{run_of}
 use Rattle.pl_judge.specs.Work.{work}
-use Rattle.pl_cli.specs.Commands.{sink_view, stats_told}
+use Rattle.pl_cli.specs.Commands.{sink_view, line_of_stats}
 use Rattle.pl_cli.proofs.Ended.{stopped, seen-or, kept-view, written-or}
 use Rattle.pl_cli.proofs.Loaded.{loaded-text, loaded-steps, loaded-numbers}
 use Rattle.pl_cli.proofs.commands.run_command.Goals as goal
@@ -26,4 +26,4 @@ returns g c =
     (kept-view g.O.Sink.taken g.O.Sink.sound g.O.Sink.faults g.O.Sink.room _ _ _ _ _ w.memory)
     (on_ok_weaker c.write_loaded.result (loaded-steps h.held q l (λ n. c.write_loaded.new.steps ≡ c.args.steps.now + n) h.loaded) w.cost)
     (inr (loaded-steps h.held q l (λ n. c.write_loaded.new.steps ≤ c.args.steps.now + n) h.loaded w.most))
-    (IfOk-weaker c.write_loaded.result _ _ (λ stats e. loaded-numbers h.held q l (stats_told stats) h.loaded e) w.stats)
+    (IfOk-weaker c.write_loaded.result _ _ (λ stats e. loaded-numbers h.held q l (line_of_stats stats) h.loaded e) w.stats)

@@ -2,7 +2,7 @@ use Rattle.std.proofs.Common.{Err, map, string_bytes, ap, ◌∙◌, refl}
 use Rattle.pl_words.specs.Request.{request}
 use Rattle.pl_judge.specs.Faults.{judged_line, judged_status}
 use Rattle.pl_load.specs.Views.{shelf_view, keeper_view}
-use Rattle.pl_cli.specs.Commands.{sink_view, fault_of, numbers_told}
+use Rattle.pl_cli.specs.Commands.{sink_view, fault_of, line_of_numbers}
 use Rattle.pl_judge.specs.declared.fault.Fault.TheVariants.{Memory}
 use Rattle.pl_cli.proofs.Finished.{asked-lent, run-of, no-words}
 use Rattle.pl_cli.proofs.Causes.{by-answer, part-left, part-alone, sink-left}
@@ -17,7 +17,7 @@ returns-in-Ok g c =
     let run = run-of _ _ ended c.finish.result c.finish.ensures.status e.ended in
     let causes = by-answer _ _ _ _ _ ended c.finish.result c.finish.ensures.status e.caused in
     record {
-      run = (judged_line (request (map (λ s. string_bytes s) c.args.words.now)) (fault_of ended), numbers_told ended, rw asked run, rw (← told) at c.finish.ensures.told);
+      run = (judged_line (request (map (λ s. string_bytes s) c.args.words.now)) (fault_of ended), line_of_numbers ended, rw asked run, rw (← told) at c.finish.ensures.told);
       usage = λ two. asked ∙ causes.refused two;
       refused = λ none other. c.finish.ensures.status ∙ ap judged_status (e.refused (rw (← asked) none));
       read = causes.unread;

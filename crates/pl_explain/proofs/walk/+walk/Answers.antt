@@ -20,7 +20,7 @@ use Rattle.pl_explain.specs.declared.fact.Fact.{Fact}
 use Rattle.pl_explain.specs.Keys.{fact_of}
 use Rattle.pl_explain.specs.Given.{facts_read, has_all, own_facts}
 use Rattle.pl_explain.proofs.Given.{none-holds}
-use Rattle.pl_explain.specs.Walking.{MayBeDerived, CanStandIn, Finishes, IsTooLong, IsWalkTo}
+use Rattle.pl_explain.specs.Walking.{MayBeDerived, CanBeDerivedWithin, Finishes, IsTooLong, IsWalkTo}
 use Rattle.pl_explain.proofs.Behind.{worth-within, worth-day, worth-sid, worth-asked}
 use Rattle.pl_explain.proofs.Values.{premises-lacks}
 use Rattle.pl_explain.proofs.Walks.{walk-none, walk-stated}
@@ -61,7 +61,7 @@ finish_all-finish-requires g t c =
     let facts = c.args.facts.now in
     let i = c.loop-fact.fact-index in
     let within : i < length facts = c.loop-fact-test.true in
-    let each : (d : Fact) → CanStandIn w p most (fact_of (get_or facts i d)) = λ d. all-stand facts i (get_or facts i d) (slice_get-get_or facts i d within) w p most c.requires.facts in
+    let each : (d : Fact) → CanBeDerivedWithin w p most (fact_of (get_or facts i d)) = λ d. all-stand facts i (get_or facts i d) (slice_get-get_or facts i d within) w p most c.requires.facts in
     let stand : (d : Fact) → MayBeDerived w p (fact_of (get_or facts i d)) = λ d. (each d).0 in
     let smaller : (d : Fact) → 8 * depth_of (fact_of (get_or facts i d)) + 6 < 8 * (c.args.t.0 + 1) + 7 = λ d. let l = (each d).1 in omega (arith, l) in
     search rules
@@ -204,7 +204,7 @@ finish_premises-finish_all-requires g t c =
     let a = sid_at w.assets.now c.args.col in
     let there = sym c.exists.ensures.value ∙ c.if-not-exists.false in
     let read = mask-is n.mask c.args.session c.sid.result a c.deref.result.now c.in_ok-mask.mask.items c.deref.ensures.value c.in_ok-mask.ensures (sid-of w.assets.now c.args.col c.sid.result c.sid.ensures) in
-    let facts : Each (CanStandIn w c.args.source.now.checked.now (c.args.t.0 + 1)) (map fact_of c.deref.result.now) = mask-stands c.requires.stands c.args.t.0 n c.node_in-node.ensures a c.args.session there (map fact_of c.deref.result.now) read c.requires.fact in
+    let facts : Each (CanBeDerivedWithin w c.args.source.now.checked.now (c.args.t.0 + 1)) (map fact_of c.deref.result.now) = mask-stands c.requires.stands c.args.t.0 n c.node_in-node.ensures a c.args.session there (map fact_of c.deref.result.now) read c.requires.fact in
     let smaller : 8 * (c.args.t.0 + 1) + 7 < 8 * (c.args.t.0 + 2) + 2 = omega arith in
     search rules
 
@@ -229,7 +229,7 @@ finish_premises-finish_kind-requires g t c =
     let a = sid_at w.assets.now c.args.col in
     let there = sym c.exists.ensures.value ∙ c.if-not-exists.false in
     let read = mask-is n.mask c.args.session c.sid.result a c.deref.result.now c.in_ok-mask.mask.items c.deref.ensures.value c.in_ok-mask.ensures (sid-of w.assets.now c.args.col c.sid.result c.sid.ensures) in
-    let facts : Each (CanStandIn w c.args.source.now.checked.now (c.args.t.0 + 1)) (facts_read w c.args.source.now.checked.now c.args.t.0 a c.args.session) = facts-stand c.requires.stands c.args.t.0 n c.node_in-node.ensures a c.args.session there (map fact_of c.deref.result.now) read
+    let facts : Each (CanBeDerivedWithin w c.args.source.now.checked.now (c.args.t.0 + 1)) (facts_read w c.args.source.now.checked.now c.args.t.0 a c.args.session) = facts-stand c.requires.stands c.args.t.0 n c.node_in-node.ensures a c.args.session there (map fact_of c.deref.result.now) read
     c.finish_all.new.walk c.in_ok-finish_all.ensures.finished c.mask_stated.result c.mask_stated.ensures (c.in-Some-true.is ∙ ap Some c.in-Some-true.field-0-test) c.requires.fact in
     let smaller : 8 * (c.args.t.0 + 2) + 1 < 8 * (c.args.t.0 + 2) + 2 = omega arith in
     search rules
