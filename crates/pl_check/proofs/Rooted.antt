@@ -147,12 +147,8 @@ term-given-in g bs p i k h = here (given bs p) refl h
 
 -- a value that is an input, and no bar column, is a term
 input-term : (v : Value) (k : ℕ) → input_in v ≡ Some (TermInput k) → term_in v ≡ Some k
-input-term (Bars c) k h = absurd (let no : Some (BarColumn c) ≡ Some (TermInput k) = h in cc)
-input-term (Factor t s) k h = (let same : Some (TermInput t) ≡ Some (TermInput k) = h in cc)
-input-term (Filter t) k h = (let same : Some (TermInput t) ≡ Some (TermInput k) = h in cc)
-input-term (Labels t) k h = (let same : Some (TermInput t) ≡ Some (TermInput k) = h in cc)
-input-term (Numbers t) k h = (let same : Some (TermInput t) ≡ Some (TermInput k) = h in cc)
-input-term v k h = absurd (let no : None ≡ Some (TermInput k) = h in cc)
+input-term (Bars c) k h = cc
+input-term v k h = cc
 
 pub node-mentions : (g : Graph) (o : Operation) (bs : List Bound) (names : List (List ℕ)) → AllIn g (values bs) → MentionsBelow (node_for o bs names) (length g)
 unfolding node_for
