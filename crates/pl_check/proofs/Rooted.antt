@@ -12,7 +12,7 @@ use Rattle.pl_check.specs.declared.operation.Operation.{Operation}
 use Rattle.pl_check.specs.declared.operation.Parameter.{Parameter}
 use Rattle.pl_check.specs.declared.operation.Parameter.TheVariants.{Mask, Groupby}
 use Rattle.pl_check.specs.Parameters.{same_parameter}
-use Rattle.pl_check.specs.Values.{Value, Bars, Factor, Filter, Labels, Numbers, Bound, given}
+use Rattle.pl_check.specs.Values.{Value, Bars, Factor, Bound, given}
 use Rattle.pl_check.specs.Operations.{parameters}
 use Rattle.pl_check.specs.Results.{columns_of, term_in, input_in, gives_input, input_for, inputs_for, term_given, node_for}
 use Rattle.pl_check.specs.Trees.{Meaning, tree_given, read_in, input_given, inputs_given, or_absent, tree_for}

@@ -15,7 +15,7 @@ use Rattle.pl_check.specs.Parameters.{same_parameter, is_optional}
 use Rattle.pl_check.specs.Values.{Value, Factor, Filter, Labels, Numbers, Bound, bound, is_safe, number_in, text_in, given, read_or}
 use Rattle.pl_check.specs.Operations.{parameters, operator}
 use Rattle.pl_check.specs.Rules.{Written, place_at, named_in, is_given, unless_given, parameter_of, has_all, form, takes, number_given, is_within, is_window, is_safe_for, each, broken}
-use Rattle.pl_check.specs.Results.{whole, percent_given, text_given, values_given, method_of, order_of, frequency_of, with_sid, sorted_sids, name_number, with_name, kind_for, names_after, window_of, window_for, all_safe, like, sorted, is_window_safe, result_for}
+use Rattle.pl_check.specs.Results.{whole, text_given, values_given, with_sid, sorted_sids, with_name, kind_for, names_after, window_of, window_for, all_safe, like, sorted, is_window_safe, result_for}
 use Rattle.pl_check.specs.Typed.{object_of, second_of, operands_of, is_storable, is_term_filter}
 use Rattle.pl_check.specs.Typed as typed
 use Rattle.pl_check.proofs.Lists.{given-cons, all-same, within-by}
