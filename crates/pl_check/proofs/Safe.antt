@@ -117,8 +117,8 @@ windows-safe g o bs names k t s w i j e = here (from-inputs o bs i j e)
     here : From bs (parameters o) j → IsSafe g j
     here (p, v, own, gives, is, input) =
         place-safe g p v j
-            (or-right (not (gives_input p)) (in_window p)
-            (all-has (λ q. not (gives_input q) || in_window q) (parameters o) p all own) (ap not gives))
+        (or-right (not (gives_input p)) (in_window p)
+        (all-has (λ q. not (gives_input q) || in_window q) (parameters o) p all own) (ap not gives))
         (test-given takes bs p v t is) (test-given is_safe_for bs p v s is) (stand-given g bs p v k is) input
 
 -- ---- what a node gives

@@ -39,10 +39,9 @@ loop-statement-preserved c =
     let ss = statements_of (drop (c.loop-statement.statement-index + 1) c.args.statements.now) in
     let e = next-statement c.args.statements.now c.loop-statement.statement-index c.statement-item.result c.loop-statement-test.true c.statement-item.is in
     let y = tree-sound s ss (sym (ap (are_sound is_written) e) ∙ c.loop-statement.invariant.2) in
-    let judged = c.in_ok-statement_judged.ensures in
-    (
+    let judged = c.in_ok-statement_judged.ensures in (
       sym (ap (λ r. r >>= λ x. statements_judged c.args.version x ss) judged)
-      ∙ sym (ap (statements_judged c.args.version j) e) ∙ c.loop-statement.invariant.0,
+          ∙ sym (ap (statements_judged c.args.version j) e) ∙ c.loop-statement.invariant.0,
       IfOk-at_ok JudgedIsSound judged (statement-kept c.args.version j s y.0 c.loop-statement.invariant.1),
       y.1,
     )
