@@ -56,12 +56,9 @@ number-later g h (Some t) l i =
 
 -- ---- the value of a statement
 
--- a value whose term has this tree
-abbrev HasTree : After Meaning → Type 0
-HasTree m = (t : Term) × (m.value.tree ≡ Some t)
-
+-- a value whose term has a tree
 abbrev Stored : Terms → Found Value → After Meaning → Type 0
-Stored s r m = Means s r m × HasTree m
+Stored s r m = Means s r m × ((t : Term) × (m.value.tree ≡ Some t))
 
 require-agrees : {A B : Type 0} (F : B → Forest) (R : A → B → Type 0) (k : CheckFault) (p : Place) (b c : Bool) (r : Result A Broken) (q : Result B Broken) → c ≡ b → (b ≡ true → Agrees F R r q) → Agrees F R (require b k p r) (require c k p q)
 require-agrees F R k p true c r q e h = subst (λ z. Agrees F R r (require z k p q)) (sym e) (h refl)

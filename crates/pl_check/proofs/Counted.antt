@@ -132,9 +132,6 @@ factor-settles s f v r w i h = other-settles s f v r w i h
 abbrev one_value : Value → Graph → Option (Value × Graph)
 one_value v g = Some (v, g)
 
-abbrev all_values : List Bound → Graph → Option (List Bound × Graph)
-all_values bs g = Some (bs, g)
-
 constant-none : (o : Option Interned) (g : Graph) → constant_value o g ≡ None → o ≡ None
 constant-none None g h = refl
 constant-none (Some i) g h = absurd (let no : one_value (Factor i.number true) i.graph ≡ None = h in cc)
@@ -239,7 +236,7 @@ bind-none (Some x) f h = inr (x, refl, h)
 
 constants-over : (done : List Bound) (s : Terms) (f : Forest) (bs : List Bound) → Same s f → AllIn s.graph (values bs) → with_constants done s.graph bs ≡ None → HasMany (f.trees ++ filter_map constant_in (map bare bs))
 unfolding with_constants
-constants-over done s f [] w k h = absurd (let no : all_values done s.graph ≡ None = h in cc)
+constants-over done s f [] w k h = absurd (cc)
 constants-over done s f (b ∷ bs) w k h =
     let own = constant_in (bare b) in
     let rest = filter_map constant_in (map bare bs) in

@@ -56,11 +56,15 @@ pub weaker : {A B : Type 0} (F : B → Forest) (R S : A → B → Type 0) (r : R
 weaker F R S (Ok x) q h a = (a.0, a.1, h x a.0 a.2)
 weaker F R S (Err e) q h a = a
 
-means-behind : (s t : Terms) (r : Found Value) (m : After Meaning) → Later s.graph t.graph → Means t r m → Means s r m
-means-behind s t r m l k = record { later = later-still s.graph t.graph r.terms.graph l k.later; inside = k.inside; is = k.is; same = k.same }
-
 behind : (s t : Terms) (r : Result (Found Value) Broken) (q : Result (After Meaning) Broken) → Later s.graph t.graph → Agrees of_meaning (Means t) r q → Agrees of_meaning (Means s) r q
-behind s t r q l a = weaker of_meaning (Means t) (Means s) r q (λ x y k. means-behind s t x y l k) a
+behind s t r q l a =
+    weaker of_meaning (Means t) (Means s) r q
+    (λ x y k. record {
+      later = later-still s.graph t.graph x.terms.graph l k.later;
+      inside = k.inside;
+      is = k.is;
+      same = k.same;
+    }) a
 
 found-means : (s : Terms) (f : Forest) (v : Value) (m : Meaning) → Same s f → IsIn s.graph v → m ≡ meaning_of s.graph v → Means s (found v s) (after m f)
 found-means s f v m w i e = record { later = later-same s.graph; inside = i; is = e; same = w }
@@ -128,7 +132,6 @@ called-agrees p o object ws s f w i k =
 object-value : (o : Operation) (v : Value) → values (object_of o v) ≡ v ∷ []
 unfolding object_of parameters
 object-value (op.Window window.Latest) v = refl
-object-value (op.Window k) v = refl
 object-value o v = refl
 
 object-in : (g : Graph) (o : Operation) (v : Value) → IsIn g v → AllIn g (values (object_of o v))

@@ -25,13 +25,11 @@ use Rattle.pl_check.proofs.Lists.{same-one, true-false, needed, or-right, same-s
 
 pub few-none : (o : Operation) → is_few o [] ≡ true
 few-none (op.Window window.Latest) = refl
-few-none (op.Window k) = refl
 few-none o = refl
 
 pub few-object : (o : Operation) (v : Value) → is_few o (object_of o v) ≡ true
 unfolding object_of parameters given number_of
 few-object (op.Window window.Latest) v = refl
-few-object (op.Window k) v = refl
 few-object o v = refl
 
 -- ---- one more
@@ -102,15 +100,13 @@ sid-place : (bs : List Bound) (p : Parameter) (a : Bool) → nat_lt (length bs) 
 sid-place bs p true e h = grind (arith, nat_tests)
 sid-place bs p false e h = absurd (let no : None ≡ Some p = h in cc)
 
-named-sid : (n : List ℕ) (p : Parameter) → named_in (parameters op.StaticSids) n ≡ Some p → p ≡ parameter.Sid
-named-sid n p h = sid-alone p (named-has (parameters op.StaticSids) n p h)
-
 sids-next : (begun : Bool) (bs : List Bound) (n : Option (List ℕ)) (p : Parameter) (v : Value) → each (λ p v. has op.StaticSids p) bs ≡ true → parameter_of op.StaticSids begun bs n ≡ Some p
     → is_few op.StaticSids (bs ++ bound p v ∷ []) ≡ true
 unfolding place_at
 sids-next begun bs (Some n) p v w h =
     let y = unless-parts bs (named_in (parameters op.StaticSids) n) p h in
-    let none = no-sids bs w (ap (is_given bs) (sym (named-sid n p y.0)) ∙ y.1) in
+    let is = sid-alone p (named-has (parameters op.StaticSids) n p y.0) in
+    let none = no-sids bs w (ap (is_given bs) (sym is) ∙ y.1) in
     one-longer bs (bound p v) 500 (omega arith)
 sids-next true bs None p v w h = absurd (let no : None ≡ Some p = h in cc)
 sids-next false bs None p v w h = one-longer bs (bound p v) 500 (sid-place bs p (nat_lt (length bs) 500) refl h)
@@ -241,15 +237,12 @@ sids-some (v ∷ vs) h = with-some (whole (number_in v)) (sorted_sids vs)
 between : (low high n : ℕ) → low ≤ n → n ≤ high → (nat_le low n && nat_le n high) ≡ true
 between low high n h k = and_from (nat_le low n) (nat_le n high) (grind (arith, nat_tests)) (grind (arith, nat_tests))
 
-is-some : (o : Option Value) (v : Value) → o ≡ Some v → is_some o ≡ true
-is-some o v h = ap is_some h
-
 pub sids-counted : (bs : List Bound) → Fits op.StaticSids bs → has_length 1 500 (sorted_sids (values_given bs parameter.Sid)) ≡ true
 unfolding parameters number_of
 sids-counted bs f =
     let vs = values_given bs parameter.Sid in
     let x = needed op.StaticSids bs parameter.Sid f refl refl in
-    let a = sids-some vs (values-some bs parameter.Sid (is-some (given bs parameter.Sid) x.0 x.1)) in
+    let a = sids-some vs (values-some bs parameter.Sid (ap is_some x.1)) in
     let b = sids-few vs in
     let c = values-few bs parameter.Sid in
     let t = f.few in
@@ -262,8 +255,8 @@ texts-counted bs f =
     let vs = values_given bs parameter.Element in
     let x = needed op.ElementOf bs parameter.Element f refl refl in
     let y = needed op.ElementOf bs parameter.LabelClassifier f refl refl in
-    let a = values-some bs parameter.Element (is-some (given bs parameter.Element) x.0 x.1) in
-    let b = values-fewer bs parameter.Element parameter.LabelClassifier refl (is-some (given bs parameter.LabelClassifier) y.0 y.1) in
+    let a = values-some bs parameter.Element (ap is_some x.1) in
+    let b = values-fewer bs parameter.Element parameter.LabelClassifier refl (ap is_some y.1) in
     let r = and_parts (nat_le (length bs) 101) ((length bs == 0) || is_given bs parameter.LabelClassifier) f.few in
     let t : nat_le (length bs) 101 ≡ true = r.0 in
     let d : length bs ≤ 101 = grind (arith, nat_tests) in

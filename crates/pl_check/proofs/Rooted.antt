@@ -12,7 +12,7 @@ use Rattle.pl_check.specs.declared.operation.Operation.{Operation}
 use Rattle.pl_check.specs.declared.operation.Parameter.{Parameter}
 use Rattle.pl_check.specs.declared.operation.Parameter.TheVariants.{Mask, Groupby}
 use Rattle.pl_check.specs.Parameters.{same_parameter}
-use Rattle.pl_check.specs.Values.{Value, Bars, Factor, Filter, Labels, Numbers, Bound, given}
+use Rattle.pl_check.specs.Values.{Value, Bars, Factor, Bound, given}
 use Rattle.pl_check.specs.Operations.{parameters}
 use Rattle.pl_check.specs.Results.{columns_of, term_in, input_in, gives_input, input_for, inputs_for, term_given, node_for}
 use Rattle.pl_check.specs.Trees.{Meaning, tree_given, read_in, input_given, inputs_given, or_absent, tree_for}
@@ -147,12 +147,8 @@ term-given-in g bs p i k h = here (given bs p) refl h
 
 -- a value that is an input, and no bar column, is a term
 input-term : (v : Value) (k : ℕ) → input_in v ≡ Some (TermInput k) → term_in v ≡ Some k
-input-term (Bars c) k h = absurd (let no : Some (BarColumn c) ≡ Some (TermInput k) = h in cc)
-input-term (Factor t s) k h = (let same : Some (TermInput t) ≡ Some (TermInput k) = h in cc)
-input-term (Filter t) k h = (let same : Some (TermInput t) ≡ Some (TermInput k) = h in cc)
-input-term (Labels t) k h = (let same : Some (TermInput t) ≡ Some (TermInput k) = h in cc)
-input-term (Numbers t) k h = (let same : Some (TermInput t) ≡ Some (TermInput k) = h in cc)
-input-term v k h = absurd (let no : None ≡ Some (TermInput k) = h in cc)
+input-term (Bars c) k h = cc
+input-term v k h = cc
 
 pub node-mentions : (g : Graph) (o : Operation) (bs : List Bound) (names : List (List ℕ)) → AllIn g (values bs) → MentionsBelow (node_for o bs names) (length g)
 unfolding node_for

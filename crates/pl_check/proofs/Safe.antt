@@ -18,7 +18,7 @@ use Rattle.pl_check.specs.Operations.{parameters}
 use Rattle.pl_check.specs.Rules.{each, takes, is_safe_for}
 use Rattle.pl_check.specs.Results.{kind_for, result_for, columns_of, gives_input, input_in, input_for, inputs_for, all_safe, is_window_safe}
 use Rattle.pl_check.specs.Standing.{IsInGraph, AreInGraph}
-use Rattle.pl_check.proofs.Lists.{all-has, test-given, stand-given, same-self}
+use Rattle.pl_check.proofs.Lists.{all-has, test-given, stand-given, same-self, or-right}
 
 -- a value that is safe, as an input
 pub value-safe : (g : Graph) (v : Value) (j : ℕ) → IsInGraph g v → is_safe v ≡ true → input_in v ≡ Some (TermInput j) → IsSafe g j
@@ -26,8 +26,7 @@ value-safe g (Factor t s) j f h e = subst (IsSafe g) (let q : Some (TermInput t)
 value-safe g (Filter t) j f h e = subst (IsSafe g) (let q : Some (TermInput t) ≡ Some (TermInput j) = e in let z : t ≡ j = cc in z) f.1
 value-safe g (Labels t) j f h e = subst (IsSafe g) (let q : Some (TermInput t) ≡ Some (TermInput j) = e in let z : t ≡ j = cc in z) f.1
 value-safe g (Numbers t) j f h e = subst (IsSafe g) (let q : Some (TermInput t) ≡ Some (TermInput j) = e in let z : t ≡ j = cc in z) f.1
-value-safe g (Bars c) j f h e = absurd (let q : Some (BarColumn c) ≡ Some (TermInput j) = e in cc)
-value-safe g v j f h e = absurd (let q : None ≡ Some (TermInput j) = e in cc)
+value-safe g v j f h e = absurd (cc)
 
 -- it stays so in a graph that has all terms of the old one
 pub safe-kept : (g h : Graph) (k : ℕ) → ((k : ℕ) (n : Node) → slice_get g k ≡ Some n → slice_get h k ≡ Some n) → IsSafe g k → IsSafe h k
@@ -45,8 +44,7 @@ later bs q ps j r = (r.0, r.1, ap (λ b. same_parameter r.0 q || b) r.2 ∙ or-t
 
 given-input : (a : Bool) (o : Option Value) (j : ℕ) → cond a (option_and_then input_in o) None ≡ Some (TermInput j) → (a ≡ true) × ((v : Value) × (o ≡ Some v) × (input_in v ≡ Some (TermInput j)))
 given-input true (Some v) j h = (refl, (v, refl, h))
-given-input true None j h = absurd (let no : None ≡ Some (TermInput j) = h in cc)
-given-input false o j h = absurd (let no : None ≡ Some (TermInput j) = h in cc)
+given-input a o j h = absurd (cc)
 
 from-parameters : (bs : List Bound) (ps : List Parameter) (i j : ℕ) → slice_get (filter_map (input_for bs) ps) i ≡ Some (TermInput j) → From bs ps j
 from-parameters bs [] i j h = absurd (let no : None ≡ Some (TermInput j) = h in cc)
@@ -91,12 +89,7 @@ in_window p = false
 window-parameters : (o : Operation) (bs : List Bound) (names : List (List ℕ)) → cond (is_windowed (kind_for o bs names)) (list_all (λ p. not (gives_input p) || in_window p) (parameters o)) true ≡ true
 unfolding kind_for parameters gives_input in_window
 window-parameters (op.Window window.Latest) bs names = refl
-window-parameters (op.Window k) bs names = refl
 window-parameters o bs names = refl
-
-not-or : (a b : Bool) → a ≡ true → (not a || b) ≡ true → b ≡ true
-not-or true b e h = h
-not-or false b e h = absurd (let no : false ≡ true = e in cc)
 
 bars-input : (v : Value) (j : ℕ) → is_bars v ≡ true → input_in v ≡ Some (TermInput j) → ⊥
 bars-input (Bars c) j h e = let no : Some (BarColumn c) ≡ Some (TermInput j) = e in cc
@@ -123,7 +116,9 @@ windows-safe g o bs names k t s w i j e = here (from-inputs o bs i j e)
 
     here : From bs (parameters o) j → IsSafe g j
     here (p, v, own, gives, is, input) =
-        place-safe g p v j (not-or (gives_input p) (in_window p) gives (all-has (λ q. not (gives_input q) || in_window q) (parameters o) p all own))
+        place-safe g p v j
+        (or-right (not (gives_input p)) (in_window p)
+        (all-has (λ q. not (gives_input q) || in_window q) (parameters o) p all own) (ap not gives))
         (test-given takes bs p v t is) (test-given is_safe_for bs p v s is) (stand-given g bs p v k is) input
 
 -- ---- what a node gives
@@ -148,14 +143,12 @@ result-called : (o : Operation) (bs : List Bound) (names : List (List ℕ)) (t :
 unfolding kind_for result_for sort_of is_safe_kind is_safe_over
 result-called op.Downsample bs names t h = absurd (let no : true ≡ false = h in cc)
 result-called (op.Window window.Latest) bs names t h = not-or_self (is_window_safe (kind_for (op.Window window.Latest) bs names) (all_safe bs))
-result-called (op.Window k) bs names t h = not-or_self (is_window_safe (kind_for (op.Window k) bs names) (all_safe bs))
 result-called o bs names t h = not-or_self (is_window_safe (kind_for o bs names) (all_safe bs))
 
 called-cases : (s a b c : Bool) → s ≡ true → (not s || (a || (b && c))) ≡ true → (a ≡ true) ⊎ ((b ≡ true) × (c ≡ true))
 called-cases true true b c e h = inl refl
 called-cases true false true c e h = inr (refl, h)
-called-cases true false false c e h = absurd (let no : false ≡ true = h in cc)
-called-cases false a b c e h = absurd (let no : false ≡ true = e in cc)
+called-cases s a b c e h = absurd (cc)
 
 -- the term of a node that is called safe
 pub result-safe : (g : Graph) (o : Operation) (bs : List Bound) (names : List (List ℕ)) (t : ℕ) (n : Node) → is_like o ≡ false → slice_get g t ≡ Some n → n.kind ≡ kind_for o bs names → n.inputs ≡ inputs_for o bs → AreInGraph g bs

@@ -2,7 +2,6 @@
 use Rattle.std.proofs.Common.{◌≡◌, ℕ, Bool, true, false, ◌&&◌, ◌||◌, cond, List, [], ◌∷◌, ◌++◌, map, Option, Some, None, option_map, pos, refl, sym, ap, ◌∙◌}
 use Rattle.std.specs.Prelude.{filter, is_some, option_and_then}
 use Rattle.std.proofs.lemmas.List.{length-map, map-append}
-use Rattle.std.specs.Int.RustNames.{int_le}
 use Rattle.pl_terms.specs.Sorts.{sort_of, is_safe_kind, is_safe_over}
 use Rattle.pl_pipeline.specs.Kind as kind
 use Rattle.pl_pipeline.specs.declared.WindowKind.TheVariants as window
@@ -15,10 +14,11 @@ use Rattle.pl_check.specs.declared.operation.Parameter.TheVariants as parameter
 use Rattle.pl_check.specs.Parameters.{same_parameter, is_optional}
 use Rattle.pl_check.specs.Values.{Value, Factor, Filter, Labels, Numbers, Bound, bound, is_safe, number_in, text_in, given, read_or}
 use Rattle.pl_check.specs.Operations.{parameters, operator}
-use Rattle.pl_check.specs.Rules.{Written, place_at, named_in, is_given, unless_given, parameter_of, has_all, form, takes, is_whole, is_percent, number_given, is_within, is_window, is_safe_for, each, broken}
-use Rattle.pl_check.specs.Results.{whole, percent_given, text_given, values_given, method_of, order_of, frequency_of, with_sid, sorted_sids, name_number, with_name, kind_for, names_after, window_of, window_for, all_safe, like, sorted, is_window_safe, result_for}
-use Rattle.pl_check.specs.Typed.{first_of, object_of, second_of, operands_of, is_storable, is_term_filter}
-use Rattle.pl_check.proofs.Lists.{given-cons, all-same}
+use Rattle.pl_check.specs.Rules.{Written, place_at, named_in, is_given, unless_given, parameter_of, has_all, form, takes, number_given, is_within, is_window, is_safe_for, each, broken}
+use Rattle.pl_check.specs.Results.{whole, text_given, values_given, with_sid, sorted_sids, with_name, kind_for, names_after, window_of, window_for, all_safe, like, sorted, is_window_safe, result_for}
+use Rattle.pl_check.specs.Typed.{object_of, second_of, operands_of, is_storable, is_term_filter}
+use Rattle.pl_check.specs.Typed as typed
+use Rattle.pl_check.proofs.Lists.{given-cons, all-same, within-by}
 
 -- a value whose term has the number 0
 abbrev pub unnumbered : Value → Value
@@ -121,13 +121,6 @@ texts-bare (v ∷ vs) = ap (λ t. t ∷ map text_in (map unnumbered vs)) (text-b
 
 -- ---- the first broken rule
 
-within-given : (bs : List Bound) (v : Value) (q : Parameter) → is_within (map bare bs) q v ≡ is_within bs q v
-unfolding is_within
-within-given bs v parameter.AtLeast = ap (λ z. is_whole 1 1000000000000 (number_in v) && int_le (number_in v) z) (number-given bs parameter.Window)
-within-given bs v parameter.High = ap (λ z. int_le z (number_in v)) (number-given bs parameter.Low)
-within-given bs v parameter.HighPercent = ap (λ z. is_percent (number_in v) && int_le z (number_in v)) (number-given bs parameter.LowPercent)
-within-given bs v q = refl
-
 each-bare : (f g : Parameter → Value → Bool) → ((v : Value) (q : Parameter) → f q (unnumbered v) ≡ g q v) → (bs : List Bound) → each f (map bare bs) ≡ each g bs
 each-bare f g h [] = refl
 each-bare f g h (b ∷ bs) = ap (λ a. a && each f (map bare bs)) (h b.value b.parameter) ∙ ap (λ a. g b.parameter b.value && a) (each-bare f g h bs)
@@ -135,45 +128,31 @@ each-bare f g h (b ∷ bs) = ap (λ a. a && each f (map bare bs)) (h b.value b.p
 pub broken-bare : (bs : List Bound) → broken (map bare bs) ≡ broken bs
 unfolding broken
 broken-bare bs =
-    let a : each takes (map bare bs) ≡ each takes bs = each-bare takes takes (λ v q. ap (λ (r : Tests). r.0) (tests-bare bs v q)) bs in
-    let b : each (is_within (map bare bs)) (map bare bs) ≡ each (is_within bs) bs = each-bare (is_within (map bare bs)) (is_within bs) (λ v q. ap (λ (r : Tests). r.1) (tests-bare (map bare bs) v q) ∙ within-given bs v q) bs in
-    let c : each is_window (map bare bs) ≡ each is_window bs = each-bare is_window is_window (λ v q. ap (λ (r : Tests). r.2) (tests-bare bs v q)) bs in
-    let d : each is_safe_for (map bare bs) ≡ each is_safe_for bs = each-bare is_safe_for is_safe_for (λ v q. ap (λ (r : Tests). r.3) (tests-bare bs v q)) bs in
+    let cs = map bare bs in
+    let a : each takes cs ≡ each takes bs =
+    each-bare takes takes (λ v q. ap (λ (r : Tests). r.0) (tests-bare bs v q)) bs in
+    let b : each (is_within cs) cs ≡ each (is_within bs) bs =
+    each-bare (is_within cs) (is_within bs)
+    (λ v q.
+    ap (λ (r : Tests). r.1) (tests-bare cs v q) ∙ within-by bs cs (λ p e. number-given bs p) q v) bs in
+    let c : each is_window cs ≡ each is_window bs =
+    each-bare is_window is_window (λ v q. ap (λ (r : Tests). r.2) (tests-bare bs v q)) bs in
+    let d : each is_safe_for cs ≡ each is_safe_for bs =
+    each-bare is_safe_for is_safe_for (λ v q. ap (λ (r : Tests). r.3) (tests-bare bs v q)) bs in
     rw (a, b, c, d) refl
 
 -- ---- kinds, windows and results
 
 pub kind-bare : (o : Operation) (bs : List Bound) (names : List (List ℕ)) → kind_for o (map bare bs) names ≡ kind_for o bs names
 unfolding kind_for
-kind-bare (op.Window (window.BollingerLower k)) bs names = ap (λ n. kind.Window (window.BollingerLower n)) (number-given bs parameter.K)
-kind-bare (op.Window (window.BollingerUpper k)) bs names = ap (λ n. kind.Window (window.BollingerUpper n)) (number-given bs parameter.K)
-kind-bare (op.Window (window.ExponentialWeightedMovingAverage d)) bs names = ap (λ n. kind.Window (window.ExponentialWeightedMovingAverage n)) (number-given bs parameter.Decay)
-kind-bare (op.Window (window.AtLeastN m)) bs names = ap (λ n. kind.Window (window.AtLeastN (whole n))) (number-given bs parameter.AtLeast)
-kind-bare (op.Window k) bs names = refl
-kind-bare op.StaticSids bs names = ap kind.StaticSids (ap sorted_sids (values-given bs parameter.Sid) ∙ sids-bare (values_given bs parameter.Sid))
-kind-bare op.Label bs names = ap (λ t. kind.Label (name_number names t)) (text-given bs parameter.Name)
-kind-bare op.Number bs names = ap (λ t. kind.Number (name_number names t)) (text-given bs parameter.Name)
-kind-bare op.Clip bs names =
-    ap (λ n. kind.Point (kind.Clip n (number_given (map bare bs) parameter.High))) (number-given bs parameter.Low) ∙ ap (λ n. kind.Point (kind.Clip (number_given bs parameter.Low) n)) (number-given bs parameter.High)
-kind-bare op.Rank bs names =
-    ap (λ t. kind.Cross (kind.Rank (method_of t) (order_of (text_given (map bare bs) parameter.Order)))) (text-given bs parameter.Method)
-    ∙ ap (λ t. kind.Cross (kind.Rank (method_of (text_given bs parameter.Method)) (order_of t))) (text-given bs parameter.Order)
-kind-bare op.Quantiles bs names = ap (λ n. kind.Cross (kind.Quantiles (whole n))) (number-given bs parameter.Bins)
-kind-bare op.Top bs names = ap (λ n. kind.Cross (kind.Top (whole n))) (number-given bs parameter.Count)
-kind-bare op.Bottom bs names = ap (λ n. kind.Cross (kind.Bottom (whole n))) (number-given bs parameter.Count)
-kind-bare op.PercentileBetween bs names =
-    let a : percent_given (map bare bs) parameter.LowPercent ≡ percent_given bs parameter.LowPercent = rw (number-given bs parameter.LowPercent) refl in
-    let b : percent_given (map bare bs) parameter.HighPercent ≡ percent_given bs parameter.HighPercent = rw (number-given bs parameter.HighPercent) refl in
-    ap (λ n. kind.Cross (kind.PercentileBetween n (percent_given (map bare bs) parameter.HighPercent))) a ∙ ap (λ n. kind.Cross (kind.PercentileBetween (percent_given bs parameter.LowPercent) n)) b
-kind-bare op.StartsWith bs names = ap (λ t. kind.LabelTest (kind.StartsWith t)) (text-given bs parameter.Text)
-kind-bare op.EndsWith bs names = ap (λ t. kind.LabelTest (kind.EndsWith t)) (text-given bs parameter.Text)
-kind-bare op.ElementOf bs names = ap (λ ts. kind.LabelTest (kind.ElementOf ts)) (ap (map text_in) (values-given bs parameter.Element) ∙ texts-bare (values_given bs parameter.Element))
-kind-bare op.Downsample bs names = ap (λ t. kind.Downsample (frequency_of t)) (text-given bs parameter.Frequency)
-kind-bare op.LabelIs bs names = ap (λ t. kind.LabelTest (kind.LabelIs t)) (text-given bs parameter.ComparedText)
-kind-bare op.LabelIsNot bs names = ap (λ t. kind.LabelTest (kind.LabelIsNot t)) (text-given bs parameter.ComparedText)
-kind-bare op.NumberIs bs names = ap (λ n. kind.Point (kind.NumberIs n)) (number-given bs parameter.ComparedNumber)
-kind-bare op.NumberIsNot bs names = ap (λ n. kind.Point (kind.NumberIsNot n)) (number-given bs parameter.ComparedNumber)
-kind-bare o bs names = refl
+kind-bare (op.Window window.Latest) bs names = refl
+kind-bare op.StaticSids bs names =
+    ap kind.StaticSids
+    (ap sorted_sids (values-given bs parameter.Sid) ∙ sids-bare (values_given bs parameter.Sid))
+kind-bare op.ElementOf bs names =
+    ap (λ ts. kind.LabelTest (kind.ElementOf ts))
+    (ap (map text_in) (values-given bs parameter.Element) ∙ texts-bare (values_given bs parameter.Element))
+kind-bare o bs names = first_of (cc, simp (number-given), simp (text-given))
 
 pub names-bare : (o : Operation) (bs : List Bound) (names : List (List ℕ)) → names_after o (map bare bs) names ≡ names_after o bs names
 names-bare op.Label bs names = ap (with_name names) (text-given bs parameter.Name)
@@ -205,7 +184,6 @@ result-bare op.Downsample bs t =
     ap (λ v. like v (all_safe (map bare bs)) 0) (given-bare bs parameter.AnyTerm) ∙ ap (λ s. like (option_map unnumbered (given bs parameter.AnyTerm)) s 0) (all-safe-bare bs)
     ∙ like-bare (given bs parameter.AnyTerm) (all_safe bs) t
 result-bare (op.Window window.Latest) bs t = ap (λ safe. sorted (sort_of (kind_for (op.Window window.Latest) bs [])) (is_window_safe (kind_for (op.Window window.Latest) bs []) safe) 0) (all-safe-bare bs)
-result-bare (op.Window k) bs t = ap (λ safe. sorted (sort_of (kind_for (op.Window k) bs [])) (is_window_safe (kind_for (op.Window k) bs []) safe) 0) (all-safe-bare bs)
 result-bare o bs t = ap (λ safe. sorted (sort_of (kind_for o bs [])) (is_window_safe (kind_for o bs []) safe) 0) (all-safe-bare bs)
 
 -- ---- the form of arguments
@@ -250,7 +228,8 @@ form-bare o n bs (w ∷ ws) =
 
 -- ---- objects and operands
 
-first-bare : (ps : List Parameter) (v : Value) → first_of ps (unnumbered v) ≡ map bare (first_of ps v)
+first-bare : (ps : List Parameter) (v : Value)
+    → typed.first_of ps (unnumbered v) ≡ map bare (typed.first_of ps v)
 first-bare [] v = refl
 first-bare (p ∷ ps) v = refl
 

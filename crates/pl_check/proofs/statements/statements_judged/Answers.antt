@@ -1,4 +1,4 @@
-use Rattle.std.proofs.Common.{◌+◌, drop, refl, sym, ap, subst, ◌∙◌, arith, rules}
+use Rattle.std.proofs.Common.{◌+◌, drop, sym, ap, subst, ◌∙◌, arith, rules}
 use Rattle.std.proofs.lemmas.List.{drop_all}
 use Rattle.std.proofs.lemmas.Result.{IfOk-at_ok}
 use Rattle.pl_syntax.specs.Statements.{statement_of, statements_of}
@@ -7,15 +7,11 @@ use Rattle.pl_tokens.specs.Sound.{is_written}
 use Rattle.pl_check.specs.Answers.{Fails}
 use Rattle.pl_check.specs.Judging.{judged_of}
 use Rattle.pl_check.specs.Standing.{JudgedIsSound}
-use Rattle.pl_check.specs.Typed.{statements_judged}
-use Rattle.pl_check.proofs.Stated.{statement-kept, tree-sound, next-statement, judged-next, failed-next}
+use Rattle.pl_check.specs.Faults.{◌>>=◌}
+use Rattle.pl_check.specs.Typed.{statement_judged, statements_judged}
+use Rattle.pl_check.proofs.Behind.{fails-then}
+use Rattle.pl_check.proofs.Stated.{statement-kept, tree-sound, next-statement}
 use Rattle.pl_check.proofs.statements.statements_judged.Goals as goal
-
-pub loop-statement-init : goal.loop-statement-init
-loop-statement-init c = (refl, c.requires.stands, c.requires.written)
-
-pub statement_judged-requires-clause-stands : goal.statement_judged-requires-clause-stands
-statement_judged-requires-clause-stands c = c.loop-statement.invariant.1
 
 pub statement_judged-requires-clause-written : goal.statement_judged-requires-clause-written
 statement_judged-requires-clause-written c =
@@ -23,6 +19,7 @@ statement_judged-requires-clause-written c =
     (tree-sound (statement_of c.statement-item.result) (statements_of (drop (c.loop-statement.statement-index + 1) c.args.statements.now)) (sym (ap (are_sound is_written) e) ∙ c.loop-statement.invariant.2)).0
 
 pub returns-in_err-statement_judged : goal.returns-in_err-statement_judged
+unfolding statements_judged
 returns-in_err-statement_judged c =
     let j = judged_of c.loop-statement.judged in
     let s = statement_of c.statement-item.result in
@@ -30,18 +27,24 @@ returns-in_err-statement_judged c =
     let e = next-statement c.args.statements.now c.loop-statement.statement-index c.statement-item.result c.loop-statement-test.true c.statement-item.is in
     let f : Fails c.in_err-statement_judged.field-0.0 (statements_judged c.args.version (judged_of c.args.judged.now) (statements_of c.args.statements.now)) =
     subst (Fails c.in_err-statement_judged.field-0.0) (sym (ap (statements_judged c.args.version j) e) ∙ c.loop-statement.invariant.0)
-    (failed-next c.args.version j c.in_err-statement_judged.field-0.0 s ss c.in_err-statement_judged.ensures) in
+    (fails-then c.in_err-statement_judged.field-0.0 (statement_judged c.args.version j s)
+    (λ x. statements_judged c.args.version x ss) c.in_err-statement_judged.ensures) in
     search (rules, f)
 
 pub loop-statement-preserved : goal.loop-statement-preserved
+unfolding statements_judged
 loop-statement-preserved c =
     let j = judged_of c.loop-statement.judged in
-    let k = judged_of c.statement_judged.new.judged in
     let s = statement_of c.statement-item.result in
     let ss = statements_of (drop (c.loop-statement.statement-index + 1) c.args.statements.now) in
     let e = next-statement c.args.statements.now c.loop-statement.statement-index c.statement-item.result c.loop-statement-test.true c.statement-item.is in
     let y = tree-sound s ss (sym (ap (are_sound is_written) e) ∙ c.loop-statement.invariant.2) in
-    (judged-next c.args.version j k s ss c.in_ok-statement_judged.ensures ∙ sym (ap (statements_judged c.args.version j) e) ∙ c.loop-statement.invariant.0, IfOk-at_ok JudgedIsSound c.in_ok-statement_judged.ensures (statement-kept c.args.version j s y.0 c.loop-statement.invariant.1), y.1)
+    let judged = c.in_ok-statement_judged.ensures in (
+      sym (ap (λ r. r >>= λ x. statements_judged c.args.version x ss) judged)
+          ∙ sym (ap (statements_judged c.args.version j) e) ∙ c.loop-statement.invariant.0,
+      IfOk-at_ok JudgedIsSound judged (statement-kept c.args.version j s y.0 c.loop-statement.invariant.1),
+      y.1,
+    )
 
 pub returns : goal.returns
 unfolding statements_judged
