@@ -50,5 +50,5 @@ IsRisen shelf keeper fault = ⊤
 
 -- the fault of an error, which is of the input or want of memory
 pub record IsErrorFault (fault said : Fault) : Type 0 where
-  pub is : fault ≡ told
+  pub is : fault ≡ said
   pub inside : IsRisen ⊥ ⊥ fault

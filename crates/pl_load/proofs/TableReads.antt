@@ -157,7 +157,7 @@ rows-pass {c = c} name assets splits mergers dividends xs h e calls kept =
       alone = named-alone name (KeeperAlone c);
     }
 
-told-fault : (assets : List AssetRow) (splits mergers dividends : List RawAdjust) (o : Option rows.Fault) (fault : Fault) → fault ≡ told rows_fault o
+told-fault : (assets : List AssetRow) (splits mergers dividends : List RawAdjust) (o : Option rows.Fault) (fault : Fault) → fault ≡ fault_or_memory rows_fault o
     → IfSome o (λ f. adjustments_in assets splits mergers dividends ≡ Err f) → (rows_rule assets (by_table splits mergers dividends) ≡ Some fault) ⊎ (fault ≡ Memory)
 unfolding rows_rule
 told-fault assets splits mergers dividends None fault e h = inr e
@@ -165,7 +165,7 @@ told-fault assets splits mergers dividends (Some f) fault e h = inl (rw (h, e) r
 
 pub rows-stop : {T : Type 0} {c : Change KeeperView} (name : List ℕ) (assets : List AssetRow) (splits mergers dividends : List RawAdjust) (Means : (Table → List RawAdjust) → T → Type 0)
     (o : Option rows.Fault) (fault : Fault)
-    → AreTold c.before.lists name (by_table splits mergers dividends) → fault ≡ told rows_fault o → IfSome o (λ f. adjustments_in assets splits mergers dividends ≡ Err f) → IsRisen ⊥ ⊥ fault → c.after.calls ≡ count_plus c.before.calls 3 → KeeperLeft c
+    → AreTold c.before.lists name (by_table splits mergers dividends) → fault ≡ fault_or_memory rows_fault o → IfSome o (λ f. adjustments_in assets splits mergers dividends ≡ Err f) → IsRisen ⊥ ⊥ fault → c.after.calls ≡ count_plus c.before.calls 3 → KeeperLeft c
     → AreLoaded c (Some name) (adjustments_steps assets (Some name)) Means (Err fault)
 rows-stop {c = c} name assets splits mergers dividends Means o fault h e f inside calls kept =
     record {
