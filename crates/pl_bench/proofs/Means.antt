@@ -16,10 +16,11 @@ use Rattle.pl_check.specs.Values.{given}
 use Rattle.pl_terms.specs.Nodes.{interned, place_from, same_node}
 use Rattle.pl_terms.specs.Sorts.{sort_of, is_safe_kind, is_safe_over}
 use Rattle.pl_terms.specs.Codes.{code_of}
+use Rattle.pl_terms.specs.Windows.{formula_named, is_named}
 use Rattle.pl_bench.specs.Pipeline.{bench_script, bench_pipeline}
 
 pub script-means : typed bench_script ≡ Ok bench_pipeline
-unfolding typed statements_judged statement_judged worth args_worth called applied made node_made with_constants factor_value asks_factor object_of stored let_judged column_judged screen_judged defined bar_column form broken place_at named_in takes is_within is_window is_safe_for kind_for node_for result_for sort_of is_safe_kind is_safe_over gives_input columns_of method_of order_of parameters function_named member_named operation_in name_of number_of given interned place_from same_node code_of bench_script bench_pipeline
+unfolding typed statements_judged statement_judged worth args_worth called applied made node_made with_constants factor_value asks_factor object_of stored let_judged column_judged screen_judged defined bar_column form broken place_at named_in takes is_within is_window is_safe_for kind_for node_for result_for sort_of is_safe_kind is_safe_over gives_input columns_of method_of order_of parameters function_named member_named operation_in formula_named is_named name_of number_of given interned place_from same_node code_of bench_script bench_pipeline
 script-means = refl
 
 -- so the checker gives that pipeline, and finds no fault

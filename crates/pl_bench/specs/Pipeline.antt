@@ -3,7 +3,8 @@ use Rattle.std.specs.Prelude.{◌≡◌, ℕ, pos, List, [], ◌∷◌, ◌++◌
 use Rattle.pl_spec.specs.declared.Column.TheVariants.{Close, Volume}
 use Rattle.pl_pipeline.specs.declared.RankMethod.TheVariants.{Ordinal}
 use Rattle.pl_pipeline.specs.declared.RankOrder.TheVariants.{Ascending}
-use Rattle.pl_pipeline.specs.Kind.{Window, Cross, Label, AverageDollarVolume, Top, Returns, Rank}
+use Rattle.pl_pipeline.specs.Kind.{Window, Cross, Label, Top, Rank}
+use Rattle.pl_pipeline.specs.declared.WindowKind.TheVariants.{AverageDollarVolume, Returns}
 use Rattle.pl_pipeline.specs.Term.{Node, BarColumn, TermInput}
 use Rattle.pl_pipeline.specs.Table.{Pipeline}
 use Rattle.pl_grammar.specs.declared.Place.{Place}
