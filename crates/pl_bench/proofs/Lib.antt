@@ -2,3 +2,12 @@ pub mod Texts
 pub mod Means
 pub mod Ranges
 pub mod Lines
+pub mod Sequences
+pub mod Grids
+pub mod Days
+pub mod Assets
+pub mod SectorRows
+pub mod Prices
+pub mod BarRows
+pub mod AdjustRows
+pub mod WorldMade

@@ -9,7 +9,7 @@ use Rattle.pl_planner.specs.Plans.{Planned}
 use Rattle.pl_runner.specs.declared.run.RunReport.{RunReport}
 use Rattle.pl_runner.specs.Runs.{IsReport, run_steps}
 use Rattle.pl_table.specs.declared.numbers.Numbers.{Numbers}
-use Rattle.pl_generate.specs.StatedWorld.{stated_world}
+use Rattle.pl_bench.specs.StatedWorld.{stated_world}
 use Rattle.pl_bench.specs.Pipeline.{bench_pipeline}
 use Rattle.pl_bench.specs.Plan.{IsBenchPlan}
 use Rattle.pl_bench.specs.Numbers.{AreNumbers, TakesSteps, bench_rows, line_of, bench_line}

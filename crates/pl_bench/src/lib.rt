@@ -5,9 +5,17 @@
 //! same line.
 #![tactic(auto)]
 
+mod adjusts;
+mod bars;
+mod draws;
 pub mod laws;
 mod pipeline;
 mod run;
+mod sectors;
+mod sessions;
+mod world;
 
+pub use draws::Draws;
 pub use pipeline::PIPELINE;
 pub use run::bench;
+pub use world::{ASSETS, SESSIONS, make_world};

@@ -3,7 +3,7 @@ ghost use Rattle.std.specs.Prelude.{◌≡◌, IfOk};
 ghost use Rattle.pl_syntax.specs.Scripts.{parsed};
 ghost use Rattle.pl_terms.specs.Checked.{pipeline_of};
 ghost use Rattle.pl_planner.specs.declared.plans.PlanError.TheVariants as PlanError;
-ghost use Rattle.pl_generate.specs.StatedWorld.{stated_days};
+ghost use Rattle.pl_bench.specs.StatedWorld.{stated_days};
 ghost use Rattle.pl_syntax.specs.declared.error.SyntaxError.TheVariants as SyntaxError;
 ghost use Rattle.pl_bench.specs.Pipeline.{bench_script, bench_pipeline};
 ghost use Rattle.pl_bench.specs.Plan.{IsBenchPlan};

@@ -4,13 +4,13 @@ ghost use Rattle.pl_spec.specs.Limits.{most_chunk};
 ghost use Rattle.pl_outside.specs.Taken.{Writes};
 ghost use Rattle.pl_terms.specs.Checked.{pipeline_of};
 ghost use Rattle.pl_world.specs.Worlds.{owned_world, IsOwnedMade};
-ghost use Rattle.pl_generate.specs.StatedWorld.{stated_days, stated_world};
+ghost use Rattle.pl_bench.specs.StatedWorld.{stated_days, stated_world};
 ghost use Rattle.pl_bench.specs.Pipeline.{bench_pipeline};
 ghost use Rattle.pl_bench.specs.Numbers.{AreNumbers, TakesSteps, bench_line};
 
 use crate::pipeline::{make_pipeline, make_plan};
+use crate::world::make_world;
 use pl_fixed::{Memory, Steps};
-use pl_generate::make_world;
 use pl_outside::{NullSink, Sink};
 use pl_runner::{RunError, run_table};
 use pl_spec::Format;

@@ -1,9 +1,9 @@
 -- What causes a status, and what is left of parts that are not used.
 use Rattle.std.proofs.Common.{◌≡◌, ℕ, Bool, Option, Result, Ok, Err, IfErr, refl, arith}
 use Rattle.pl_outside.specs.Left.{Leaves, LeavesSink, IsUntouched}
-use Rattle.pl_judge.specs.declared.fault.Fault.{Fault}
-use Rattle.pl_judge.specs.declared.fault.Fault.TheVariants.{Usage, Unread, Unloaded, Unwritten}
-use Rattle.pl_judge.specs.Faults.{status_of, judged_status}
+use Rattle.pl_load.specs.declared.fault.Fault.{Fault}
+use Rattle.pl_load.specs.declared.fault.Fault.TheVariants.{Usage, Unread, Unloaded, Unwritten}
+use Rattle.pl_load.specs.Faults.{status_of, judged_status}
 use Rattle.pl_cli.specs.declared.commands.Stats.{Stats}
 use Rattle.pl_cli.specs.Commands.{IsCaused, fault_of}
 

@@ -3,14 +3,14 @@ use Rattle.std.proofs.Common.{◌≡◌, ℕ, Some, Result, refl, subst}
 use Rattle.pl_spec.specs.World.{World}
 use Rattle.pl_pipeline.specs.Table.{Pipeline}
 use Rattle.pl_terms.specs.Checked.{pipeline_of}
-use Rattle.pl_feed.specs.Feeds.{daily_steps}
+use Rattle.pl_runner.specs.Feeds.{daily_steps}
 use Rattle.pl_words.specs.Request.{Daily, RunRequest}
-use Rattle.pl_judge.specs.declared.fault.Fault.{Fault}
-use Rattle.pl_judge.specs.Contents.{Contents}
-use Rattle.pl_judge.specs.Held.{pipeline_held, days_held}
-use Rattle.pl_judge.specs.Known.{world_known}
-use Rattle.pl_judge.specs.Range.{index_of}
-use Rattle.pl_judge.specs.Work.{work}
+use Rattle.pl_load.specs.declared.fault.Fault.{Fault}
+use Rattle.pl_load.specs.Contents.{Contents}
+use Rattle.pl_load.specs.Held.{pipeline_held, days_held}
+use Rattle.pl_load.specs.Known.{world_known}
+use Rattle.pl_load.specs.Range.{index_of}
+use Rattle.pl_load.specs.Work.{work}
 use Rattle.pl_load.specs.Views.{ShelfView, KeeperView, Change}
 use Rattle.pl_load.specs.declared.loading.Loaded.{Loaded}
 use Rattle.pl_load.specs.Loads.{IsLoadOf, IsLoad, IsLoaded}

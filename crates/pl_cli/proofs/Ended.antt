@@ -6,12 +6,12 @@ use Rattle.pl_outside.proofs.Pieces.{writes-over}
 use Rattle.pl_words.specs.declared.request.InputFile.{InputFile}
 use Rattle.pl_words.specs.declared.request.InputFile.TheVariants as file
 use Rattle.pl_words.specs.Request.{Request, name_asked}
-use Rattle.pl_judge.specs.declared.fault.Fault.{Fault}
-use Rattle.pl_judge.specs.declared.fault.Fault.TheVariants.{Usage, Unread, Unloaded, Unwritten, Memory}
-use Rattle.pl_judge.specs.Contents.{Contents}
-use Rattle.pl_judge.specs.Work.{work}
-use Rattle.pl_judge.specs.Stages.{IsStop, IsRisen, HasRead}
-use Rattle.pl_judge.proofs.StepsRead.{read-all}
+use Rattle.pl_load.specs.declared.fault.Fault.{Fault}
+use Rattle.pl_load.specs.declared.fault.Fault.TheVariants.{Usage, Unread, Unloaded, Unwritten, Memory}
+use Rattle.pl_load.specs.Contents.{Contents}
+use Rattle.pl_load.specs.Work.{work}
+use Rattle.pl_load.specs.Stages.{IsStop, IsRisen, HasRead}
+use Rattle.pl_load.proofs.StepsRead.{read-all}
 use Rattle.pl_load.specs.Views.{ShelfView, KeeperView, Change, change, unchanged}
 use Rattle.pl_load.specs.Loads.{IsLoadOf}
 use Rattle.pl_load.proofs.Calls.{shelf-same, keeper-same, alone-same, begins-none, plus-none}

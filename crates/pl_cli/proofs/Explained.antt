@@ -16,19 +16,19 @@ use Rattle.pl_world.specs.declared.owned.OwnedWorld.{OwnedWorld}
 use Rattle.pl_world.specs.declared.world.World as lent
 use Rattle.pl_world.specs.Worlds.{owned_world, world_of}
 use Rattle.pl_words.specs.Request.{Explain, ExplainRequest}
-use Rattle.pl_judge.specs.declared.fault.Fault.{Fault}
-use Rattle.pl_judge.specs.declared.fault.Fault.TheVariants.{Passed, Memory}
-use Rattle.pl_judge.specs.declared.fault.Limit.TheVariants as limits
-use Rattle.pl_judge.specs.Cells.{column_term, lines_step, term_asked}
-use Rattle.pl_judge.specs.Contents.{Contents}
-use Rattle.pl_judge.specs.Held.{pipeline_held, world_held}
-use Rattle.pl_judge.specs.Range.{index_of, session_of}
-use Rattle.pl_judge.specs.Rules.{explain_error}
-use Rattle.pl_judge.specs.Stages.{IsRisen, StageEnds}
-use Rattle.pl_judge.specs.Steps.{WorkStep, first_fault}
-use Rattle.pl_judge.specs.Work.{cell_work, data_steps, explain_work, work}
-use Rattle.pl_judge.proofs.Cells.{sid-there, too-long, short}
-use Rattle.pl_judge.proofs.StepsRead.{lines-quiet}
+use Rattle.pl_load.specs.declared.fault.Fault.{Fault}
+use Rattle.pl_load.specs.declared.fault.Fault.TheVariants.{Passed, Memory}
+use Rattle.pl_load.specs.declared.fault.Limit.TheVariants as limits
+use Rattle.pl_load.specs.Cells.{column_term, lines_step, term_asked}
+use Rattle.pl_load.specs.Contents.{Contents}
+use Rattle.pl_load.specs.Held.{pipeline_held, world_held}
+use Rattle.pl_load.specs.Range.{index_of, session_of}
+use Rattle.pl_load.specs.Rules.{explain_error}
+use Rattle.pl_load.specs.Stages.{IsRisen, StageEnds}
+use Rattle.pl_load.specs.Steps.{WorkStep, first_fault}
+use Rattle.pl_load.specs.Work.{cell_work, data_steps, explain_work, work}
+use Rattle.pl_load.proofs.Cells.{sid-there, too-long, short}
+use Rattle.pl_load.proofs.StepsRead.{lines-quiet}
 use Rattle.pl_load.specs.declared.cells.LoadedCell.{LoadedCell}
 use Rattle.pl_load.specs.Celled.{IsCellLoad, IsCellHeld}
 use Rattle.pl_load.specs.Loads.{IsLoadOf}

@@ -4,14 +4,14 @@ use Rattle.std.specs.Option.{option_copied}
 use Rattle.pl_words.specs.Request.{Request, adjustments_of}
 use Rattle.pl_words.specs.Views.{request_of}
 use Rattle.pl_words.specs.declared.request.Request.{Request as Code}
-use Rattle.pl_judge.specs.declared.fault.Fault.{Fault}
-use Rattle.pl_judge.specs.declared.fault.Fault.TheVariants.{Unread, Unloaded, Unwritten, Memory}
-use Rattle.pl_judge.specs.Faults.{status_of, line_of, judged_status, judged_line}
-use Rattle.pl_judge.specs.Contents.{Contents}
-use Rattle.pl_judge.specs.Steps.{Source, WorkStep, first_fault, reads_in}
-use Rattle.pl_judge.specs.Work.{work}
-use Rattle.pl_judge.specs.Ends.{Ends, EndsJudged, EndsForMemory}
-use Rattle.pl_judge.specs.Stages.{StopsOutside, IsStop, IsFront, IsReadUpTo}
+use Rattle.pl_load.specs.declared.fault.Fault.{Fault}
+use Rattle.pl_load.specs.declared.fault.Fault.TheVariants.{Unread, Unloaded, Unwritten, Memory}
+use Rattle.pl_load.specs.Faults.{status_of, line_of, judged_status, judged_line}
+use Rattle.pl_load.specs.Contents.{Contents}
+use Rattle.pl_load.specs.Steps.{Source, WorkStep, first_fault, reads_in}
+use Rattle.pl_load.specs.Work.{work}
+use Rattle.pl_load.specs.Ends.{Ends, EndsJudged, EndsForMemory}
+use Rattle.pl_load.specs.Stages.{StopsOutside, IsStop, IsFront, IsReadUpTo}
 use Rattle.pl_load.specs.Views.{ShelfView, KeeperView, unchanged}
 use Rattle.pl_load.proofs.Joined.{wants-memory}
 use Rattle.pl_cli.specs.Texts.{text_of}

@@ -6,10 +6,10 @@ use Rattle.pl_payouts.specs.declared.reading.Dividend.{Dividend}
 use Rattle.pl_payouts.specs.Texts.{payouts_text}
 use Rattle.pl_words.specs.Request.{Bench, BenchRequest, Payouts, PayoutsRequest}
 use Rattle.pl_bench.specs.Numbers.{TakesSteps as TakesBenchSteps, bench_line}
-use Rattle.pl_judge.specs.declared.fault.Fault.{Fault}
-use Rattle.pl_judge.specs.declared.fault.Fault.TheVariants.{Unwritten, Memory}
-use Rattle.pl_judge.specs.Contents.{Contents}
-use Rattle.pl_judge.specs.Work.{work}
+use Rattle.pl_load.specs.declared.fault.Fault.{Fault}
+use Rattle.pl_load.specs.declared.fault.Fault.TheVariants.{Unwritten, Memory}
+use Rattle.pl_load.specs.Contents.{Contents}
+use Rattle.pl_load.specs.Work.{work}
 use Rattle.pl_load.specs.Views.{ShelfView, KeeperView, change, unchanged}
 use Rattle.pl_load.specs.declared.payouts.LoadedPayouts.{LoadedPayouts}
 use Rattle.pl_load.specs.PaidOut.{ArePayoutsHeld}

@@ -7,13 +7,13 @@ use Rattle.pl_spec.specs.declared.AssetRow.{AssetRow}
 use Rattle.pl_outside.specs.declared.keeper.Table.{Table}
 use Rattle.pl_words.specs.declared.request.InputFile.TheVariants.{Labels as LabelsFile, Numbers as NumbersFile, Revisions as RevisionsFile, Derivation as DerivationFile}
 use Rattle.pl_words.specs.Request.{Request, Run, Explain, Verify, Daily, WorldNames, adjustments_of}
-use Rattle.pl_judge.specs.Cells.{cell_steps, lines_step}
-use Rattle.pl_judge.specs.Contents.{Contents}
-use Rattle.pl_judge.specs.Held.{assets_held, days_held, pipeline_held, world_held}
-use Rattle.pl_judge.specs.Steps.{Source, WorkStep, ReachesRead}
-use Rattle.pl_judge.specs.Steps.Source.{Load}
-use Rattle.pl_judge.specs.Range.{dates_steps, plan_steps, range_steps}
-use Rattle.pl_judge.specs.Work.{labels_steps, numbers_steps, revisions_steps, data_steps, derivation_step, work}
+use Rattle.pl_load.specs.Cells.{cell_steps, lines_step}
+use Rattle.pl_load.specs.Contents.{Contents}
+use Rattle.pl_load.specs.Held.{assets_held, days_held, pipeline_held, world_held}
+use Rattle.pl_load.specs.Steps.{Source, WorkStep, ReachesRead}
+use Rattle.pl_load.specs.Steps.Source.{Load}
+use Rattle.pl_load.specs.Range.{dates_steps, plan_steps, range_steps}
+use Rattle.pl_load.specs.Work.{labels_steps, numbers_steps, revisions_steps, data_steps, derivation_step, work}
 
 -- whether no step loads a table, whatever the faults are
 abbrev is_no_load : Option Source → Bool

@@ -11,9 +11,9 @@ use Rattle.pl_planner.specs.Plans.{Planned}
 use Rattle.pl_runner.specs.Runs.{run_steps}
 use Rattle.pl_words.specs.declared.request.InputFile.TheVariants as files
 use Rattle.pl_words.specs.Request.{Run, Fmt, Check, RunRequest}
-use Rattle.pl_judge.specs.Contents.{Contents}
-use Rattle.pl_judge.specs.Held.{script_in, pipeline_in, pipeline_held, world_held}
-use Rattle.pl_judge.specs.Known.{world_known}
+use Rattle.pl_load.specs.Contents.{Contents}
+use Rattle.pl_load.specs.Held.{script_in, pipeline_in, pipeline_held, world_held}
+use Rattle.pl_load.specs.Known.{world_known}
 use Rattle.pl_load.specs.declared.loading.Loaded.{Loaded}
 use Rattle.pl_load.specs.Loads.{IsLoaded}
 use Rattle.pl_world.specs.Worlds.{owned_world}

@@ -6,13 +6,13 @@ use Rattle.pl_pipeline.specs.Table.{Pipeline}
 use Rattle.pl_terms.specs.Checked.{pipeline_of}
 use Rattle.pl_terms.specs.Uses.{outputs, is_used, uses}
 use Rattle.pl_planner.specs.Plans.{Planned, IsPlanOf, extra}
-use Rattle.pl_plan_text.specs.Text.{line_at, line_of, lines_text, last_line, plan_text}
+use Rattle.pl_planner.specs.Text.{line_at, line_of, lines_text, last_line, plan_text}
 use Rattle.pl_words.specs.Request.{PlanRequest, Plan}
 use Rattle.std.specs.Prelude.{Some}
-use Rattle.pl_judge.specs.Contents.{Contents}
-use Rattle.pl_judge.specs.Held.{pipeline_held, days_held}
-use Rattle.pl_judge.specs.Planning.{HasRows, extra_of, reach_at}
-use Rattle.pl_judge.specs.Range.{index_of}
+use Rattle.pl_load.specs.Contents.{Contents}
+use Rattle.pl_load.specs.Held.{pipeline_held, days_held}
+use Rattle.pl_load.specs.Planning.{HasRows, extra_of, reach_at}
+use Rattle.pl_load.specs.Range.{index_of}
 use Rattle.pl_load.specs.declared.planning.PlannedPipeline.{PlannedPipeline}
 use Rattle.pl_load.specs.Loads.{IsPlanned}
 use Rattle.pl_cli.specs.Texts.{planned_text, text_of}

@@ -7,7 +7,7 @@ use Rattle.pl_derivation.specs.Right.{first_wrong}
 use Rattle.pl_terms.specs.Checked.{pipeline_of}
 use Rattle.pl_world.specs.Worlds.{owned_world}
 use Rattle.pl_words.specs.Request.{Verify, VerifyRequest}
-use Rattle.pl_judge.specs.Contents.{Contents}
+use Rattle.pl_load.specs.Contents.{Contents}
 use Rattle.pl_load.specs.declared.derivations.LoadedDerivation.{LoadedDerivation}
 use Rattle.pl_load.specs.Derived.{IsDerivationHeld}
 use Rattle.pl_cli.specs.Texts.{text_of, verdict_text}

@@ -9,17 +9,17 @@ use Rattle.pl_outside.specs.Left.{LeavesSink}
 use Rattle.pl_outside.specs.Taken.{TakesAll, TakesPrefix}
 use Rattle.pl_terms.specs.Checked.{pipeline_of}
 use Rattle.pl_words.specs.Request.{Request, name_asked, adjustments_of}
-use Rattle.pl_judge.specs.declared.fault.Fault.{Fault}
-use Rattle.pl_judge.specs.declared.fault.Fault.TheVariants.{Usage, Unread, Unloaded, Unwritten}
-use Rattle.pl_judge.specs.Contents.{Contents, AreHeld}
-use Rattle.pl_judge.specs.Steps.{Source, first_fault, names_read, tables_read}
-use Rattle.pl_judge.specs.Work.{work}
-use Rattle.pl_judge.specs.Stages.{IsStop, HasRead}
+use Rattle.pl_load.specs.declared.fault.Fault.{Fault}
+use Rattle.pl_load.specs.declared.fault.Fault.TheVariants.{Usage, Unread, Unloaded, Unwritten}
+use Rattle.pl_load.specs.Contents.{Contents, AreHeld}
+use Rattle.pl_load.specs.Steps.{Source, first_fault, names_read, tables_read}
+use Rattle.pl_load.specs.Work.{work}
+use Rattle.pl_load.specs.Stages.{IsStop, HasRead}
 use Rattle.pl_load.specs.Views.{ShelfView, KeeperView, Change, change, ShelfLeft, KeeperLeft, KeeperAlone}
 use Rattle.pl_load.specs.declared.loading.Loaded.{Loaded}
 use Rattle.pl_world.specs.Worlds.{owned_world}
 use Rattle.pl_runner.specs.Runs.{run_steps}
-use Rattle.pl_feed.specs.Feeds.{daily_steps}
+use Rattle.pl_runner.specs.Feeds.{daily_steps}
 use Rattle.pl_cli.specs.declared.commands.Stats.{Stats}
 use Rattle.pl_table.specs.Numbers.{stats_line}
 use Rattle.pl_cli.specs.Texts.{text_of, table_stats, present_in, TakesSteps, IsNumbersLine}

@@ -5,11 +5,11 @@ use Rattle.pl_outside.specs.Lists.{Lists}
 use Rattle.pl_outside.specs.Counts.{count_plus}
 use Rattle.pl_outside.specs.Taken.{TakesAll, TakesPrefix}
 use Rattle.pl_words.specs.Request.{Request, name_asked, adjustments_of}
-use Rattle.pl_judge.specs.Contents.{Contents, AreHeld}
-use Rattle.pl_judge.specs.Stages.{IsFront}
-use Rattle.pl_judge.specs.Steps.{Source, first_fault, reads_in, names_read, tables_read}
-use Rattle.pl_judge.specs.Work.{work}
-use Rattle.pl_judge.specs.Ends.{Ends, EndsJudged, EndsForMemory}
+use Rattle.pl_load.specs.Contents.{Contents, AreHeld}
+use Rattle.pl_load.specs.Stages.{IsFront}
+use Rattle.pl_load.specs.Steps.{Source, first_fault, reads_in, names_read, tables_read}
+use Rattle.pl_load.specs.Work.{work}
+use Rattle.pl_load.specs.Ends.{Ends, EndsJudged, EndsForMemory}
 use Rattle.pl_cli.specs.Texts.{text_of, TakesSteps, IsNumbersLine}
 
 -- What the parts of the outside tell as a run begins, and what is told of them and of the steps as it ends.

@@ -7,7 +7,7 @@ use Rattle.pl_pipeline.specs.Text.{text}
 use Rattle.pl_pipeline.specs.Graph.{bound}
 use Rattle.pl_spec.specs.Limits.{saturated}
 use Rattle.pl_terms.specs.Uses.{outputs}
-use Rattle.pl_plan_text.specs.Text.{plan_text}
+use Rattle.pl_planner.specs.Text.{plan_text}
 use Rattle.pl_syntax.specs.Canonical.{script_text}
 use Rattle.pl_planner.specs.Plans.{Planned, IsPlanOf}
 use Rattle.pl_bench.specs.Numbers.{TakesSteps as TakesBenchSteps, bench_line}
@@ -16,17 +16,17 @@ use Rattle.pl_derivation.specs.Texts as lines
 use Rattle.pl_derivation.specs.Right.{first_wrong}
 use Rattle.pl_derivation.specs.Walks.{derivation}
 use Rattle.pl_runner.specs.Runs.{run_steps}
-use Rattle.pl_feed.specs.Feeds.{daily_steps}
+use Rattle.pl_runner.specs.Feeds.{daily_steps}
 use Rattle.pl_world.specs.Present.{has_numbers, present_numbers}
 use Rattle.pl_words.specs.declared.request.InputFile.TheVariants.{Pipeline as PipelineFile}
 use Rattle.pl_words.specs.Request.{Request, Run, Fmt, Check, Plan, Bench, Payouts, Explain, Verify, Daily, RunRequest, ExplainRequest}
-use Rattle.pl_judge.specs.Cells.{term_asked}
-use Rattle.pl_judge.specs.Contents.{Contents}
-use Rattle.pl_judge.specs.Held.{script_in, pipeline_in, pipeline_held, days_held, assets_held, bars_held, payouts_held, derivation_held, world_held}
-use Rattle.pl_judge.specs.Known.{world_known}
+use Rattle.pl_load.specs.Cells.{term_asked}
+use Rattle.pl_load.specs.Contents.{Contents}
+use Rattle.pl_load.specs.Held.{script_in, pipeline_in, pipeline_held, days_held, assets_held, bars_held, payouts_held, derivation_held, world_held}
+use Rattle.pl_load.specs.Known.{world_known}
 use Rattle.pl_table.specs.Numbers.{stats_line}
-use Rattle.pl_judge.specs.Planning.{extra_of, reach_at}
-use Rattle.pl_judge.specs.Range.{index_of}
+use Rattle.pl_load.specs.Planning.{extra_of, reach_at}
+use Rattle.pl_load.specs.Range.{index_of}
 
 -- the rows of the sessions that are asked for
 abbrev pub rows_asked : World → Pipeline → RunRequest → List Row

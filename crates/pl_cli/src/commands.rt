@@ -14,10 +14,9 @@ ghost use Rattle.pl_cli.specs.Commands.{IsAnswered, sink_change, loaded_text, lo
 use crate::present::present_of;
 use itoa::Buffer;
 use pl_fixed::Steps;
-use pl_judge::Fault;
-use pl_load::{Loaded, load, load_plan, read_checked, read_script};
+use pl_load::{Fault, Loaded, load, load_plan, read_checked, read_script};
 use pl_outside::{AdjustKeeper, Shelf, Sink, write_bytes, write_pieces};
-use pl_plan_text::plan_text;
+use pl_planner::plan_text;
 use pl_runner::{RunError, RunReport, run_table};
 use pl_syntax::print;
 use pl_table::Numbers;

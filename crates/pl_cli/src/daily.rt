@@ -9,12 +9,10 @@ ghost use Rattle.pl_load.specs.Loads.{IsReadyRun};
 ghost use Rattle.pl_cli.specs.Commands.{IsAnswered, sink_change, loaded_text, loaded_days};
 
 use crate::commands::Stats;
-use pl_feed::run_daily;
 use pl_fixed::Steps;
-use pl_judge::Fault;
-use pl_load::{Loaded, load};
+use pl_load::{Fault, Loaded, load};
 use pl_outside::{AdjustKeeper, Shelf, Sink};
-use pl_runner::RunError;
+use pl_runner::{RunError, run_daily};
 use pl_spec::Format;
 use pl_table::Asked;
 use pl_words::RunRequest;

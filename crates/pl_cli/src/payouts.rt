@@ -10,8 +10,7 @@ ghost use Rattle.pl_load.specs.PaidOut.{IsPayable};
 ghost use Rattle.pl_cli.specs.Commands.{IsAnswered, sink_change};
 
 use crate::commands::Stats;
-use pl_judge::Fault;
-use pl_load::{LoadedPayouts, load_payouts};
+use pl_load::{Fault, LoadedPayouts, load_payouts};
 use pl_outside::{Shelf, Sink};
 use pl_payouts::write_payouts;
 use pl_words::PayoutsRequest;

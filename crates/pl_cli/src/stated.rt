@@ -11,7 +11,7 @@ ghost use Rattle.pl_cli.specs.Commands.{IsAnswered, sink_change};
 use crate::commands::Stats;
 use pl_bench::bench;
 use pl_fixed::Steps;
-use pl_judge::Fault;
+use pl_load::Fault;
 use pl_outside::Sink;
 use pl_runner::RunError;
 use pl_words::BenchRequest;

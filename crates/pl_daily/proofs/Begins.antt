@@ -20,12 +20,12 @@ use Rattle.pl_laws.proofs.Starts.{start-same, start-within}
 use Rattle.pl_cross.specs.Arrays.{sid_in}
 use Rattle.pl_rings.specs.Days.{Start, FedDay, fed, days_of, last_day, last_session, IsStart, AreFed}
 use Rattle.pl_rings.proofs.Fed.{length-days, all_before}
-use Rattle.pl_day_rows.proofs.Values.{values_stay}
-use Rattle.pl_day_rows.specs.declared.term_day.TermCells.{TermCells}
-use Rattle.pl_day_rows.specs.Rows.{sids_of}
-use Rattle.pl_day_rows.specs.TermDays.{cell_on}
-use Rattle.pl_day_rows.specs.Held.{HoldsTerm}
-use Rattle.pl_day_rows.proofs.DayByDay.{fed_texts}
+use Rattle.pl_daily.proofs.Values.{values_stay}
+use Rattle.pl_daily.specs.declared.term_day.TermCells.{TermCells}
+use Rattle.pl_daily.specs.Rows.{sids_of}
+use Rattle.pl_daily.specs.TermDays.{cell_on}
+use Rattle.pl_daily.specs.Held.{HoldsTerm}
+use Rattle.pl_daily.proofs.DayByDay.{fed_texts}
 use Rattle.pl_daily.specs.declared.starts.StartCells.{StartCells}
 use Rattle.pl_daily.specs.Terms.{HoldsStart, begins}
 

@@ -20,7 +20,7 @@ use Rattle.pl_rings.specs.declared.columns.BarRings.{BarRings}
 use Rattle.pl_rings.specs.declared.starts.Capacities.{Capacities}
 use Rattle.pl_rings.specs.Columns.{AreBarRings, BeginColumns, HasRoom, rings_of}
 use Rattle.pl_rings.specs.Days.{IsStart}
-use Rattle.pl_day_rows.specs.declared.term_day.TermCells.{TermCells}
+use Rattle.pl_daily.specs.declared.term_day.TermCells.{TermCells}
 use Rattle.pl_daily.specs.declared.starts.StartCells.{StartCells}
 use Rattle.pl_daily.specs.Capacities.{column_window, term_window}
 use Rattle.pl_daily.specs.Daily.{Held, HasBeenFed, start_in}

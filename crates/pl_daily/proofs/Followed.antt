@@ -10,8 +10,8 @@ use Rattle.pl_pipeline.specs.Table.{Pipeline}
 use Rattle.pl_terms.specs.Uses.{is_used}
 use Rattle.pl_rings.specs.Days.{Start, FedDay}
 use Rattle.pl_rings.specs.declared.columns.BarRings.{BarRings}
-use Rattle.pl_day_rows.specs.declared.term_day.TermCells.{TermCells}
-use Rattle.pl_day_rows.specs.Held.{AreTermCells, FollowTerm, HoldsTerm}
+use Rattle.pl_daily.specs.declared.term_day.TermCells.{TermCells}
+use Rattle.pl_daily.specs.Held.{AreTermCells, FollowTerm, HoldsTerm}
 use Rattle.pl_daily.specs.declared.starts.StartCells.{StartCells}
 use Rattle.pl_daily.specs.declared.terms.Lent.{Lent}
 use Rattle.pl_daily.specs.Terms.{AreStarts, AreTerms, Downsamples, FollowBelow, FollowStart, FollowTermAt, FollowTerms, HoldsStart, IsAt, IsPlaced, IsRowOf, IsStartOf, IsStartRoom, assets_at, begins, pipeline_at, rooms, start_at}

@@ -23,10 +23,10 @@ use Rattle.pl_terms.specs.declared.node.TermId.{TermId}
 use Rattle.pl_values.proofs.Numbers.{number_is, plain-number}
 use Rattle.pl_rings.specs.Days.{Start, FedDay, fed, IsStart, AreFed}
 use Rattle.pl_rings.proofs.Moves.{days_are_fed}
-use Rattle.pl_day_rows.specs.Rows.{is_kept_by, lives_at, sids_of}
-use Rattle.pl_day_rows.specs.Rows.{row_of}
-use Rattle.pl_day_rows.specs.TermDays.{cell_on, number_row}
-use Rattle.pl_day_rows.specs.declared.term_day.TermCells.{TermCells}
+use Rattle.pl_daily.specs.Rows.{is_kept_by, lives_at, sids_of}
+use Rattle.pl_daily.specs.Rows.{row_of}
+use Rattle.pl_daily.specs.TermDays.{cell_on, number_row}
+use Rattle.pl_daily.specs.declared.term_day.TermCells.{TermCells}
 use Rattle.pl_daily.specs.Kept.{kept_places}
 
 listed : (day : ℤ) (all rest : List AssetRow) (k : ℕ) → ((i : ℕ) → i < length rest → slice_get all (k + i) ≡ slice_get rest i)

@@ -11,3 +11,8 @@ pub mod Outputs
 pub mod Taken
 pub mod Shown
 pub mod Worked
+pub mod Sessions
+pub mod Values
+pub mod RowsShown
+pub mod Given
+pub mod DayByDay

@@ -24,11 +24,11 @@ use Rattle.pl_values.specs.Arrays.{cell_of, Fills}
 use Rattle.pl_rings.specs.Days.{Start, FedDay, fed, IsStart, AreFed}
 use Rattle.pl_rings.specs.Changes.{Ring, AreRings, ring_at}
 use Rattle.pl_rings.specs.Columns.{HoldColumns, rings_of}
-use Rattle.pl_day_rows.specs.declared.term_day.TermCells.{TermCells}
-use Rattle.pl_day_rows.specs.declared.term_day.TermDay.{TermDay}
-use Rattle.pl_day_rows.specs.Rows.{capacity_of, rings_in, row_of, rows_lent}
-use Rattle.pl_day_rows.specs.TermDays.{Moment, IsRowInEveryWorld, IsTermDay, IsDayIn, HoldsRow, HoldsRings, HoldsBars, HoldsStart, assets_at, node_at, pipeline_at, sids_at, cell_on, day_window_of}
-use Rattle.pl_day_rows.proofs.Sessions.{fed_days_are_sessions}
+use Rattle.pl_daily.specs.declared.term_day.TermCells.{TermCells}
+use Rattle.pl_daily.specs.declared.term_day.TermDay.{TermDay}
+use Rattle.pl_daily.specs.Rows.{capacity_of, rings_in, row_of, rows_lent}
+use Rattle.pl_daily.specs.TermDays.{Moment, IsRowInEveryWorld, IsTermDay, IsDayIn, HoldsRow, HoldsRings, HoldsBars, HoldsStart, assets_at, node_at, pipeline_at, sids_at, cell_on, day_window_of}
+use Rattle.pl_daily.proofs.Sessions.{fed_days_are_sessions}
 use Rattle.pl_daily.specs.declared.starts.StartCells.{StartCells}
 use Rattle.pl_daily.specs.declared.terms.Lent.{Lent}
 use Rattle.pl_daily.specs.Terms

@@ -12,10 +12,10 @@ use Rattle.pl_terms.specs.declared.checked.NamedColumn as code
 use Rattle.pl_terms.specs.declared.node.TermId.{TermId}
 use Rattle.pl_planner.proofs.Marks.{column-within}
 use Rattle.pl_rings.specs.Days.{Start, FedDay, fed, last_session}
-use Rattle.pl_day_rows.specs.declared.term_day.TermCells.{TermCells}
-use Rattle.pl_day_rows.specs.Held.{AreTermCells}
-use Rattle.pl_day_rows.specs.Rows.{sids_of}
-use Rattle.pl_day_rows.proofs.DayByDay.{fed_texts}
+use Rattle.pl_daily.specs.declared.term_day.TermCells.{TermCells}
+use Rattle.pl_daily.specs.Held.{AreTermCells}
+use Rattle.pl_daily.specs.Rows.{sids_of}
+use Rattle.pl_daily.proofs.DayByDay.{fed_texts}
 use Rattle.pl_daily.specs.declared.daily.Daily.TheInside.{Inside}
 use Rattle.pl_daily.specs.Daily.{HasBeenFed, start_in, world_in}
 use Rattle.pl_daily.specs.View.{IsInside, held_of}

@@ -20,9 +20,9 @@ use Rattle.pl_rings.specs.Changes.{IsHandedIn, column_event}
 use Rattle.pl_rings.specs.Columns.{FollowColumns}
 use Rattle.pl_rings.specs.Days.{Start, FedDay, days_of, last_day, last_session, AreFed, IsLaterThan, MayFollow}
 use Rattle.pl_rings.proofs.Fed.{fed_is_a_world, length-days}
-use Rattle.pl_day_rows.specs.declared.term_day.TermCells.{TermCells}
-use Rattle.pl_day_rows.specs.Rows.{row_of}
-use Rattle.pl_day_rows.specs.TermDays.{number_row}
+use Rattle.pl_daily.specs.declared.term_day.TermCells.{TermCells}
+use Rattle.pl_daily.specs.Rows.{row_of}
+use Rattle.pl_daily.specs.TermDays.{number_row}
 use Rattle.pl_daily.specs.declared.starts.StartCells.{StartCells}
 use Rattle.pl_daily.specs.Daily.{Held, HasBeenFed, last_of, start_in}
 use Rattle.pl_daily.specs.Kept.{kept_places}

@@ -6,7 +6,7 @@ use Rattle.pl_pipeline.specs.Table.{Pipeline}
 use Rattle.pl_rings.specs.declared.columns.BarRings.{BarRings}
 use Rattle.pl_rings.specs.declared.day.DayEvent.{DayEvent}
 use Rattle.pl_rings.specs.Columns.{AreBarRings, rings_of, day_steps}
-use Rattle.pl_day_rows.specs.declared.term_day.TermCells.{TermCells}
+use Rattle.pl_daily.specs.declared.term_day.TermCells.{TermCells}
 use Rattle.pl_daily.specs.Capacities.{column_window}
 use Rattle.pl_daily.specs.Daily.{day_work}
 use Rattle.pl_daily.specs.Terms.{AreTerms}

@@ -17,8 +17,8 @@ use Rattle.pl_rings.specs.Changes.{column_event}
 use Rattle.pl_rings.specs.Columns.{HoldColumns}
 use Rattle.pl_rings.specs.Days.{Start, FedDay, fed, days_of, last_session, last_day, IsStart, AreFed}
 use Rattle.pl_rings.specs.Rings.{scaling}
-use Rattle.pl_day_rows.specs.declared.term_day.TermCells.{TermCells}
-use Rattle.pl_day_rows.specs.Held.{HoldsTerm}
+use Rattle.pl_daily.specs.declared.term_day.TermCells.{TermCells}
+use Rattle.pl_daily.specs.Held.{HoldsTerm}
 use Rattle.pl_daily.specs.Capacities.{column_window}
 use Rattle.pl_daily.specs.Reaches.{AreFirst}
 use Rattle.pl_daily.specs.Terms.{start_of, HoldStarts}

@@ -8,3 +8,9 @@ pub mod Room
 pub mod Steps
 pub mod Terms
 pub mod View
+-- Words of rows of a day.
+pub mod Rows
+pub mod TermDays
+pub mod Windows
+pub mod Held
+pub mod Laws

@@ -7,8 +7,8 @@ use Rattle.pl_terms.specs.Uses.{is_used}
 use Rattle.pl_values.specs.Arrays.{empty_cell}
 use Rattle.pl_rings.specs.declared.starts.Capacities.{Capacities}
 use Rattle.pl_rings.specs.Columns.{capacity_for}
-use Rattle.pl_day_rows.specs.declared.term_day.TermCells.{TermCells}
-use Rattle.pl_day_rows.specs.Held.{AreTermCells, BeginsTerm}
+use Rattle.pl_daily.specs.declared.term_day.TermCells.{TermCells}
+use Rattle.pl_daily.specs.Held.{AreTermCells, BeginsTerm}
 use Rattle.pl_daily.specs.declared.room.Room.{Room}
 use Rattle.pl_daily.specs.declared.starts.StartCells.{StartCells}
 use Rattle.pl_daily.specs.Capacities.{column_window, term_window}

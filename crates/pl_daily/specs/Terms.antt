@@ -18,10 +18,10 @@ use Rattle.pl_terms.specs.Uses.{is_used}
 use Rattle.pl_rings.specs.Days.{Start, FedDay, fed, days_of, last_day, last_session, IsStart, AreFed}
 use Rattle.pl_rings.specs.declared.columns.BarRings.{BarRings}
 use Rattle.pl_rings.specs.Columns.{AreBarRings, HoldColumns, rings_of}
-use Rattle.pl_day_rows.specs.declared.term_day.TermCells.{TermCells}
-use Rattle.pl_day_rows.specs.Rows.{rows_lent, sids_of}
-use Rattle.pl_day_rows.specs.TermDays.{cell_on}
-use Rattle.pl_day_rows.specs.Held.{AreTermCells, HoldsTerm}
+use Rattle.pl_daily.specs.declared.term_day.TermCells.{TermCells}
+use Rattle.pl_daily.specs.Rows.{rows_lent, sids_of}
+use Rattle.pl_daily.specs.TermDays.{cell_on}
+use Rattle.pl_daily.specs.Held.{AreTermCells, HoldsTerm}
 use Rattle.pl_daily.specs.declared.starts.StartCells.{StartCells}
 use Rattle.pl_daily.specs.declared.terms.Lent.{Lent}
 

@@ -3,8 +3,8 @@ use Rattle.std.specs.Prelude.{◌≡◌, ℕ, ◌<◌, ◌≤◌, length, slice_
 use Rattle.pl_spec.specs.declared.Column.{Column}
 use Rattle.pl_terms.specs.Checked.{IsChecked, pipeline_of}
 use Rattle.pl_rings.specs.Columns.{rings_of}
-use Rattle.pl_day_rows.specs.declared.term_day.TermCells.{TermCells}
-use Rattle.pl_day_rows.specs.Rows.{rows_lent}
+use Rattle.pl_daily.specs.declared.term_day.TermCells.{TermCells}
+use Rattle.pl_daily.specs.Rows.{rows_lent}
 use Rattle.pl_daily.specs.declared.daily.Daily.TheInside.{Inside}
 use Rattle.pl_daily.specs.Capacities.{column_window, term_window}
 use Rattle.pl_daily.specs.Daily.{Held}

@@ -10,8 +10,8 @@ ghost use Rattle.pl_daily.specs.Terms.{AreStarts, AreTerms, FollowTerms, IsPlace
 use crate::reaches::advance_reaches;
 use crate::room::Room;
 use crate::starts::StartCells;
+use crate::term_day::TermCells;
 use crate::terms::{Lent, advance_terms};
-use pl_day_rows::TermCells;
 use pl_terms::Checked;
 
 /// Takes the day into all used terms, which the rings of bars have already.

@@ -2,11 +2,12 @@
 ghost use Rattle.std.specs.Prelude.{◌≡◌, ◌≤◌, ◌<◌, length, vec_capacity, All, IfSome};
 ghost use Rattle.pl_cross.specs.Listing.{labels_in};
 ghost use Rattle.pl_terms.specs.Checked.{IsChecked, pipeline_of};
-ghost use Rattle.pl_day_rows.specs.TermDays.{number_row};
+ghost use Rattle.pl_daily.specs.TermDays.{number_row};
 ghost use Rattle.pl_daily.specs.Kept.{kept_places};
 
+use crate::leaves::is_kept;
+use crate::term_day::TermCells;
 use pl_assets::Assets;
-use pl_day_rows::{TermCells, is_kept};
 use pl_terms::Checked;
 
 /// Puts the columns of the assets that live on the day and pass the screen, ascending, into room for all. The

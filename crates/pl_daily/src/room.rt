@@ -11,9 +11,10 @@ ghost use Rattle.pl_daily.specs.Room.{AreBegun, AreBegunStarts, HasColumns, IsBe
 ghost use Rattle.pl_daily.specs.Terms.{Downsamples, IsStartRoom};
 
 use crate::capacities::{column_window, is_used, term_window};
+use crate::held::begin_term;
 use crate::starts::StartCells;
+use crate::term_day::TermCells;
 use pl_cross::Cross;
-use pl_day_rows::{TermCells, begin_term};
 use pl_fixed::{Column, Memory};
 use pl_planner::{count, node_at};
 use pl_rings::Capacities;

@@ -9,9 +9,9 @@ ghost use Rattle.pl_rings.specs.Days.{FedDay};
 ghost use Rattle.pl_daily.specs.Terms.{AreTerms, Downsamples, FollowStart, IsAt, IsStartRoom};
 ghost use Rattle.pl_daily.specs.Terms.{assets_at, begins, pipeline_at};
 
+use crate::term_day::TermCells;
 use crate::terms::Lent;
 use pl_calendar::period_of;
-use pl_day_rows::TermCells;
 use pl_fixed::Frequency;
 use pl_terms::{Input, Node, TermId, frequency_of};
 

@@ -7,10 +7,12 @@ ghost use Rattle.pl_daily.specs.Room.{IsRoom};
 ghost use Rattle.pl_daily.specs.Terms.{AreStarts, AreTerms, FollowTermAt, FollowTerms, IsAt, IsPlaced};
 ghost use Rattle.pl_daily.specs.Terms.{IsLent, IsRowOf, IsStartRoom, assets_at, pipeline_at, rooms};
 
+use crate::held::put_term;
 use crate::room::Room;
+use crate::row::fill_row;
 use crate::starts::{StartCells, take_start};
+use crate::term_day::{TermCells, TermDay};
 use pl_assets::{Assets, Labels};
-use pl_day_rows::{TermCells, TermDay, fill_row, put_term};
 use pl_numbers::Numbers;
 use pl_rings::BarRings;
 use pl_terms::{Checked, TermId};

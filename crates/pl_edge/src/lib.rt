@@ -1,5 +1,5 @@
-//! The adapters to the outside: files, database files, standard output and standard error, and what the
-//! program does around its run.
+//! The adapters to the outside: files, standard output and standard error, and what the program does around
+//! its run.
 //!
 //! They are trusted: what a file holds and what a stream shows, no clause can say.
 #![tactic(auto)]
@@ -7,7 +7,6 @@
 mod command_line;
 mod ends;
 mod faults;
-mod file_keeper;
 mod file_shelf;
 mod stream;
 #[cfg(test)]
@@ -15,6 +14,5 @@ mod tests;
 
 pub use command_line::{StartError, words};
 pub use ends::{ended, flushed};
-pub use file_keeper::FileKeeper;
 pub use file_shelf::FileShelf;
 pub use stream::Stream;

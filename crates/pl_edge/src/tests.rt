@@ -1,16 +1,11 @@
 //! The adapters over files of the system: as it should be, and where the system refuses.
 
 use super::*;
-use databases::{CLOSED, LOG, NULL, OPEN, Piece};
-use pl_outside::{
-    AdjustKeeper, Failed, KeepError, RawAdjust, ReadError, Shelf, Table, read_file, write_bytes,
-};
+use pl_outside::{Failed, ReadError, Shelf, read_file, write_bytes};
 use std::alloc::Global;
 use std::fs::{self, File, OpenOptions};
 use std::io::{self, BufWriter, Write};
 use std::test::Fail;
-
-mod databases;
 
 // Less is proved of it than of an assertion that shows both sides.
 fn expect(is_so: bool, what: &'static str) -> Result<(), Fail> {
@@ -19,14 +14,14 @@ fn expect(is_so: bool, what: &'static str) -> Result<(), Fail> {
 
 #[test]
 fn reads_files(rt: HostRuntime) -> Result<(), Fail> {
-    fs::write(&rt, "ten", "0123456789")?;
+    fs::write(&rt, "out/ten", "0123456789")?;
     let mut shelf = FileShelf::new(&rt);
     reads_ten(rt.alloc(), &mut shelf)
 }
 
 // The shelf is lent here and below, so that no exit lets it go.
 fn reads_ten(alloc: Global, shelf: &mut FileShelf<'_>) -> Result<(), Fail> {
-    expect(shelf.begin("ten").is_ok(), "ten")?;
+    expect(shelf.begin("out/ten").is_ok(), "ten")?;
     expect(gives(shelf, 4, b"0123"), "the first piece")?;
     expect(gives(shelf, 4, b"4567"), "the second piece")?;
     expect(gives(shelf, 2, b"89--"), "the last piece")?;
@@ -42,7 +37,7 @@ fn gives(shelf: &mut FileShelf<'_>, count: usize, left: &[u8]) -> bool {
 }
 
 fn gives_whole(alloc: Global, shelf: &mut FileShelf<'_>) -> bool {
-    match read_file(alloc, shelf, "ten", 10) {
+    match read_file(alloc, shelf, "out/ten", 10) {
         Ok(bytes) => bytes.as_slice() == b"0123456789".as_slice(),
         Err(_) => false,
     }
@@ -50,13 +45,13 @@ fn gives_whole(alloc: Global, shelf: &mut FileShelf<'_>) -> bool {
 
 #[test]
 fn counts_failed_reads(rt: HostRuntime) -> Result<(), Fail> {
-    fs::write(&rt, "one", "1")?;
+    fs::write(&rt, "out/one", "1")?;
     let mut shelf = FileShelf::new(&rt);
     fails_to_read(rt.alloc(), &mut shelf)
 }
 
 fn fails_to_read(alloc: Global, shelf: &mut FileShelf<'_>) -> Result<(), Fail> {
-    expect(shelf.begin("one").is_ok(), "one")?;
+    expect(shelf.begin("out/one").is_ok(), "one")?;
     // a file that isn't there, after which no file is begun
     expect(shelf.begin("no-such-file") == Err(Failed), "no file")?;
     expect(shelf.faults == 1, "one fault")?;
@@ -89,8 +84,11 @@ fn row_taken<W: Write + Drop>(to: W) -> (bool, u64) {
 
 #[test]
 fn counts_failed_writes(rt: HostRuntime) -> Result<(), Fail> {
-    expect(row_taken(fs::create(&rt, "held")?) == (true, 0), "a file")?;
-    expect(holds(&rt, "held", b"row"), "held")?;
+    expect(
+        row_taken(fs::create(&rt, "out/held")?) == (true, 0),
+        "a file",
+    )?;
+    expect(holds(&rt, "out/held", b"row"), "held")?;
     expect(row_taken(full(&rt)?) == (false, 1), "a full device")
 }
 
@@ -121,107 +119,9 @@ fn flushed_row<W: Write + Drop>(
     Ok((left, before, out.faults))
 }
 
-#[test]
-fn reads_database_files(rt: HostRuntime) -> Result<(), Fail> {
-    make_all(&rt)?;
-    let mut keeper = FileKeeper::new(&rt);
-    let mut rows = Vec::new(rt.alloc());
-    loads_all(rt.alloc(), &mut keeper, &mut rows)
-}
-
-const LOADS: [(&str, Table, Result<(), KeepError>, u64, usize); 9] = [
-    ("closed.db", Table::Splits, Ok(()), 0, 1),
-    ("open.db", Table::Splits, Ok(()), 0, 2),
-    ("closed.db", Table::Mergers, Err(KeepError::Failed), 1, 2),
-    ("null.db", Table::Splits, Err(KeepError::Failed), 2, 2),
-    ("text.db", Table::Splits, Err(KeepError::Failed), 3, 2),
-    ("empty.db", Table::Splits, Err(KeepError::Failed), 4, 2),
-    ("cut.db", Table::Splits, Err(KeepError::Failed), 5, 2),
-    ("no-such.db", Table::Splits, Err(KeepError::Failed), 6, 2),
-    (".", Table::Splits, Err(KeepError::Failed), 7, 2),
-];
-
-fn loads_all(
-    alloc: Global,
-    keeper: &mut FileKeeper<'_>,
-    rows: &mut Vec<RawAdjust>,
-) -> Result<(), Fail> {
-    for (name, table, loaded, faults, count) in LOADS.iter() {
-        let answer = keeper.load(alloc, name, *table, rows);
-        expect(answer == *loaded, name)?;
-        expect(keeper.faults == *faults && rows.len() == *count, name)?;
-    }
-    let split = RawAdjust {
-        id: 2,
-        effective: 1_704_326_400,
-        num: 1,
-        den: 2,
-        sid: 1,
-    };
-    expect(rows.as_slice() == [split, split].as_slice(), "the rows")
-}
-
-#[test]
-fn leaves_database_files(rt: HostRuntime) -> Result<(), Fail> {
-    make_all(&rt)?;
-    load_some(&rt);
-    // no file is made or changed
-    expect(!is_there(&rt, "no-such.db"), "no file")?;
-    expect(!is_there(&rt, "no-such.db-wal"), "no log of no file")?;
-    expect(!is_there(&rt, "empty.db-wal"), "no log of an empty file")?;
-    expect(!is_there(&rt, "text.db-wal"), "no log of a text")?;
-    expect(holds(&rt, "empty.db", b""), "empty.db")?;
-    expect(holds_pieces(&rt, "closed.db", &CLOSED)?, "closed.db")
-}
-
-fn load_some(rt: &HostRuntime) {
-    let mut keeper = FileKeeper::new(rt);
-    let mut rows = Vec::new(rt.alloc());
-    for name in ["closed.db", "no-such.db", "empty.db", "text.db"] {
-        let _ = keeper.load(rt.alloc(), name, Table::Splits, &mut rows);
-    }
-}
-
-fn is_there(rt: &HostRuntime, name: &str) -> bool {
-    fs::read(rt, name).is_ok()
-}
-
 fn holds(rt: &HostRuntime, name: &str, bytes: &[u8]) -> bool {
     match fs::read(rt, name) {
         Ok(held) => held.as_slice() == bytes,
         Err(_) => false,
     }
-}
-
-fn holds_pieces(rt: &HostRuntime, name: &str, pieces: &[Piece]) -> Result<bool, Fail> {
-    let bytes = bytes_of(rt.alloc(), pieces)?;
-    Ok(holds(rt, name, &bytes))
-}
-
-fn make_all(rt: &HostRuntime) -> Result<(), Fail> {
-    make(rt, "closed.db", &CLOSED)?;
-    make(rt, "null.db", &NULL)?;
-    // what is written to an open file stands in its log alone
-    make(rt, "open.db", &OPEN)?;
-    make(rt, "open.db-wal", &LOG)?;
-    make(rt, "cut.db", &CLOSED)?;
-    make(rt, "cut.db-journal", &[(0, b"\xd9\xd5")])?;
-    make(rt, "text.db", &[(0, b"id,effective_date,num,den,sid\n")])?;
-    make(rt, "empty.db", &[])
-}
-
-// Makes a file of these pieces.
-fn make(rt: &HostRuntime, name: &str, pieces: &[Piece]) -> Result<(), Fail> {
-    let bytes = bytes_of(rt.alloc(), pieces)?;
-    fs::write(rt, name, bytes.as_slice())?;
-    Ok(())
-}
-
-fn bytes_of(alloc: Global, pieces: &[Piece]) -> Result<Vec<u8>, Fail> {
-    let mut bytes = Vec::new(alloc);
-    for (place, piece) in pieces {
-        bytes.resize(*place, 0u8)?;
-        bytes.extend_from_slice(piece)?;
-    }
-    Ok(bytes)
 }

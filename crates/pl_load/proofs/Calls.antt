@@ -4,9 +4,9 @@ use Rattle.pl_outside.specs.Counts.{Rose, count_plus}
 use Rattle.pl_outside.specs.Files.{BeginsAll}
 use Rattle.pl_outside.specs.Left.{Leaves}
 use Rattle.pl_outside.proofs.Counting.{Rose-later}
-use Rattle.pl_judge.specs.declared.fault.Fault.{Fault}
-use Rattle.pl_judge.specs.declared.fault.Fault.TheVariants.{Usage, Unread, Unloaded, Unwritten}
-use Rattle.pl_judge.specs.Stages.{IsRisen}
+use Rattle.pl_load.specs.declared.fault.Fault.{Fault}
+use Rattle.pl_load.specs.declared.fault.Fault.TheVariants.{Usage, Unread, Unloaded, Unwritten}
+use Rattle.pl_load.specs.Stages.{IsRisen}
 use Rattle.pl_load.specs.Views.{ShelfView, KeeperView, change, ShelfLeft, KeeperLeft, KeeperAlone}
 
 -- ---- no call

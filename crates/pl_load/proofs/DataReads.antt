@@ -8,8 +8,8 @@ use Rattle.pl_world.specs.declared.owned.OwnedWorld.{OwnedWorld}
 use Rattle.pl_world.specs.Worlds.{owned_world}
 use Rattle.pl_words.specs.declared.request.InputFile.TheVariants.{Sessions, Assets, Labels, Numbers, Bars, Revisions}
 use Rattle.pl_words.specs.Request.{WorldNames}
-use Rattle.pl_judge.specs.Contents.{Contents}
-use Rattle.pl_judge.specs.Held.{days_in, assets_in, assets_held, labels_asked, numbers_asked, bars_in, adjustments_asked, revised_asked}
+use Rattle.pl_load.specs.Contents.{Contents}
+use Rattle.pl_load.specs.Held.{days_in, assets_in, assets_held, labels_asked, numbers_asked, bars_in, adjustments_asked, revised_asked}
 use Rattle.pl_load.specs.declared.loading.WorldRows.{WorldRows}
 use Rattle.pl_load.specs.Loads.{IsWorldHeld}
 use Rattle.pl_load.specs.Parts.{AreRevised, AreRows}

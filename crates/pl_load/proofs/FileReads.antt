@@ -9,14 +9,14 @@ use Rattle.pl_records.specs.Reading as reading
 use Rattle.pl_outside.specs.Counts.{Rose}
 use Rattle.pl_outside.specs.Files.{Files, BeginsAll}
 use Rattle.pl_words.specs.declared.request.InputFile.{InputFile}
-use Rattle.pl_judge.specs.declared.fault.Fault.{Fault}
-use Rattle.pl_judge.specs.declared.fault.Fault.TheVariants.{Unread, Unloaded, Passed, Memory}
-use Rattle.pl_judge.specs.declared.fault.Limit.{Limit}
-use Rattle.pl_judge.specs.Rules.{line_fault}
-use Rattle.pl_judge.specs.Steps.{WorkStep, first_fault}
-use Rattle.pl_judge.specs.Work.{cap_of, limit_of, read_step, file_fault, fault_in}
-use Rattle.pl_judge.specs.Stages.{IsStop, IsRisen, StopsOutside}
-use Rattle.pl_judge.proofs.Steps.{risen-inside}
+use Rattle.pl_load.specs.declared.fault.Fault.{Fault}
+use Rattle.pl_load.specs.declared.fault.Fault.TheVariants.{Unread, Unloaded, Passed, Memory}
+use Rattle.pl_load.specs.declared.fault.Limit.{Limit}
+use Rattle.pl_load.specs.Rules.{line_fault}
+use Rattle.pl_load.specs.Steps.{WorkStep, first_fault}
+use Rattle.pl_load.specs.Work.{cap_of, limit_of, read_step, file_fault, fault_in}
+use Rattle.pl_load.specs.Stages.{IsStop, IsRisen, StopsOutside}
+use Rattle.pl_load.proofs.Steps.{risen-inside}
 use Rattle.pl_load.specs.Reads.{IsRead, no_rule}
 use Rattle.pl_load.specs.Views.{ShelfView, Change, change, ShelfLeft}
 use Rattle.pl_load.proofs.Calls.{shelf-same, begins-none}

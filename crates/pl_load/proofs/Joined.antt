@@ -10,16 +10,16 @@ use Rattle.pl_outside.specs.declared.keeper.Table.{Table}
 use Rattle.pl_words.specs.declared.request.InputFile.{InputFile}
 use Rattle.pl_words.specs.declared.request.InputFile.TheVariants.{Pipeline, Sessions, Assets, Labels, Numbers, Bars, Revisions, Payouts, Derivation}
 use Rattle.pl_words.specs.Request.{Request, name_asked, adjustments_of}
-use Rattle.pl_judge.specs.declared.fault.Fault.{Fault}
-use Rattle.pl_judge.specs.declared.fault.Fault.TheVariants.{Memory}
-use Rattle.pl_judge.specs.Contents.{Contents, AreHeld}
-use Rattle.pl_judge.specs.Steps.{Source, WorkStep, reads_in, names_read, tables_read, rule}
-use Rattle.pl_judge.specs.Steps.Source.{Input}
-use Rattle.pl_judge.specs.Stages.{StageEnds, IsRisen}
-use Rattle.pl_judge.specs.Held.{script_in}
-use Rattle.pl_judge.specs.Work.{read_step, script_rule, syntax_step, pipeline_steps, evaluated_steps, numbers_step, labels_steps, numbers_steps, revisions_steps}
-use Rattle.pl_judge.proofs.Steps.{stage-stops, stage-goes_on, stage-done, stage-weaker, stage-over, always}
-use Rattle.pl_judge.proofs.StepsRead.{read-stops, read-goes_on, read-all, read-over, front-none, one-read, names-append, tables-append}
+use Rattle.pl_load.specs.declared.fault.Fault.{Fault}
+use Rattle.pl_load.specs.declared.fault.Fault.TheVariants.{Memory}
+use Rattle.pl_load.specs.Contents.{Contents, AreHeld}
+use Rattle.pl_load.specs.Steps.{Source, WorkStep, reads_in, names_read, tables_read, rule}
+use Rattle.pl_load.specs.Steps.Source.{Input}
+use Rattle.pl_load.specs.Stages.{StageEnds, IsRisen}
+use Rattle.pl_load.specs.Held.{script_in}
+use Rattle.pl_load.specs.Work.{read_step, script_rule, syntax_step, pipeline_steps, evaluated_steps, numbers_step, labels_steps, numbers_steps, revisions_steps}
+use Rattle.pl_load.proofs.Steps.{stage-stops, stage-goes_on, stage-done, stage-weaker, stage-over, always}
+use Rattle.pl_load.proofs.StepsRead.{read-stops, read-goes_on, read-all, read-over, front-none, one-read, names-append, tables-append}
 use Rattle.pl_load.specs.Reads.{IsRead, AreLoaded}
 use Rattle.pl_load.specs.Views.{ShelfView, KeeperView, Change, change}
 use Rattle.pl_load.specs.Loads.{IsLoadOf}

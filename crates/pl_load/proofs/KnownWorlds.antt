@@ -13,7 +13,7 @@ use Rattle.pl_world.specs.declared.owned.OwnedWorld.{OwnedWorld}
 use Rattle.pl_planner.specs.Plans.{Planned, IsPlanOf}
 use Rattle.pl_planner.proofs.Calendars.{plan-same}
 use Rattle.pl_words.specs.Request.{Dated, RunRequest, ExplainRequest, VerifyRequest, Run, Explain, Verify}
-use Rattle.pl_judge.specs.Range.{IsDateOf, index_asked, index_of}
+use Rattle.pl_load.specs.Range.{IsDateOf, index_asked, index_of}
 use Rattle.pl_load.specs.Loads.{AsksWorld, IsKnown}
 
 -- the world as of a date, of contents that are those of the parts

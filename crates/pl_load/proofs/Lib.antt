@@ -8,3 +8,9 @@ pub mod Joined
 pub mod Works
 pub mod DataReads
 pub mod KnownWorlds
+pub mod Steps
+pub mod StepsRead
+pub mod Needed
+pub mod Planned
+pub mod Ranges
+pub mod Cells

@@ -12,14 +12,14 @@ use Rattle.pl_check.specs.declared.fault.CheckError.{CheckError}
 use Rattle.pl_check.specs.declared.fault.CheckError.TheVariants as check_errors
 use Rattle.pl_check.specs.Answers.{Fails}
 use Rattle.pl_check.specs.Typed.{typed}
-use Rattle.pl_judge.specs.declared.fault.Fault.{Fault}
-use Rattle.pl_judge.specs.declared.fault.Fault.TheVariants.{Memory}
-use Rattle.pl_judge.specs.Rules.{syntax_error, check_error}
-use Rattle.pl_judge.specs.Held.{script_in, pipeline_in}
-use Rattle.pl_judge.specs.Work.{syntax_rule, script_rule, syntax_step, pipeline_steps, evaluated_steps, numbers_step}
-use Rattle.pl_judge.specs.Steps.{WorkStep, rule}
-use Rattle.pl_judge.specs.Stages.{StageEnds, IsRisen}
-use Rattle.pl_judge.proofs.Steps.{always, stage-done, stage-goes_on, stage-over, stage-stops, stage-weaker, risen-inside}
+use Rattle.pl_load.specs.declared.fault.Fault.{Fault}
+use Rattle.pl_load.specs.declared.fault.Fault.TheVariants.{Memory}
+use Rattle.pl_load.specs.Rules.{syntax_error, check_error}
+use Rattle.pl_load.specs.Held.{script_in, pipeline_in}
+use Rattle.pl_load.specs.Work.{syntax_rule, script_rule, syntax_step, pipeline_steps, evaluated_steps, numbers_step}
+use Rattle.pl_load.specs.Steps.{WorkStep, rule}
+use Rattle.pl_load.specs.Stages.{StageEnds, IsRisen}
+use Rattle.pl_load.proofs.Steps.{always, stage-done, stage-goes_on, stage-over, stage-stops, stage-weaker, risen-inside}
 use Rattle.pl_load.specs.Reads.{IsRead}
 use Rattle.pl_load.specs.Views.{ShelfView, Change}
 

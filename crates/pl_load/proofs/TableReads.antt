@@ -12,16 +12,16 @@ use Rattle.pl_outside.specs.Lists.{Lists}
 use Rattle.pl_outside.specs.declared.keeper.Table.{Table}
 use Rattle.pl_outside.specs.declared.keeper.Table.TheVariants.{Splits, Mergers, Dividends}
 use Rattle.pl_words.specs.declared.request.InputFile.{InputFile}
-use Rattle.pl_judge.specs.declared.fault.Fault.{Fault}
-use Rattle.pl_judge.specs.declared.fault.Fault.TheVariants.{Unloaded, Memory}
-use Rattle.pl_judge.specs.Rules.{fault_or_memory, rows_fault}
-use Rattle.pl_judge.specs.Held.{adjustments_asked, adjustments_from}
-use Rattle.pl_judge.specs.Steps.{Source, WorkStep, ReachesRead, reads_in, names_read, tables_read, rule}
-use Rattle.pl_judge.specs.Steps.Source.{Load}
-use Rattle.pl_judge.specs.Work.{adjustments_steps, rows_rule}
-use Rattle.pl_judge.specs.Stages.{StopsOutside, IsFront, IsReadUpTo, IsRisen}
-use Rattle.pl_judge.proofs.Steps.{risen-inside}
-use Rattle.pl_judge.proofs.StepsRead.{quiet, read-all}
+use Rattle.pl_load.specs.declared.fault.Fault.{Fault}
+use Rattle.pl_load.specs.declared.fault.Fault.TheVariants.{Unloaded, Memory}
+use Rattle.pl_load.specs.Rules.{fault_or_memory, rows_fault}
+use Rattle.pl_load.specs.Held.{adjustments_asked, adjustments_from}
+use Rattle.pl_load.specs.Steps.{Source, WorkStep, ReachesRead, reads_in, names_read, tables_read, rule}
+use Rattle.pl_load.specs.Steps.Source.{Load}
+use Rattle.pl_load.specs.Work.{adjustments_steps, rows_rule}
+use Rattle.pl_load.specs.Stages.{StopsOutside, IsFront, IsReadUpTo, IsRisen}
+use Rattle.pl_load.proofs.Steps.{risen-inside}
+use Rattle.pl_load.proofs.StepsRead.{quiet, read-all}
 use Rattle.pl_load.specs.Reads.{AreLoaded, IsUnloaded}
 use Rattle.pl_load.specs.Views.{KeeperView, Change, change, KeeperLeft, KeeperAlone}
 use Rattle.pl_load.proofs.Calls.{keeper-same, alone-same, plus-none}

@@ -8,14 +8,14 @@ use Rattle.pl_planner.specs.Plans.{Planned, IsPlanOf}
 use Rattle.pl_words.specs.declared.request.InputFile.{InputFile}
 use Rattle.pl_words.specs.declared.request.InputFile.TheVariants as file
 use Rattle.pl_words.specs.Request.{Dated, RunRequest, PlanRequest, ExplainRequest, VerifyRequest, WorldNames}
-use Rattle.pl_judge.specs.declared.fault.Fault.{Fault}
-use Rattle.pl_judge.specs.Contents.{Contents}
-use Rattle.pl_judge.specs.Held.{pipeline_in, days_in, assets_in, days_held, assets_held}
-use Rattle.pl_judge.specs.Planning.{HasRows}
-use Rattle.pl_judge.specs.Cells.{cell_steps}
-use Rattle.pl_judge.specs.Range.{dates_steps, plan_steps, range_steps, index_of}
-use Rattle.pl_judge.specs.Steps.{WorkStep}
-use Rattle.pl_judge.specs.Work.{read_step, sessions_step, bars_rule, assets_rule, payouts_rule, derivation_step, pipeline_steps, evaluated_steps, numbers_steps, revised_steps, rows_steps, data_steps, run_work, plan_work, payouts_work, cell_work, verify_work}
+use Rattle.pl_load.specs.declared.fault.Fault.{Fault}
+use Rattle.pl_load.specs.Contents.{Contents}
+use Rattle.pl_load.specs.Held.{pipeline_in, days_in, assets_in, days_held, assets_held}
+use Rattle.pl_load.specs.Planning.{HasRows}
+use Rattle.pl_load.specs.Cells.{cell_steps}
+use Rattle.pl_load.specs.Range.{dates_steps, plan_steps, range_steps, index_of}
+use Rattle.pl_load.specs.Steps.{WorkStep}
+use Rattle.pl_load.specs.Work.{read_step, sessions_step, bars_rule, assets_rule, payouts_rule, derivation_step, pipeline_steps, evaluated_steps, numbers_steps, revised_steps, rows_steps, data_steps, run_work, plan_work, payouts_work, cell_work, verify_work}
 use Rattle.pl_load.specs.Loads.{IsWorldHeld}
 use Rattle.pl_load.specs.Parts.{world_steps, plan_steps_for}
 use Rattle.pl_load.proofs.Joined.{joint, is_file}

@@ -4,12 +4,12 @@ use Rattle.pl_terms.specs.Checked.{pipeline_of}
 use Rattle.pl_terms.specs.Uses.{is_used}
 use Rattle.pl_world.specs.Worlds.{owned_world, IsOwnedMade}
 use Rattle.pl_words.specs.Request.{ExplainRequest, Explain}
-use Rattle.pl_judge.specs.declared.fault.Fault.{Fault}
-use Rattle.pl_judge.specs.Contents.{Contents}
-use Rattle.pl_judge.specs.Held.{pipeline_held, world_held}
-use Rattle.pl_judge.specs.Cells.{asset_of, column_term, term_reach}
-use Rattle.pl_judge.specs.Range.{session_of}
-use Rattle.pl_judge.specs.Work.{cell_work}
+use Rattle.pl_load.specs.declared.fault.Fault.{Fault}
+use Rattle.pl_load.specs.Contents.{Contents}
+use Rattle.pl_load.specs.Held.{pipeline_held, world_held}
+use Rattle.pl_load.specs.Cells.{asset_of, column_term, term_reach}
+use Rattle.pl_load.specs.Range.{session_of}
+use Rattle.pl_load.specs.Work.{cell_work}
 use Rattle.pl_load.specs.Loads.{IsLoadOf}
 use Rattle.pl_load.specs.Views.{ShelfView, KeeperView, Change}
 use Rattle.pl_load.specs.declared.cells.LoadedCell.{LoadedCell}

@@ -3,10 +3,10 @@ use Rattle.std.specs.Prelude.{◌≡◌, Some, Result}
 use Rattle.pl_terms.specs.Checked.{pipeline_of}
 use Rattle.pl_world.specs.Worlds.{owned_world}
 use Rattle.pl_words.specs.Request.{VerifyRequest, Verify}
-use Rattle.pl_judge.specs.declared.fault.Fault.{Fault}
-use Rattle.pl_judge.specs.Contents.{Contents}
-use Rattle.pl_judge.specs.Held.{pipeline_held, world_held, derivation_held}
-use Rattle.pl_judge.specs.Work.{verify_work}
+use Rattle.pl_load.specs.declared.fault.Fault.{Fault}
+use Rattle.pl_load.specs.Contents.{Contents}
+use Rattle.pl_load.specs.Held.{pipeline_held, world_held, derivation_held}
+use Rattle.pl_load.specs.Work.{verify_work}
 use Rattle.pl_load.specs.Loads.{IsLoadOf}
 use Rattle.pl_load.specs.Views.{ShelfView, KeeperView, Change}
 use Rattle.pl_load.specs.declared.derivations.LoadedDerivation.{LoadedDerivation}

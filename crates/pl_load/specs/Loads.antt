@@ -11,15 +11,15 @@ use Rattle.pl_world.specs.Worlds.{owned_world, IsOwnedMade}
 use Rattle.pl_planner.specs.Plans.{IsPlanOf}
 use Rattle.pl_words.specs.declared.request.InputFile.TheVariants.{Sessions, Assets, Labels, Numbers, Bars, Revisions}
 use Rattle.pl_words.specs.Request.{Request, RunRequest, PlanRequest, WorldNames, Run, Plan, name_asked, adjustments_of}
-use Rattle.pl_judge.specs.declared.fault.Fault.{Fault}
-use Rattle.pl_judge.specs.Contents.{Contents, AreHeld}
-use Rattle.pl_judge.specs.Held.{pipeline_held, days_held, world_held}
-use Rattle.pl_judge.specs.Known.{world_known}
-use Rattle.pl_judge.specs.Steps.{Source, WorkStep, names_read, tables_read}
-use Rattle.pl_judge.specs.Work.{data_steps, run_work, plan_work}
-use Rattle.pl_judge.specs.Planning.{HasRows}
-use Rattle.pl_judge.specs.Range.{index_of}
-use Rattle.pl_judge.specs.Stages.{StageEnds, HasRead, IsRisen}
+use Rattle.pl_load.specs.declared.fault.Fault.{Fault}
+use Rattle.pl_load.specs.Contents.{Contents, AreHeld}
+use Rattle.pl_load.specs.Held.{pipeline_held, days_held, world_held}
+use Rattle.pl_load.specs.Known.{world_known}
+use Rattle.pl_load.specs.Steps.{Source, WorkStep, names_read, tables_read}
+use Rattle.pl_load.specs.Work.{data_steps, run_work, plan_work}
+use Rattle.pl_load.specs.Planning.{HasRows}
+use Rattle.pl_load.specs.Range.{index_of}
+use Rattle.pl_load.specs.Stages.{StageEnds, HasRead, IsRisen}
 use Rattle.pl_load.specs.declared.loading.Loaded.{Loaded}
 use Rattle.pl_load.specs.declared.planning.PlannedPipeline.{PlannedPipeline}
 use Rattle.pl_load.specs.Views.{ShelfView, KeeperView, Change, ShelfLeft, KeeperLeft, KeeperAlone}

@@ -2,10 +2,10 @@
 use Rattle.std.specs.Prelude.{◌≡◌, ◌<◌, length, Some, Result, All}
 use Rattle.pl_payouts.specs.Payouts.{AreKnown}
 use Rattle.pl_words.specs.Request.{PayoutsRequest, Payouts}
-use Rattle.pl_judge.specs.declared.fault.Fault.{Fault}
-use Rattle.pl_judge.specs.Contents.{Contents}
-use Rattle.pl_judge.specs.Held.{days_held, assets_held, bars_held, payouts_held}
-use Rattle.pl_judge.specs.Work.{payouts_work}
+use Rattle.pl_load.specs.declared.fault.Fault.{Fault}
+use Rattle.pl_load.specs.Contents.{Contents}
+use Rattle.pl_load.specs.Held.{days_held, assets_held, bars_held, payouts_held}
+use Rattle.pl_load.specs.Work.{payouts_work}
 use Rattle.pl_load.specs.Loads.{IsLoadOf}
 use Rattle.pl_load.specs.Views.{ShelfView, KeeperView, Change}
 use Rattle.pl_load.specs.declared.payouts.LoadedPayouts.{LoadedPayouts}

@@ -9,14 +9,14 @@ use Rattle.pl_world.specs.Known.{ShowsSame}
 use Rattle.pl_world.specs.Worlds.{owned_world}
 use Rattle.pl_words.specs.declared.request.InputFile.TheVariants.{Sessions, Labels, Numbers, Bars, Revisions}
 use Rattle.pl_words.specs.Request.{Request, PlanRequest, RunRequest, WorldNames, Run, Plan}
-use Rattle.pl_judge.specs.declared.fault.Fault.{Fault}
-use Rattle.pl_judge.specs.Contents.{Contents}
-use Rattle.pl_judge.specs.Held.{days_held, world_held, labels_asked, numbers_asked, bars_in, adjustments_asked, revised_asked}
-use Rattle.pl_judge.specs.Known.{world_known}
-use Rattle.pl_judge.specs.Planning.{HasRows}
-use Rattle.pl_judge.specs.Range.{index_of, range_steps}
-use Rattle.pl_judge.specs.Steps.{WorkStep}
-use Rattle.pl_judge.specs.Work.{data_steps, revised_steps, rows_steps, sessions_step}
+use Rattle.pl_load.specs.declared.fault.Fault.{Fault}
+use Rattle.pl_load.specs.Contents.{Contents}
+use Rattle.pl_load.specs.Held.{days_held, world_held, labels_asked, numbers_asked, bars_in, adjustments_asked, revised_asked}
+use Rattle.pl_load.specs.Known.{world_known}
+use Rattle.pl_load.specs.Planning.{HasRows}
+use Rattle.pl_load.specs.Range.{index_of, range_steps}
+use Rattle.pl_load.specs.Steps.{WorkStep}
+use Rattle.pl_load.specs.Work.{data_steps, revised_steps, rows_steps, sessions_step}
 use Rattle.pl_load.specs.declared.loading.PlannedWorld.{PlannedWorld}
 use Rattle.pl_load.specs.declared.loading.WorldRows.{WorldRows}
 use Rattle.pl_load.specs.Loads.{IsLoadOf, AsksWorld}

@@ -6,10 +6,10 @@ use Rattle.pl_outside.specs.Counts.{Rose, count_plus}
 use Rattle.pl_outside.specs.Files.{BeginsAll}
 use Rattle.pl_outside.specs.declared.keeper.Table.{Table}
 use Rattle.pl_words.specs.declared.request.InputFile.{InputFile}
-use Rattle.pl_judge.specs.declared.fault.Fault.{Fault}
-use Rattle.pl_judge.specs.declared.fault.Fault.TheVariants.{Unloaded, Memory}
-use Rattle.pl_judge.specs.Steps.{Source, WorkStep, names_read, tables_read}
-use Rattle.pl_judge.specs.Stages.{StageEnds, HasRead, IsRisen}
+use Rattle.pl_load.specs.declared.fault.Fault.{Fault}
+use Rattle.pl_load.specs.declared.fault.Fault.TheVariants.{Unloaded, Memory}
+use Rattle.pl_load.specs.Steps.{Source, WorkStep, names_read, tables_read}
+use Rattle.pl_load.specs.Stages.{StageEnds, HasRead, IsRisen}
 use Rattle.pl_load.specs.Views.{ShelfView, KeeperView, Change, ShelfLeft, KeeperLeft, KeeperAlone}
 
 -- whatever the bytes are

@@ -5,9 +5,10 @@ ghost use Rattle.pl_words.specs.Views.{explain_of};
 ghost use Rattle.pl_load.specs.Views.{shelf_change, keeper_change};
 ghost use Rattle.pl_load.specs.Celled.{IsCellLoad, IsExplainable};
 
+use crate::cell_place::{CellPlace, judge_cell};
+use crate::fault::Fault;
 use crate::inputs::read_evaluated;
 use crate::loading::read_world;
-use pl_judge::{CellPlace, Fault, judge_cell};
 use pl_outside::{AdjustKeeper, Shelf};
 use pl_terms::Checked;
 use pl_words::ExplainRequest;

@@ -6,10 +6,10 @@ ghost use Rattle.pl_world.specs.Worlds.{IsOwnedMade};
 ghost use Rattle.pl_load.specs.Views.{shelf_change, keeper_change};
 ghost use Rattle.pl_load.specs.Derived.{IsDerivationLoad};
 
+use crate::fault::Fault;
 use crate::inputs::{read_derivation, read_evaluated};
 use crate::loading::read_world;
 use pl_derivation::Derivation;
-use pl_judge::Fault;
 use pl_outside::{AdjustKeeper, Shelf};
 use pl_terms::Checked;
 use pl_words::VerifyRequest;

@@ -5,21 +5,22 @@ ghost use Rattle.pl_terms.specs.Checked.{pipeline_of};
 ghost use Rattle.pl_planner.specs.Plans.{IsPlanOf};
 ghost use Rattle.pl_words.specs.Views.{run_of, world_names_of};
 ghost use Rattle.pl_world.specs.Worlds.{AreMadeFor, IsOwnedMade};
-ghost use Rattle.pl_judge.specs.declared.fault.Fault.TheVariants.{Memory};
+ghost use Rattle.pl_load.specs.declared.fault.Fault.TheVariants.{Memory};
 ghost use Rattle.pl_load.specs.Views.{shelf_change, keeper_change};
 ghost use Rattle.pl_load.specs.Parts.{IsWorldLoad, IsRowsLoad, IsRevisedLoad};
 ghost use Rattle.pl_load.specs.Loads.{IsData, IsKnown, IsLoad, IsReadyRun};
 
+use crate::fault::Fault;
 use crate::inputs::{
     read_assets, read_bars, read_evaluated, read_labels, read_numbers, read_revisions,
     read_sessions,
 };
+use crate::range::{judge_dates, judge_plan};
 use crate::tables::read_adjustments;
 use pl_adjust::Adjustments;
 use pl_assets::{Assets, Labels};
 use pl_bars::Bars;
 use pl_calendar::Sessions;
-use pl_judge::{Fault, judge_dates, judge_plan};
 use pl_numbers::Numbers;
 use pl_outside::{AdjustKeeper, Shelf};
 use pl_planner::Plan;

@@ -5,11 +5,11 @@ ghost use Rattle.pl_words.specs.Views.{payouts_of};
 ghost use Rattle.pl_load.specs.Views.{KeeperView, shelf_change, unchanged};
 ghost use Rattle.pl_load.specs.PaidOut.{IsPayoutsLoad, IsPayable};
 
+use crate::fault::Fault;
 use crate::inputs::{read_assets, read_bars, read_payouts, read_sessions};
 use pl_assets::Assets;
 use pl_bars::Bars;
 use pl_calendar::Sessions;
-use pl_judge::Fault;
 use pl_outside::Shelf;
 use pl_payouts::Payouts;
 use pl_words::PayoutsRequest;

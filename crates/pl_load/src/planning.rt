@@ -6,8 +6,9 @@ ghost use Rattle.pl_load.specs.Views.{KeeperView, shelf_change, unchanged};
 ghost use Rattle.pl_load.specs.Parts.{IsPlanFor};
 ghost use Rattle.pl_load.specs.Loads.{IsPlanLoad};
 
+use crate::fault::Fault;
 use crate::inputs::{read_checked, read_sessions};
-use pl_judge::{Fault, judge_dates, judge_plan};
+use crate::range::{judge_dates, judge_plan};
 use pl_outside::Shelf;
 use pl_planner::Plan;
 use pl_terms::Checked;

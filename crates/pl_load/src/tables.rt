@@ -3,14 +3,14 @@
 ghost use Rattle.std.specs.Prelude.{◌≡◌, ◌<◌, length, All, IfOk, IfErr, option_map};
 ghost use Rattle.std.specs.Option.{ForSome};
 ghost use Rattle.pl_outside.specs.Counts.{Rose, count_plus};
-ghost use Rattle.pl_judge.specs.Held.{adjustments_asked};
-ghost use Rattle.pl_judge.specs.Work.{adjustments_steps};
+ghost use Rattle.pl_load.specs.Held.{adjustments_asked};
+ghost use Rattle.pl_load.specs.Work.{adjustments_steps};
 ghost use Rattle.pl_load.specs.Views.{KeeperLeft, keeper_change};
 ghost use Rattle.pl_load.specs.Reads.{AreLoaded, IsUnloaded};
 
+use crate::fault::Fault;
 use pl_adjust::Adjustments;
 use pl_assets::Assets;
-use pl_judge::Fault;
 use pl_outside::{AdjustKeeper, KeepError, RawAdjust, Table};
 use std::alloc::Global;
 

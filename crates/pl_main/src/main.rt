@@ -1,7 +1,7 @@
 //! The program `tohmeril`: the words after its name, real files, standard output and standard error.
 //!
-//! `pl_cli::run_program` does the work, and its contract says what comes of it. `pl_edge` has the adapters to
-//! the outside.
+//! `pl_cli::run_program` does the work, and its contract says what comes of it. `pl_edge` and `pl_adjust_sql`
+//! have the adapters to the outside.
 #![tactic(auto)]
 
 ghost use Rattle.std.specs.Prelude.{◌≡◌, ◌<◌, ◌++◌, ℕ, List, None, map, string_bytes};
@@ -11,8 +11,9 @@ ghost use Rattle.pl_words.specs.Request.{request};
 ghost use Rattle.pl_cli.specs.Runs.{IsRun};
 ghost use Rattle.pl_main.specs.Runs.{seen};
 
+use pl_adjust_sql::FileKeeper;
 use pl_cli::run_program;
-use pl_edge::{FileKeeper, FileShelf, StartError, Stream, ended, flushed, words};
+use pl_edge::{FileShelf, StartError, Stream, ended, flushed, words};
 use pl_fixed::Steps;
 use pl_outside::Sink;
 use std::env;

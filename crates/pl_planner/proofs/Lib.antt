@@ -12,3 +12,5 @@ pub mod Pipelines
 pub mod Tables
 pub mod Slotted
 pub mod Calendars
+pub mod Lines
+pub mod Told

@@ -7,3 +7,6 @@ pub mod Plans
 pub mod Rows
 pub mod Slotting
 pub mod Uses
+pub mod TextLaws
+pub mod Names
+pub mod Text

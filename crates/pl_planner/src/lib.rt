@@ -1,15 +1,18 @@
 //! How a pipeline is run over a range of sessions: how far back each term is computed, how long its values
-//! are kept, and in which slot.
+//! are kept, and in which slot. And the text of that plan.
 #![tactic(auto)]
 
 mod columns;
 pub mod laws;
+mod names;
 mod pipeline;
 mod planning;
 mod plans;
 mod reach;
 mod rows;
 mod slots;
+mod text;
+pub mod text_laws;
 mod uses;
 
 pub use columns::has_column;
@@ -17,4 +20,5 @@ pub use pipeline::{count, node_at};
 pub use planning::plan;
 pub use plans::{Plan, PlanError};
 pub use reach::reach_at;
+pub use text::plan_text;
 pub use uses::back_from;

@@ -5,3 +5,11 @@ pub mod Rooms
 pub mod Released
 pub mod ChunkWork
 pub mod ChunkRows
+pub mod Lists
+pub mod Merges
+pub mod Following
+pub mod Agrees
+pub mod Work
+pub mod Values
+pub mod Puts
+pub mod Sessions

@@ -7,7 +7,7 @@ use Rattle.pl_pipeline.specs.Kind.{Kind}
 use Rattle.pl_pipeline.specs.Kind.Kind.{Window}
 use Rattle.pl_pipeline.specs.declared.WindowKind.TheVariants.{FastStochasticOscillator}
 use Rattle.pl_factors.specs.Kinds.{IsWindowFactor, takes_pairs}
-use Rattle.pl_filters.specs.Filters.{IsWindowFilter, AreValues}
+use Rattle.pl_factors.specs.Filters.{IsWindowFilter, AreValues}
 
 abbrev pub before : List ℤ → List ℤ
 before xs = take (length xs - 1) xs

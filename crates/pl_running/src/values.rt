@@ -11,8 +11,7 @@ ghost use Rattle.pl_lanes.specs.Flags.{IsFlag};
 ghost use Rattle.pl_running.specs.Kept.{sums, weighted, placed, swings};
 
 use crate::running::Running;
-use pl_factors::{newest, stochastic_of, strength_of};
-use pl_filters::{all_present_of, at_least_of};
+use pl_factors::{all_present_of, at_least_of, newest, stochastic_of, strength_of};
 use pl_fixed::{MISSING, quot, to_cell};
 
 // The sum of the present cells over their number.

@@ -11,7 +11,7 @@ use Rattle.pl_pipeline.specs.Pointwise.{label_test}
 use Rattle.pl_pipeline.specs.Value.{label_value}
 use Rattle.pl_pipeline.specs.Table.{in_array}
 use Rattle.pl_factors.specs.Kinds.{IsWindowFactor, takes_pairs}
-use Rattle.pl_filters.specs.Filters.{IsWindowFilter, AreValues}
+use Rattle.pl_factors.specs.Filters.{IsWindowFilter, AreValues}
 use Rattle.pl_terms.specs.Sorts.{is_windowed}
 use Rattle.pl_cross.specs.Section.{is_section}
 use Rattle.pl_values.specs.declared.family.Family.{Family}

@@ -7,7 +7,7 @@ ghost use Rattle.pl_values.specs.Families.{IsCode, code_cell, code_flag, is_labe
 
 use crate::keeping::truth_of;
 use pl_assets::Labels;
-use pl_filters::label_test;
+use pl_factors::label_test;
 use pl_fixed::MISSING;
 use pl_terms::TermKind;
 

@@ -4,8 +4,7 @@ ghost use Rattle.pl_spec.specs.Rounding.{IsCell};
 ghost use Rattle.pl_terms.specs.Kinds.{kind_of};
 ghost use Rattle.pl_values.specs.Families.{TakesWindows, windowed};
 
-use pl_factors::formula;
-use pl_filters::window_filter;
+use pl_factors::{formula, window_filter};
 use pl_terms::TermKind;
 
 /// What a formula or a filter gives over the windows of its inputs in order, each oldest first, of at most

@@ -1,5 +1,5 @@
 use Rattle.std.proofs.Common.{arith}
-use Rattle.pl_generate.proofs.Days.{length-stated_days}
+use Rattle.pl_bench.proofs.Days.{length-stated_days}
 use Rattle.pl_bench.proofs.Ranges.{only-memory}
 use Rattle.pl_bench.proofs.pipeline.make_plan.Goals as goal
 

@@ -4,7 +4,7 @@ use Rattle.pl_outside.proofs.Pieces.{writes-over}
 use Rattle.pl_syntax.specs.Scripts.{parsed}
 use Rattle.pl_words.specs.declared.request.InputFile.TheVariants.{Pipeline}
 use Rattle.pl_words.specs.Request.{Fmt}
-use Rattle.pl_judge.specs.Work.{work}
+use Rattle.pl_load.specs.Work.{work}
 use Rattle.pl_load.specs.Views.{unchanged}
 use Rattle.pl_load.proofs.Joined.{file-read, file-one}
 use Rattle.pl_cli.proofs.Ended.{stopped, wanting, written, seen-writes, none, no-more, quiet, when-ok}

@@ -2,7 +2,7 @@ use Rattle.std.proofs.Common.{◌≡◌, ◌≤◌, ◌+◌, inr}
 use Rattle.std.proofs.lemmas.Result.{err_from_is_err_and, on_ok_weaker, IfOk-weaker}
 use Rattle.pl_words.specs.Request.{Run}
 use Rattle.pl_words.specs.Views.{run_of}
-use Rattle.pl_judge.specs.Work.{work}
+use Rattle.pl_load.specs.Work.{work}
 use Rattle.pl_cli.specs.Commands.{sink_view, line_of_stats}
 use Rattle.pl_cli.proofs.Ended.{stopped, seen-or, kept-view, written-or}
 use Rattle.pl_cli.proofs.Loaded.{loaded-text, loaded-steps, loaded-numbers}

@@ -1,7 +1,7 @@
 use Rattle.std.proofs.lemmas.Result.{err_from_is_err_and}
 use Rattle.pl_words.specs.Request.{Verify}
 use Rattle.pl_words.specs.Views.{verify_of}
-use Rattle.pl_judge.specs.Work.{work}
+use Rattle.pl_load.specs.Work.{work}
 use Rattle.pl_cli.proofs.Ended.{stopped}
 use Rattle.pl_cli.proofs.derivations.verify_command.Goals as goal
 

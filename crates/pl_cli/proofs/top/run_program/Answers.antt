@@ -1,9 +1,9 @@
 use Rattle.std.proofs.Common.{Err, map, string_bytes, ap, ◌∙◌, refl}
 use Rattle.pl_words.specs.Request.{request}
-use Rattle.pl_judge.specs.Faults.{judged_line, judged_status}
+use Rattle.pl_load.specs.Faults.{judged_line, judged_status}
 use Rattle.pl_load.specs.Views.{shelf_view, keeper_view}
 use Rattle.pl_cli.specs.Commands.{sink_view, fault_of, line_of_numbers}
-use Rattle.pl_judge.specs.declared.fault.Fault.TheVariants.{Memory}
+use Rattle.pl_load.specs.declared.fault.Fault.TheVariants.{Memory}
 use Rattle.pl_cli.proofs.Finished.{asked-lent, run-of, no-words}
 use Rattle.pl_cli.proofs.Causes.{by-answer, part-left, part-alone, sink-left}
 use Rattle.pl_cli.proofs.top.run_program.Goals as goal

@@ -1,6 +1,6 @@
 use Rattle.std.proofs.Common.{◌++◌, ◌∷◌, [], ◌∙◌, ap, sym, ℕ, List, length, arith}
 use Rattle.pl_spec.proofs.Ranges.{filter-with, filter-without}
-use Rattle.pl_day_rows.proofs.Shown.{mask_within}
+use Rattle.pl_daily.proofs.RowsShown.{mask_within}
 use Rattle.pl_daily.proofs.KeptPlaces.{in_places}
 use Rattle.pl_daily.proofs.kept.put_kept.Goals as goal
 use Rattle.pl_daily.proofs.kept.put_kept.Goals.{then-is_kept, else-is_kept}

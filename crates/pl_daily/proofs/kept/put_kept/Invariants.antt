@@ -2,7 +2,7 @@ use Rattle.std.proofs.Common.{◌≡◌, ◌≤◌, length, vec_len, vec_capacit
 use Rattle.std.specs.Prelude.{filter}
 use Rattle.std.specs.List.{range_with_len}
 use Rattle.pl_cross.specs.Listing.{labels_in}
-use Rattle.pl_day_rows.specs.Rows.{is_kept_by}
+use Rattle.pl_daily.specs.Rows.{is_kept_by}
 use Rattle.pl_daily.proofs.kept.put_kept.Given as goal
 
 abbrev pub invariant-loop-col : goal.invariant-loop-col

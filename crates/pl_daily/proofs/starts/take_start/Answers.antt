@@ -1,6 +1,6 @@
 use Rattle.std.proofs.Common.{◌≡◌, ◌<◌, length, get_or, refl, ◌∙◌, ap, arith}
 use Rattle.std.proofs.lemmas.Option.{slice_get-get_or}
-use Rattle.pl_day_rows.specs.declared.term_day.TermCells.{TermCells}
+use Rattle.pl_daily.specs.declared.term_day.TermCells.{TermCells}
 use Rattle.pl_daily.specs.Terms.{assets_at}
 use Rattle.pl_daily.proofs.Followed.{start_fills, start_kept, start_taken}
 use Rattle.pl_terms.proofs.Graphs.{graph-long}

@@ -1,7 +1,7 @@
 use Rattle.std.proofs.Common.{◌<◌, ◌∙◌, length, get_or, ap, sym, subst, arith}
 use Rattle.std.proofs.lemmas.Option.{slice_get-get_or}
-use Rattle.pl_day_rows.specs.declared.term_day.TermCells.{TermCells}
-use Rattle.pl_day_rows.specs.Held.{AreTermCells}
+use Rattle.pl_daily.specs.declared.term_day.TermCells.{TermCells}
+use Rattle.pl_daily.specs.Held.{AreTermCells}
 use Rattle.pl_daily.specs.Terms.{IsRowOf, assets_at, pipeline_at}
 use Rattle.pl_daily.proofs.Followed.{rooms_stay, term_followed, terms_more}
 use Rattle.pl_terms.proofs.Graphs.{graph-long}

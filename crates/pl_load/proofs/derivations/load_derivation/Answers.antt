@@ -1,7 +1,7 @@
 use Rattle.std.proofs.Common.{◌≡◌, Some, true, false, refl}
 use Rattle.std.proofs.lemmas.Result.{err_from_is_err_and}
 use Rattle.pl_world.specs.Worlds.{owned_world}
-use Rattle.pl_judge.specs.Held.{world_held, derivation_held}
+use Rattle.pl_load.specs.Held.{world_held, derivation_held}
 use Rattle.pl_words.specs.declared.request.InputFile.TheVariants.{Pipeline, Derivation}
 use Rattle.pl_words.specs.Request.{Verify}
 use Rattle.pl_words.specs.Views.{verify_of}

@@ -1,9 +1,9 @@
 use Rattle.std.proofs.Common.{refl}
 use Rattle.std.proofs.lemmas.Result.{err_from_is_err_and}
 use Rattle.pl_words.specs.declared.request.InputFile.TheVariants as files
-use Rattle.pl_judge.specs.Rules.{bars_fault}
-use Rattle.pl_judge.specs.Work.{bars_rule}
-use Rattle.pl_judge.specs.Held.{bars_in}
+use Rattle.pl_load.specs.Rules.{bars_fault}
+use Rattle.pl_load.specs.Work.{bars_rule}
+use Rattle.pl_load.specs.Held.{bars_in}
 use Rattle.pl_load.proofs.FileReads.{read-passes, read-stops, reader-tells}
 use Rattle.pl_load.proofs.inputs.read_bars.Goals as goal
 

@@ -1,8 +1,8 @@
 use Rattle.std.proofs.Common.{refl}
 use Rattle.std.proofs.lemmas.Result.{err_from_is_err_and}
 use Rattle.pl_words.specs.declared.request.InputFile.TheVariants as files
-use Rattle.pl_judge.specs.Work.{lines_rule}
-use Rattle.pl_judge.specs.Held.{derivation_in}
+use Rattle.pl_load.specs.Work.{lines_rule}
+use Rattle.pl_load.specs.Held.{derivation_in}
 use Rattle.pl_load.proofs.FileReads.{read-passes, read-stops}
 use Rattle.pl_load.proofs.DerivationReads.{lines-tell}
 use Rattle.pl_load.proofs.inputs.read_derivation.Goals as goal

@@ -3,7 +3,7 @@ use Rattle.std.proofs.lemmas.Result.{err_from_is_err_and}
 use Rattle.pl_syntax.specs.declared.script.Script.{Script}
 use Rattle.pl_syntax.specs.Scripts.{parsed}
 use Rattle.pl_terms.specs.Checked.{Parts, pipeline_of}
-use Rattle.pl_judge.specs.Held.{pipeline_in}
+use Rattle.pl_load.specs.Held.{pipeline_in}
 use Rattle.pl_load.proofs.ScriptReads.{evaluated-read, no-numbers, no-pipeline, stopped-before}
 use Rattle.pl_load.proofs.inputs.read_evaluated.Goals as goal
 

@@ -1,9 +1,9 @@
 use Rattle.std.proofs.Common.{refl, sym}
 use Rattle.std.proofs.lemmas.Result.{err_from_is_err_and}
 use Rattle.pl_words.specs.declared.request.InputFile.TheVariants as files
-use Rattle.pl_judge.specs.Rules.{labels_fault}
-use Rattle.pl_judge.specs.Work.{labels_rule}
-use Rattle.pl_judge.specs.Held.{labels_in}
+use Rattle.pl_load.specs.Rules.{labels_fault}
+use Rattle.pl_load.specs.Work.{labels_rule}
+use Rattle.pl_load.specs.Held.{labels_in}
 use Rattle.pl_load.proofs.FileReads.{not-asked, read-passes, read-stops, read-fails, reader-tells}
 use Rattle.pl_load.proofs.inputs.read_labels.Goals as goal
 

@@ -1,9 +1,9 @@
 use Rattle.std.proofs.Common.{◌≡◌, Some, refl, sym, ap}
 use Rattle.std.proofs.lemmas.Result.{err_from_is_err_and}
 use Rattle.pl_words.specs.declared.request.InputFile.TheVariants as files
-use Rattle.pl_judge.specs.Rules.{numbers_fault}
-use Rattle.pl_judge.specs.Work.{numbers_rule}
-use Rattle.pl_judge.specs.Held.{numbers_in}
+use Rattle.pl_load.specs.Rules.{numbers_fault}
+use Rattle.pl_load.specs.Work.{numbers_rule}
+use Rattle.pl_load.specs.Held.{numbers_in}
 use Rattle.pl_load.proofs.FileReads.{not-asked, read-passes, read-stops, read-fails, reader-tells}
 use Rattle.pl_load.proofs.inputs.read_numbers.Goals as goal
 

@@ -1,9 +1,9 @@
 use Rattle.std.proofs.Common.{refl}
 use Rattle.std.proofs.lemmas.Result.{err_from_is_err_and}
 use Rattle.pl_words.specs.declared.request.InputFile.TheVariants as files
-use Rattle.pl_judge.specs.Rules.{payouts_fault}
-use Rattle.pl_judge.specs.Work.{payouts_rule}
-use Rattle.pl_judge.specs.Held.{payouts_in}
+use Rattle.pl_load.specs.Rules.{payouts_fault}
+use Rattle.pl_load.specs.Work.{payouts_rule}
+use Rattle.pl_load.specs.Held.{payouts_in}
 use Rattle.pl_load.proofs.FileReads.{read-passes, read-stops, reader-tells}
 use Rattle.pl_load.proofs.inputs.read_payouts.Goals as goal
 

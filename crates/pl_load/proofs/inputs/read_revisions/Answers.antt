@@ -1,9 +1,9 @@
 use Rattle.std.proofs.Common.{refl}
 use Rattle.std.proofs.lemmas.Result.{err_from_is_err_and}
 use Rattle.pl_words.specs.declared.request.InputFile.TheVariants as files
-use Rattle.pl_judge.specs.Rules.{revisions_fault}
-use Rattle.pl_judge.specs.Work.{revisions_rule}
-use Rattle.pl_judge.specs.Held.{revisions_in}
+use Rattle.pl_load.specs.Rules.{revisions_fault}
+use Rattle.pl_load.specs.Work.{revisions_rule}
+use Rattle.pl_load.specs.Held.{revisions_in}
 use Rattle.pl_load.proofs.FileReads.{not-asked, read-passes, read-stops, read-fails, reader-tells}
 use Rattle.pl_load.proofs.RevisionReads.{are-added, are-refused}
 use Rattle.pl_load.proofs.inputs.read_revisions.Goals as goal

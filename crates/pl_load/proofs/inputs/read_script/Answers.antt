@@ -4,8 +4,8 @@ use Rattle.pl_syntax.specs.Said.{Spelled, said}
 use Rattle.pl_syntax.specs.Scripts.{parsed}
 use Rattle.pl_syntax.proofs.TextsSaid.{spells-said}
 use Rattle.pl_words.specs.declared.request.InputFile.TheVariants as files
-use Rattle.pl_judge.specs.Held.{script_in}
-use Rattle.pl_judge.specs.Work.{syntax_rule}
+use Rattle.pl_load.specs.Held.{script_in}
+use Rattle.pl_load.specs.Work.{syntax_rule}
 use Rattle.pl_load.proofs.FileReads.{read-passes, read-stops}
 use Rattle.pl_load.proofs.ScriptReads.{error-tells}
 use Rattle.pl_load.proofs.inputs.read_script.Goals as goal

@@ -3,9 +3,9 @@ use Rattle.std.proofs.lemmas.Result.{err_from_is_err_and}
 use Rattle.pl_terms.specs.Checked.{pipeline_of}
 use Rattle.pl_words.specs.Request.{Run}
 use Rattle.pl_words.specs.Views.{run_of}
-use Rattle.pl_judge.proofs.StepsRead.{dates-quiet, plan-quiet}
-use Rattle.pl_judge.specs.Held.{days_held, world_held}
-use Rattle.pl_judge.specs.Range.{range_steps}
+use Rattle.pl_load.proofs.StepsRead.{dates-quiet, plan-quiet}
+use Rattle.pl_load.specs.Held.{days_held, world_held}
+use Rattle.pl_load.specs.Range.{range_steps}
 use Rattle.pl_load.proofs.Joined.{judged, refused, wants-memory, stops, part-stops, part-stops-later, part-done, stops-later, both-done}
 use Rattle.pl_load.proofs.Works.{whole, range-is, world-first}
 use Rattle.pl_load.proofs.KnownWorlds.{plan-known, run-asks, world-known, shown-same}

@@ -2,7 +2,7 @@ use Rattle.std.proofs.Common.{◌∙◌, ap, true, refl}
 use Rattle.std.proofs.lemmas.Result.{err_from_is_err_and}
 use Rattle.pl_words.specs.declared.request.InputFile.TheVariants.{Revisions}
 use Rattle.pl_words.specs.Views.{world_names_of}
-use Rattle.pl_judge.specs.Held.{revised_asked}
+use Rattle.pl_load.specs.Held.{revised_asked}
 use Rattle.pl_load.proofs.Joined.{file-read, revisions-one, tables-loaded, stops, last-done}
 use Rattle.pl_load.proofs.Works.{but_for}
 use Rattle.pl_load.proofs.loading.read_revised.Goals as goal

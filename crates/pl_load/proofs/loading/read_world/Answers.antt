@@ -3,7 +3,7 @@ use Rattle.std.proofs.lemmas.Result.{err_from_is_err_and}
 use Rattle.pl_words.specs.declared.request.InputFile.TheVariants.{Sessions, Assets}
 use Rattle.pl_world.specs.Worlds.{owned_world}
 use Rattle.pl_words.specs.Views.{world_names_of}
-use Rattle.pl_judge.specs.Work.{data_steps}
+use Rattle.pl_load.specs.Work.{data_steps}
 use Rattle.pl_load.proofs.Joined.{is_file, file-read, file-one, stops, part-stops, part-stops-later, part-done, stops-later, both-done}
 use Rattle.pl_load.proofs.Works.{after_days, days-first, assets-first}
 use Rattle.pl_load.proofs.DataReads.{world_over, with_rows, rows-world, days-world}

@@ -4,8 +4,8 @@ use Rattle.pl_terms.specs.Checked.{pipeline_of}
 use Rattle.pl_words.specs.declared.request.InputFile.TheVariants.{Sessions}
 use Rattle.pl_words.specs.Request.{Plan}
 use Rattle.pl_words.specs.Views.{plan_of}
-use Rattle.pl_judge.specs.Range.{range_steps}
-use Rattle.pl_judge.proofs.StepsRead.{dates-quiet, plan-quiet}
+use Rattle.pl_load.specs.Range.{range_steps}
+use Rattle.pl_load.proofs.StepsRead.{dates-quiet, plan-quiet}
 use Rattle.pl_load.proofs.Joined.{is_file, file-read, file-one, judged, judged-as, refused, stops, part-stops, stops-later, last-done}
 use Rattle.pl_load.proofs.Works.{whole, IsPlanMade, are-planned, plan-days, range-is}
 use Rattle.pl_load.proofs.planning.plan_for.Goals as goal

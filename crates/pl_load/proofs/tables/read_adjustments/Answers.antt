@@ -1,7 +1,7 @@
 use Rattle.std.proofs.Common.{[], ◌∷◌, le_of_eq, refl}
 use Rattle.std.proofs.lemmas.Result.{err_from_is_err_and}
 use Rattle.pl_outside.specs.declared.keeper.Table.TheVariants.{Splits, Mergers, Dividends}
-use Rattle.pl_judge.specs.Steps.Source.{Load}
+use Rattle.pl_load.specs.Steps.Source.{Load}
 use Rattle.pl_load.proofs.Calls.{leaves-on}
 use Rattle.pl_load.proofs.TableReads.{none-loaded, not-loaded, three, three-calls, two-calls, three-told, rows-pass, rows-stop}
 use Rattle.pl_load.proofs.tables.read_adjustments.Goals as goal

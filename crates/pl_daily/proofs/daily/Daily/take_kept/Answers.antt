@@ -1,8 +1,8 @@
 use Rattle.std.proofs.Common.{◌<◌, ◌∙◌, ap, length, arith}
 use Rattle.circular_buffer.proofs.Places.{slice_get-some}
 use Rattle.pl_terms.specs.Checked.{pipeline_of}
-use Rattle.pl_day_rows.specs.Rows.{row_of}
-use Rattle.pl_day_rows.specs.TermDays.{number_row}
+use Rattle.pl_daily.specs.Rows.{row_of}
+use Rattle.pl_daily.specs.TermDays.{number_row}
 use Rattle.pl_planner.proofs.Pipelines.{screen-in}
 use Rattle.pl_daily.proofs.KeptPlaces.{screen_long}
 use Rattle.pl_daily.proofs.Outputs.{screen-used}

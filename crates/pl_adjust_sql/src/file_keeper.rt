@@ -1,0 +1,175 @@
+//! The database files of the disk.
+
+ghost use Rattle.std.specs.Prelude.{◌≡◌, ◌==◌, ◌↔◌, None, IfOk, IsTrue, OnErr, false, not, slice_index_or};
+ghost use Rattle.std.specs.IoError.{error_kind};
+ghost use Rattle.sqlite_disk.specs.Memory.{memory_bytes, memory_is_usable};
+ghost use Rattle.pl_outside.specs.Counts.{count_end, count_plus};
+
+use crate::read::read_table;
+use crate::refusal::TableError;
+use pl_outside::{AdjustKeeper, KeepError, RawAdjust, Table};
+use sqlite::{Connection, Error, ErrorCode, FileStore, Files, Options};
+use sqlite_disk::{Disk, Memory};
+use std::alloc::Global;
+use std::fs;
+use std::io::{self, ErrorKind};
+
+/// Database files of SQLite by their paths: each load opens the named file and reads its table. Contracts see
+/// nothing of it but its faults.
+#[derive(Drop)]
+pub struct FileKeeper<'a> {
+    rt: &'a HostRuntime,
+    pub(crate) faults: u64,
+}
+
+impl<'a> FileKeeper<'a> {
+    /// No file is opened yet.
+    pub fn new(rt: &'a HostRuntime) -> FileKeeper<'a>
+        ensures { result.faults ≡ 0 }
+    {
+        FileKeeper { rt, faults: 0 }
+    }
+}
+
+fn failed(faults: &mut u64) -> KeepError
+    ensures count { faults.new ≡ count_plus faults.old 1 }
+    ensures failed { result ≡ KeepError.Failed }
+{
+    *faults = faults.saturating_add(1);
+    KeepError::Failed
+}
+
+impl AdjustKeeper for FileKeeper<'_> {
+    ghost lists = { λ _. None };
+
+    ghost faults = { λ s. s.faults };
+
+    // it counts no calls, so that their count stands at its end
+    ghost calls = { λ _. count_end };
+
+    ghost sound = { λ _. false };
+
+    fn load(
+        &mut self,
+        alloc: Global,
+        name: &str,
+        table: Table,
+        into: &mut Vec<RawAdjust>,
+    ) -> Result<(), KeepError> {
+        match read_named(self.rt, alloc, name, table, into) {
+            Ok(()) => Ok(()),
+            Err(TableError::Memory) => Err(KeepError::Memory),
+            Err(TableError::Refused) => Err(failed(&mut self.faults)),
+        }
+    }
+
+    ghost use Rattle.std.proofs.Common.{rules};
+
+    ghost sound_tells = { Prim.search rules };
+
+    ghost lists_ascend = { Prim.search rules };
+}
+
+fn read_named(
+    rt: &HostRuntime,
+    alloc: Global,
+    name: &str,
+    table: Table,
+    into: &mut Vec<RawAdjust>,
+) -> Result<(), TableError>
+    ensures { OnErr result (into.new.items ≡ into.old.items) }
+{
+    match Connection::open_files(alloc, copied_files(rt, alloc, name)?, Options::new(1)) {
+        Ok(connection) => {
+            let mut connection = connection;
+            read_table(alloc, &mut connection, table, into)
+        }
+        Err((error, _)) => Err(open_error(&error)),
+    }
+}
+
+// The file and the log beside it are read whole and opened in memory: SQLite would make a file that isn't
+// there, and would write a log. An empty file is no database yet, and one whose transaction was cut off would
+// first have to be fixed.
+fn copied_files(rt: &HostRuntime, alloc: Global, name: &str) -> Result<Files<Memory>, TableError>
+    ensures log { IfOk result (λ files. IsTrue (memory_is_usable files.log)) }
+    ensures db { IfOk result (λ files. IsTrue (memory_is_usable files.db)) }
+{
+    let bytes = fs::read(rt, name).map_err(read_error)?;
+    if bytes.is_empty() || is_cut_off(bytes_beside(rt, alloc, name, "journal")?.as_slice()) {
+        return Err(TableError::Refused);
+    }
+    let db = copy_of(alloc, bytes.as_slice())?;
+    drop(bytes);
+    match log_of(rt, alloc, name) {
+        Ok(log) => Ok(Files { log, db }),
+        Err(error) => {
+            drop(db);
+            Err(error)
+        }
+    }
+}
+
+fn log_of(rt: &HostRuntime, alloc: Global, name: &str) -> Result<Memory, TableError>
+    ensures { IfOk result (λ disk. IsTrue (memory_is_usable disk)) }
+{
+    let log = bytes_beside(rt, alloc, name, "wal")?;
+    copy_of(alloc, log.as_slice())
+}
+
+// Whether this is a rollback journal that is to be played back: the first byte of another one is 0.
+fn is_cut_off(journal: &[u8]) -> bool
+    ensures { result ≡ not (slice_index_or journal.now 0 0 == 0) }
+{
+    match journal {
+        [] => false,
+        [first, ..] => *first != 0,
+    }
+}
+
+// The bytes of SQLite's file of that kind beside a database file, and none where there is no such file.
+fn bytes_beside(
+    rt: &HostRuntime,
+    alloc: Global,
+    name: &str,
+    kind: &str,
+) -> Result<Vec<u8>, TableError> {
+    let Ok(path) = format!(in alloc; "{name}-{kind}") else {
+        return Err(TableError::Memory);
+    };
+    match fs::read(rt, path.as_str()) {
+        Ok(bytes) => Ok(bytes),
+        Err(error) => match error.kind() {
+            ErrorKind::NotFound => Ok(Vec::new(alloc)),
+            _ => Err(read_error(error)),
+        },
+    }
+}
+
+fn copy_of(alloc: Global, bytes: &[u8]) -> Result<Memory, TableError>
+    ensures { IfOk result (λ disk. IsTrue (memory_is_usable disk) × (memory_bytes disk ≡ bytes.now)) }
+{
+    let mut disk = Memory::new(alloc);
+    match disk.write_at(0, bytes) {
+        Ok(()) => Ok(disk),
+        Err(_) => Err(TableError::Memory),
+    }
+}
+
+fn read_error(error: io::Error) -> TableError
+    ensures { result ≡ TableError.Memory ↔ (error_kind error ≡ ErrorKind.OutOfMemory) }
+{
+    match error.kind() {
+        ErrorKind::OutOfMemory => TableError::Memory,
+        _ => TableError::Refused,
+    }
+}
+
+fn open_error(error: &Error) -> TableError
+    ensures { result ≡ TableError.Memory ↔ (error.now ≡ Error.SqliteFailure ErrorCode.OutOfMemory) }
+{
+    match error {
+        Error::SqliteFailure(ErrorCode::OutOfMemory) => TableError::Memory,
+        _ => TableError::Refused,
+    }
+}

@@ -1,0 +1,37 @@
+-- What is held of a term stands for the days that were fed.
+use Rattle.std.specs.Prelude.{◌≡◌, ℕ, ◌<◌, ℤ, pos, List, [], ◌∷◌, length, map, get_or, All}
+use Rattle.pl_spec.specs.Rounding.{IsCell}
+use Rattle.pl_pipeline.specs.Table.{Pipeline}
+use Rattle.pl_spec.specs.Window.{before, downward}
+use Rattle.pl_values.specs.Arrays.{empty_cell}
+use Rattle.pl_rings.specs.Days.{Start, FedDay, fed, last_session, IsStart, AreFed}
+use Rattle.pl_rings.specs.Changes.{AreRings, ring_at}
+use Rattle.pl_daily.specs.declared.term_day.TermCells.{TermCells}
+use Rattle.pl_daily.specs.Rows.{sids_of}
+use Rattle.pl_daily.specs.TermDays.{cell_on}
+
+-- the row is full of cells, and so are the rings where there are some
+pub record AreTermCells (assets : ℕ) (t : TermCells) : Type 0 where
+  pub row : length t.row.items ≡ assets
+  pub cells : All IsCell t.row.items
+  pub rings : 0 < t.rings.capacity → AreRings assets t.rings.capacity t.rings.rings.items
+
+-- the row has the term's cells on the last day, and the rings those of the last sessions up to it; without a
+-- day all are the cells of sessions below 0
+pub record HoldsTerm (g : Start) (days : List FedDay) (p : Pipeline) (u : ℕ) (t : TermCells) : Type 0 where
+  pub row : (i : ℕ) → i < length g.assets → get_or t.row.items i (pos 0) ≡ cell_on (fed g days) p (sids_of g.assets) u i (last_session days)
+  pub rings : 0 < t.rings.capacity → (i : ℕ) → i < length g.assets
+      → (ring_at t.rings.rings.items i).items ≡ map (λ n. cell_on (fed g days) p (sids_of g.assets) u i (before (last_session days) n)) (downward t.rings.capacity)
+
+-- with a row that has the term's cells of the next day, what was held for the days stands for the list with
+-- the day
+abbrev pub FollowTerm : List ℤ → TermCells → TermCells → Type 0
+FollowTerm row old new =
+    (g : Start) (next : FedDay) (days : List FedDay) (p : Pipeline) (u : ℕ) → IsStart g → AreFed g (next ∷ days) → length g.assets ≡ length row
+    → ((i : ℕ) → i < length row → get_or row i (pos 0) ≡ cell_on (fed g (next ∷ days)) p (sids_of g.assets) u i (pos (length days)))
+    → HoldsTerm g days p u old → HoldsTerm g (next ∷ days) p u new
+
+-- before the first day
+abbrev pub BeginsTerm : ℕ → ℤ → TermCells → Type 0
+BeginsTerm assets empty t =
+    (g : Start) (p : Pipeline) (u : ℕ) → length g.assets ≡ assets → empty ≡ empty_cell p u → HoldsTerm g [] p u t

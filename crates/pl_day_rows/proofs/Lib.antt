@@ -1,5 +1,0 @@
-pub mod Sessions
-pub mod Values
-pub mod Shown
-pub mod Given
-pub mod DayByDay

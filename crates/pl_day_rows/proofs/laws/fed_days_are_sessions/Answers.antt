@@ -1,5 +1,0 @@
-use Rattle.pl_day_rows.proofs.Sessions.{fed_days_are_sessions}
-use Rattle.pl_day_rows.proofs.laws.fed_days_are_sessions.Goals as goal
-
-pub returns : goal.returns
-returns c = fed_days_are_sessions

@@ -1,5 +1,0 @@
--- A world, day by day.
-pub mod Feeds
-pub mod Days
-pub mod States
-pub mod Sessions

@@ -1,9 +1,0 @@
-pub mod Sequences
-pub mod Grids
-pub mod Days
-pub mod Assets
-pub mod SectorRows
-pub mod Prices
-pub mod BarRows
-pub mod AdjustRows
-pub mod WorldMade

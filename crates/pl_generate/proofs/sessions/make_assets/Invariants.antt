@@ -1,7 +1,0 @@
-use Rattle.std.proofs.Common.{◌≡◌, map}
-use Rattle.std.specs.List.{range_with_len}
-use Rattle.pl_generate.specs.StatedWorld.{asset}
-use Rattle.pl_generate.proofs.sessions.make_assets.Given as goal
-
-abbrev pub invariant-loop-col : goal.invariant-loop-col
-invariant-loop-col l = l.rows.items ≡ map asset (range_with_len 0 l.col)

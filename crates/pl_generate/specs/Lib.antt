@@ -1,3 +1,0 @@
--- The stated world.
-pub mod Draws
-pub mod StatedWorld

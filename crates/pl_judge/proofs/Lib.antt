@@ -1,6 +1,0 @@
-pub mod Steps
-pub mod StepsRead
-pub mod Needed
-pub mod Planned
-pub mod Ranges
-pub mod Cells

@@ -1,5 +1,0 @@
-use Rattle.pl_judge.proofs.Cells.{NoneNamed}
-use Rattle.pl_judge.proofs.cell.term_of.Given as goal
-
-abbrev pub invariant-loop-i : goal.invariant-loop-i
-invariant-loop-i l = NoneNamed l.name l.checked.columns l.i

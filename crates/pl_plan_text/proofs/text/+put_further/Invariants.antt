@@ -1,5 +1,0 @@
-use Rattle.std.proofs.Common.{length}
-use Rattle.pl_plan_text.proofs.text.+put_further.Given as goal
-
-abbrev pub decreases-put_further : goal.decreases-put_further
-decreases-put_further l = length l.inputs.now

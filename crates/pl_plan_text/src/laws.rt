@@ -1,7 +1,0 @@
-//! The law of the text of a plan.
-ghost use Rattle.pl_plan_text.specs.Laws.{PlanTextsAreExact};
-
-/// What the text of a plan says is what the definitions say of the pipeline.
-pub fn plans_are_told()
-    ensures { PlanTextsAreExact }
-{}

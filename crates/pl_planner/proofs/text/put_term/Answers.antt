@@ -1,0 +1,19 @@
+use Rattle.std.proofs.Common.{◌≡◌, ◌++◌, true, slice_get, OnOk, subst, ap, sym, ◌∙◌, rules}
+use Rattle.pl_terms.specs.Checked.{pipeline_of}
+use Rattle.pl_terms.specs.Nodes.{node_of}
+use Rattle.pl_terms.proofs.Graphs.{graph-at}
+use Rattle.pl_terms.specs.Uses as pipeline
+use Rattle.pl_planner.specs.Plans as plans
+use Rattle.pl_planner.specs.Text.{term_line}
+use Rattle.pl_planner.proofs.Lines.{line-is}
+use Rattle.pl_planner.proofs.text.put_term.Goals as goal
+
+pub returns : goal.returns
+returns c =
+    let found : c.is_used.result ≡ true = search rules in
+    let used : pipeline.is_used (pipeline_of c.args.checked.now) c.args.t.0 ≡ true = sym c.requires.same ∙ sym c.is_used.ensures ∙ found in
+    let at = graph-at c.args.checked.now.graph c.args.t.0 c.node-node.result.now (ap (λ ns. slice_get ns c.args.t.0) (sym c.graph.ensures.value) ∙ c.node-node.ensures) in
+    let line = line-is (pipeline_of c.args.checked.now) (plans.extra c.args.plan.now) c.args.t.0 (node_of c.node-node.result.now) used at in
+    let given : term_line c.args.t.0 (node_of c.node-node.result.now) c.extra.result c.uses.result ≡ term_line c.args.t.0 (node_of c.node-node.result.now) (plans.extra c.args.plan.now c.args.t.0) (pipeline.uses (pipeline_of c.args.checked.now) c.args.t.0)
+    = ap (λ n. term_line c.args.t.0 (node_of c.node-node.result.now) n c.uses.result) c.extra.ensures.value ∙ ap (term_line c.args.t.0 (node_of c.node-node.result.now) (plans.extra c.args.plan.now c.args.t.0)) c.uses.ensures in
+    subst (λ l. OnOk c.put_line.result (c.put_line.new.out.items ≡ c.args.out.now.items ++ l)) (given ∙ sym line) c.put_line.ensures
