@@ -7,7 +7,7 @@ ghost use Rattle.pl_spec.specs.Rounding.{MILLION, LIMIT, IsCell, div_round};
 ghost use Rattle.pl_spec.specs.Decimals.{Decimal, IsDecimal, IsTooLong, IsTooLarge, IsReadAs, signed, cell_text, units_text};
 ghost use Rattle.pl_fixed.specs.Reading.{read, unsigned_read, fraction_read, judged, in_range};
 
-use crate::cell_place::{LIM, MISSING, UNIT};
+use crate::cell::{LIM, MISSING, UNIT};
 use crate::digits::{MOST_VALUE, front_number, put, put_decimal, put_six, six_digits};
 use crate::rounding::div_round;
 

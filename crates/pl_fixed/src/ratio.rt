@@ -3,7 +3,7 @@
 ghost use Rattle.std.specs.Prelude.{◌≡◌, ◌↔◌, ◌+◌, pos, IsSome, IfSome, ◌≤ℤ◌};
 ghost use Rattle.pl_spec.specs.Rounding.{IsCell};
 
-use crate::cell_place::{MISSING, to_cell};
+use crate::cell::{MISSING, to_cell};
 use crate::rounding::div_round;
 use crate::steps::Steps;
 use std::marker::Model;

@@ -3,7 +3,7 @@ ghost use Rattle.std.specs.Prelude.{◌≡◌, ◌+◌, ◌/◌, ◌<◌, ◌^�
 ghost use Rattle.pl_spec.specs.Rounding.{IsCell, scaled};
 ghost use Rattle.pl_fixed.specs.Ratios.{signed};
 
-use crate::cell_place::LIM;
+use crate::cell::LIM;
 use crate::ratio::Ratio;
 use crate::steps::Steps;
 use std::marker::Model;

@@ -18,7 +18,7 @@ ghost use Rattle.pl_world.specs.Worlds.{world_of, IsMade};
 ghost use Rattle.pl_world.specs.Evaluations as spec;
 ghost use Rattle.pl_world.specs.Evaluations.{HasKind, row_in, AreRowsOf, AreSectionCells, IsKeepRow};
 
-use crate::cell_place::exists;
+use crate::cell::exists;
 use crate::laws::{assets_and_labels, parts_make_a_world};
 use crate::world::World;
 use pl_cross::Cross;

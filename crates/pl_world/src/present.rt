@@ -11,7 +11,7 @@ ghost use Rattle.pl_terms.specs.Kinds.{kind_of};
 ghost use Rattle.pl_world.specs.Present as spec;
 ghost use Rattle.pl_world.specs.Worlds.{world_of, IsMade};
 
-use crate::cell_place::exists;
+use crate::cell::exists;
 use crate::laws::parts_make_a_world;
 use crate::parts::number_of;
 use crate::world::World;
