@@ -10,9 +10,9 @@ ghost use Rattle.pl_planner.specs.Text.{behind_semicolon, front_text, input_text
 ghost use Rattle.pl_planner.specs.Text.{numbers_text, places_text, plan_text, term_line, used_line};
 
 use crate::names::{column_name, kind_name};
+use crate::plans::Plan;
 use itoa::Buffer;
 use pl_fixed::Memory;
-use pl_planner::Plan;
 use pl_terms::{Checked, Input, Node, TermId};
 use std::alloc::{AllocError, Global};
 
