@@ -23,26 +23,14 @@ fn reads_database_files(rt: HostRuntime) -> Result<(), Fail> {
 }
 
 const LOADS: [(&str, Table, Result<(), KeepError>, u64, usize); 9] = [
-    ("out/closed.db", Table::Splits, Ok(()), 0, 1),
-    ("out/open.db", Table::Splits, Ok(()), 0, 2),
-    (
-        "out/closed.db",
-        Table::Mergers,
-        Err(KeepError::Failed),
-        1,
-        2,
-    ),
-    ("out/null.db", Table::Splits, Err(KeepError::Failed), 2, 2),
-    ("out/text.db", Table::Splits, Err(KeepError::Failed), 3, 2),
-    ("out/empty.db", Table::Splits, Err(KeepError::Failed), 4, 2),
-    ("out/cut.db", Table::Splits, Err(KeepError::Failed), 5, 2),
-    (
-        "out/no-such.db",
-        Table::Splits,
-        Err(KeepError::Failed),
-        6,
-        2,
-    ),
+    ("closed.db", Table::Splits, Ok(()), 0, 1),
+    ("open.db", Table::Splits, Ok(()), 0, 2),
+    ("closed.db", Table::Mergers, Err(KeepError::Failed), 1, 2),
+    ("null.db", Table::Splits, Err(KeepError::Failed), 2, 2),
+    ("text.db", Table::Splits, Err(KeepError::Failed), 3, 2),
+    ("empty.db", Table::Splits, Err(KeepError::Failed), 4, 2),
+    ("cut.db", Table::Splits, Err(KeepError::Failed), 5, 2),
+    ("no-such.db", Table::Splits, Err(KeepError::Failed), 6, 2),
     (".", Table::Splits, Err(KeepError::Failed), 7, 2),
 ];
 
@@ -71,23 +59,18 @@ fn leaves_database_files(rt: HostRuntime) -> Result<(), Fail> {
     make_all(&rt)?;
     load_some(&rt);
     // no file is made or changed
-    expect(!is_there(&rt, "out/no-such.db"), "no file")?;
-    expect(!is_there(&rt, "out/no-such.db-wal"), "no log of no file")?;
-    expect(!is_there(&rt, "out/empty.db-wal"), "no log of nothing")?;
-    expect(!is_there(&rt, "out/text.db-wal"), "no log of a text")?;
-    expect(holds(&rt, "out/empty.db", b""), "empty.db")?;
-    expect(holds_pieces(&rt, "out/closed.db", &CLOSED)?, "closed.db")
+    expect(!is_there(&rt, "no-such.db"), "no file")?;
+    expect(!is_there(&rt, "no-such.db-wal"), "no log of no file")?;
+    expect(!is_there(&rt, "empty.db-wal"), "no log of an empty file")?;
+    expect(!is_there(&rt, "text.db-wal"), "no log of a text")?;
+    expect(holds(&rt, "empty.db", b""), "empty.db")?;
+    expect(holds_pieces(&rt, "closed.db", &CLOSED)?, "closed.db")
 }
 
 fn load_some(rt: &HostRuntime) {
     let mut keeper = FileKeeper::new(rt);
     let mut rows = Vec::new(rt.alloc());
-    for name in [
-        "out/closed.db",
-        "out/no-such.db",
-        "out/empty.db",
-        "out/text.db",
-    ] {
+    for name in ["closed.db", "no-such.db", "empty.db", "text.db"] {
         let _ = keeper.load(rt.alloc(), name, Table::Splits, &mut rows);
     }
 }
@@ -109,19 +92,15 @@ fn holds_pieces(rt: &HostRuntime, name: &str, pieces: &[Piece]) -> Result<bool, 
 }
 
 fn make_all(rt: &HostRuntime) -> Result<(), Fail> {
-    make(rt, "out/closed.db", &CLOSED)?;
-    make(rt, "out/null.db", &NULL)?;
+    make(rt, "closed.db", &CLOSED)?;
+    make(rt, "null.db", &NULL)?;
     // what is written to an open file stands in its log alone
-    make(rt, "out/open.db", &OPEN)?;
-    make(rt, "out/open.db-wal", &LOG)?;
-    make(rt, "out/cut.db", &CLOSED)?;
-    make(rt, "out/cut.db-journal", &[(0, b"\xd9\xd5")])?;
-    make(
-        rt,
-        "out/text.db",
-        &[(0, b"id,effective_date,num,den,sid\n")],
-    )?;
-    make(rt, "out/empty.db", &[])
+    make(rt, "open.db", &OPEN)?;
+    make(rt, "open.db-wal", &LOG)?;
+    make(rt, "cut.db", &CLOSED)?;
+    make(rt, "cut.db-journal", &[(0, b"\xd9\xd5")])?;
+    make(rt, "text.db", &[(0, b"id,effective_date,num,den,sid\n")])?;
+    make(rt, "empty.db", &[])
 }
 
 // Makes a file of these pieces.

@@ -14,14 +14,14 @@ fn expect(is_so: bool, what: &'static str) -> Result<(), Fail> {
 
 #[test]
 fn reads_files(rt: HostRuntime) -> Result<(), Fail> {
-    fs::write(&rt, "out/ten", "0123456789")?;
+    fs::write(&rt, "ten", "0123456789")?;
     let mut shelf = FileShelf::new(&rt);
     reads_ten(rt.alloc(), &mut shelf)
 }
 
 // The shelf is lent here and below, so that no exit lets it go.
 fn reads_ten(alloc: Global, shelf: &mut FileShelf<'_>) -> Result<(), Fail> {
-    expect(shelf.begin("out/ten").is_ok(), "ten")?;
+    expect(shelf.begin("ten").is_ok(), "ten")?;
     expect(gives(shelf, 4, b"0123"), "the first piece")?;
     expect(gives(shelf, 4, b"4567"), "the second piece")?;
     expect(gives(shelf, 2, b"89--"), "the last piece")?;
@@ -37,7 +37,7 @@ fn gives(shelf: &mut FileShelf<'_>, count: usize, left: &[u8]) -> bool {
 }
 
 fn gives_whole(alloc: Global, shelf: &mut FileShelf<'_>) -> bool {
-    match read_file(alloc, shelf, "out/ten", 10) {
+    match read_file(alloc, shelf, "ten", 10) {
         Ok(bytes) => bytes.as_slice() == b"0123456789".as_slice(),
         Err(_) => false,
     }
@@ -45,13 +45,13 @@ fn gives_whole(alloc: Global, shelf: &mut FileShelf<'_>) -> bool {
 
 #[test]
 fn counts_failed_reads(rt: HostRuntime) -> Result<(), Fail> {
-    fs::write(&rt, "out/one", "1")?;
+    fs::write(&rt, "one", "1")?;
     let mut shelf = FileShelf::new(&rt);
     fails_to_read(rt.alloc(), &mut shelf)
 }
 
 fn fails_to_read(alloc: Global, shelf: &mut FileShelf<'_>) -> Result<(), Fail> {
-    expect(shelf.begin("out/one").is_ok(), "one")?;
+    expect(shelf.begin("one").is_ok(), "one")?;
     // a file that isn't there, after which no file is begun
     expect(shelf.begin("no-such-file") == Err(Failed), "no file")?;
     expect(shelf.faults == 1, "one fault")?;
@@ -84,11 +84,8 @@ fn row_taken<W: Write + Drop>(to: W) -> (bool, u64) {
 
 #[test]
 fn counts_failed_writes(rt: HostRuntime) -> Result<(), Fail> {
-    expect(
-        row_taken(fs::create(&rt, "out/held")?) == (true, 0),
-        "a file",
-    )?;
-    expect(holds(&rt, "out/held", b"row"), "held")?;
+    expect(row_taken(fs::create(&rt, "held")?) == (true, 0), "a file")?;
+    expect(holds(&rt, "held", b"row"), "held")?;
     expect(row_taken(full(&rt)?) == (false, 1), "a full device")
 }
 
