@@ -27,7 +27,7 @@ use Rattle.pl_load.specs.Rules.{explain_error}
 use Rattle.pl_load.specs.Stages.{IsRisen, StageEnds}
 use Rattle.pl_load.specs.Steps.{WorkStep, first_fault}
 use Rattle.pl_load.specs.Work.{cell_work, data_steps, explain_work, work}
-use Rattle.pl_load.proofs.Cells.{sid-there, too-long, short}
+use Rattle.pl_load.proofs.CellRules.{sid-there, too-long, short}
 use Rattle.pl_load.proofs.StepsRead.{lines-quiet}
 use Rattle.pl_load.specs.declared.cells.LoadedCell.{LoadedCell}
 use Rattle.pl_load.specs.Celled.{IsCellLoad, IsCellHeld}

@@ -13,4 +13,4 @@ pub mod StepsRead
 pub mod Needed
 pub mod Planned
 pub mod Ranges
-pub mod Cells
+pub mod CellRules

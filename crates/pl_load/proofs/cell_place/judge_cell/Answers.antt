@@ -3,7 +3,7 @@ use Rattle.std.proofs.lemmas.Int.{to_z-of_z}
 use Rattle.pl_terms.specs.Checked.{pipeline_of}
 use Rattle.pl_words.specs.Views.{explain_of}
 use Rattle.pl_load.specs.Cells.{term_reach}
-use Rattle.pl_load.proofs.Cells.{no-session, no-asset, no-column, too-early, in-reach, is-early, is-late}
+use Rattle.pl_load.proofs.CellRules.{no-session, no-asset, no-column, too-early, in-reach, is-early, is-late}
 use Rattle.pl_load.proofs.cell_place.judge_cell.Goals as goal
 
 pub returns-in_default-clause-ends : goal.returns-in_default-clause-ends

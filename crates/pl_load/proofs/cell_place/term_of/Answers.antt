@@ -1,5 +1,5 @@
 use Rattle.std.proofs.Common.{◌∙◌, sym, rules}
-use Rattle.pl_load.proofs.Cells.{the-term, term-within, term-used, no-term}
+use Rattle.pl_load.proofs.CellRules.{the-term, term-within, term-used, no-term}
 use Rattle.pl_load.proofs.cell_place.term_of.Goals as goal
 
 pub returns-then-eq-clause-exact : goal.returns-then-eq-clause-exact
