@@ -1,7 +1,7 @@
 #!/usr/bin/env bash
 # What the built program leaves where standard output, standard error or both take nothing: each write to
-# /dev/full fails; and its table over a database file. It prints a line for each case and how many passed, and ends
-# with 1 where one failed.
+# /dev/full fails; where a file is not there or is a folder; and over database files, good and bad, which it never
+# changes. It prints a line for each case and how many passed, and ends with 1 where one failed.
 #
 # The program is crates/pl_main/out/pl_main, or the one that TOHMERIL names. Without one it says so and ends with 0.
 set -u
@@ -66,7 +66,33 @@ left 0 held /dev/full "${table[@]}" --stats
 cp "$top"/crates/pl_main/data/* "$top"/tools/adjusted.db{,-wal} .
 printf '%s\n' session,sid,c 2024-01-03,1,100.000000 2024-01-04,1,51.000000 2024-01-05,1,51.000000 \
     2024-01-08,1,52.000000 2024-01-09,1,53.000000 > wanted
-left 0 held /dev/full run p.pl sessions.csv assets.csv bars.csv 2024-01-03 2024-01-09 --adjustments adjusted.db
+adjusted=(run p.pl sessions.csv assets.csv bars.csv 2024-01-03 2024-01-09 --adjustments)
+left 0 held /dev/full "${adjusted[@]}" adjusted.db
+
+# The same split in one file. A database whose transaction was cut off is refused, as its journal begins with another
+# byte than 0, and so is what is no database, has nothing in it, is not there or is a folder. None of them is changed,
+# and no file is made.
+cp "$top"/tools/whole.db .
+cp whole.db cut.db
+printf '\xd9\xd5' > cut.db-journal
+cp whole.db kept.db
+printf '\0\xd5' > kept.db-journal
+echo id,effective_date,num,den,sid > text.db
+: > empty.db
+sha256sum ./*.db* > before
+left 0 held /dev/full "${adjusted[@]}" whole.db
+left 0 held /dev/full "${adjusted[@]}" kept.db
+for name in cut.db text.db empty.db no-such.db .; do
+    fails 8 "store: $name" "${adjusted[@]}" "$name"
+done
+sha256sum ./*.db* > after
+if cmp -s before after; then
+    passed=$((passed + 1))
+    echo "passed: no database was changed or made"
+else
+    failed=$((failed + 1))
+    echo "failed: databases were changed or made: $(diff before after)"
+fi
 
 echo "$passed passed, $failed failed"
 [ "$failed" = 0 ]

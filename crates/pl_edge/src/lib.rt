@@ -9,8 +9,6 @@ mod ends;
 mod faults;
 mod file_shelf;
 mod stream;
-#[cfg(test)]
-mod tests;
 
 pub use command_line::{StartError, words};
 pub use ends::{ended, flushed};
