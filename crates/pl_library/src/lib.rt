@@ -54,7 +54,8 @@ pub mod engine {
     pub use pl_adjarray::{AdjustedArray, Windows};
     pub use pl_cross::{Cross, RankMethod, RankOrder, cross_into, select_into};
     pub use pl_exec::{Chunk, ChunkReport, Rows, execute_chunk};
-    pub use pl_factors::{formula, label_test, window_filter};
+    pub use pl_factors::formula;
+    pub use pl_filters::{label_test, window_filter};
     pub use pl_lanes::{
         Compare, and_mask, compare_mask, max_present, min_present, or_mask, select, sum_present,
     };
@@ -64,13 +65,13 @@ pub mod engine {
 
 /// Tables, day by day or as a whole, payouts, derivations, and the program itself.
 pub mod tables {
-    pub use pl_bench::make_world;
     pub use pl_cli::run_program;
     pub use pl_daily::{Daily, Day, DayBar, DayEvent, NotLater};
     pub use pl_explain::{
         CellList, Derivation, ExplainError, Line, LinesError, explain_cell, first_wrong,
         print_lines, reach_at, read_lines,
     };
+    pub use pl_generate::make_world;
     pub use pl_payouts::{
         Payout, Payouts, PayoutsError, PayoutsOut, Skip, ratio_of, write_payouts,
     };
