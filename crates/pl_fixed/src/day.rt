@@ -1,13 +1,12 @@
 //! Days, counted from 1970-01-01, and their dates.
 
 ghost use Rattle.std.specs.Prelude.{◌≡◌, ◌<◌, ◌+◌, ◌/◌, ◌%◌, ℕ, ℤ, pos, ◌≤ℤ◌, IfSome, length};
-ghost use Rattle.jiff.specs.Words.{epoch_day};
+ghost use Rattle.jiff_core.specs.Date.{epoch_day};
 ghost use Rattle.pl_spec.specs.Dates.{IsDate, IsDay, date_spelling, date_in, date_text};
 ghost use Rattle.pl_spec.specs.Periods.{month_number};
 ghost use Rattle.pl_fixed.specs.Pairs.{IsPairAt};
 
-use jiff::civil::Date;
-use jiff_core::civil;
+use jiff_core::civil::Date;
 
 /// The day of a date `YYYY-MM-DD` from 1900-01-01 to 2199-12-31, counted from 1970-01-01; `None` for any
 /// other bytes.
@@ -29,7 +28,7 @@ fn day_of(b: &[u8]) -> Option<i32>
         return None;
     }
     match Date::new(parts.year as i16, parts.month as i8, parts.day as i8) {
-        Ok(date) => Some(date.to_plain().to_unix_epoch_day()),
+        Ok(date) => Some(date.to_unix_epoch_day()),
         Err(_) => None,
     }
 }
@@ -122,13 +121,13 @@ pub fn month_number(day: i32) -> u32
     12 * u32::from(date.year as u16) + u32::from(date.month) - 1
 }
 
-fn date_of(day: i32) -> civil::Date
+fn date_of(day: i32) -> Date
     requires { IsDay day }
     ensures day { epoch_day result ≡ day }
     ensures early { pos 1900 ≤ℤ result.year }
     ensures late { result.year ≤ℤ pos 2199 }
 {
-    civil::Date::from_unix_epoch_day(day as i64).unwrap()
+    Date::from_unix_epoch_day(day as i64).unwrap()
 }
 
 fn tens(n: u8) -> u8
