@@ -3,8 +3,8 @@ use Rattle.std.proofs.Common.{◌≡◌, ◌≤◌, length, Result, Ok, Err, ref
 use Rattle.pl_spec.specs.Rounding.{div_round}
 use Rattle.pl_grammar.specs.Faults.{verdict}
 use Rattle.pl_grammar.specs.Script.{script_move, first_version}
-use Rattle.pl_tokens.specs.Front.{front}
-use Rattle.pl_tokens.specs.Reading.{reading}
+use Rattle.pl_syntax.specs.Front.{front}
+use Rattle.pl_syntax.specs.Reading.{reading}
 use Rattle.pl_syntax.specs.declared.script.Script.{Script}
 use Rattle.pl_syntax.specs.declared.error.SyntaxError.{SyntaxError}
 use Rattle.pl_syntax.specs.declared.error.SyntaxError.TheVariants.{Memory}

@@ -18,8 +18,8 @@ use Rattle.pl_spec.proofs.PeriodsRise.{period-rises}
 use Rattle.pl_spec.proofs.Signed.{int_eq-itself, lt-is-le, eq-le}
 use Rattle.pl_laws.proofs.Starts.{start-same, start-within}
 use Rattle.pl_cross.specs.Arrays.{sid_in}
-use Rattle.pl_rings.specs.Days.{Start, FedDay, fed, days_of, last_day, last_session, IsStart, AreFed}
-use Rattle.pl_rings.proofs.Fed.{length-days, all_before}
+use Rattle.pl_daily.specs.Days.{Start, FedDay, fed, days_of, last_day, last_session, IsStart, AreFed}
+use Rattle.pl_daily.proofs.Fed.{length-days, all_before}
 use Rattle.pl_daily.proofs.Values.{values_stay}
 use Rattle.pl_daily.specs.declared.term_day.TermCells.{TermCells}
 use Rattle.pl_daily.specs.Rows.{sids_of}

@@ -16,10 +16,10 @@ use Rattle.pl_pipeline.proofs.Cells.{zero-cell}
 use Rattle.pl_terms.specs.Sorts.{is_downsampled}
 use Rattle.pl_terms.specs.Uses.{is_used}
 use Rattle.pl_values.specs.Arrays.{empty_cell}
-use Rattle.pl_rings.specs.declared.columns.BarRings.{BarRings}
-use Rattle.pl_rings.specs.declared.starts.Capacities.{Capacities}
-use Rattle.pl_rings.specs.Columns.{AreBarRings, BeginColumns, HasRoom, rings_of}
-use Rattle.pl_rings.specs.Days.{IsStart}
+use Rattle.pl_daily.specs.declared.columns.BarRings.{BarRings}
+use Rattle.pl_daily.specs.declared.starts.Capacities.{Capacities}
+use Rattle.pl_daily.specs.Columns.{AreBarRings, BeginColumns, HasRoom, rings_of}
+use Rattle.pl_daily.specs.Days.{IsStart}
 use Rattle.pl_daily.specs.declared.term_day.TermCells.{TermCells}
 use Rattle.pl_daily.specs.declared.starts.StartCells.{StartCells}
 use Rattle.pl_daily.specs.Capacities.{column_window, term_window}

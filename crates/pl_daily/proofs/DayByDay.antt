@@ -12,9 +12,9 @@ use Rattle.pl_spec.specs.World.{World}
 use Rattle.pl_cross.specs.Arrays.{sid_in}
 use Rattle.pl_values.specs.Arrays.{empty_cell}
 use Rattle.pl_values.proofs.Numbers.{empty_is}
-use Rattle.pl_rings.specs.Days.{Start, FedDay, fed, last_session, IsStart, AreFed}
-use Rattle.pl_rings.specs.Changes.{Ring, pushed, ring_at}
-use Rattle.pl_rings.proofs.Moves.{slides, constant, below_none, below_first}
+use Rattle.pl_daily.specs.Days.{Start, FedDay, fed, last_session, IsStart, AreFed}
+use Rattle.pl_daily.specs.Changes.{Ring, pushed, ring_at}
+use Rattle.pl_daily.proofs.Moves.{slides, constant, below_none, below_first}
 use Rattle.pl_daily.proofs.Values.{nobody, value_below, values_stay}
 use Rattle.pl_daily.specs.declared.term_day.TermCells.{TermCells}
 use Rattle.pl_daily.specs.Rows.{sids_of}

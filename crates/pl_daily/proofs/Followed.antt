@@ -8,8 +8,8 @@ use Rattle.pl_spec.specs.declared.Frequency.{Frequency}
 use Rattle.pl_spec.specs.Rounding.{IsCell}
 use Rattle.pl_pipeline.specs.Table.{Pipeline}
 use Rattle.pl_terms.specs.Uses.{is_used}
-use Rattle.pl_rings.specs.Days.{Start, FedDay}
-use Rattle.pl_rings.specs.declared.columns.BarRings.{BarRings}
+use Rattle.pl_daily.specs.Days.{Start, FedDay}
+use Rattle.pl_daily.specs.declared.columns.BarRings.{BarRings}
 use Rattle.pl_daily.specs.declared.term_day.TermCells.{TermCells}
 use Rattle.pl_daily.specs.Held.{AreTermCells, FollowTerm, HoldsTerm}
 use Rattle.pl_daily.specs.declared.starts.StartCells.{StartCells}

@@ -35,9 +35,9 @@ use Rattle.pl_values.proofs.Rows.{given-by, label-given, number-given, kept-cell
 use Rattle.pl_values.proofs.Formulas.{AreSeen, seen_window, seen-takes, seen-given, term-numbered}
 use Rattle.pl_values.proofs.Numbers.{number_is}
 use Rattle.pl_values.proofs.KindFamilies.{window_kind}
-use Rattle.pl_rings.proofs.Moves.{ends}
-use Rattle.pl_rings.specs.Changes.{Ring, ring_at}
-use Rattle.pl_rings.specs.Columns.{rings_of}
+use Rattle.pl_daily.proofs.Moves.{ends}
+use Rattle.pl_daily.specs.Changes.{Ring, ring_at}
+use Rattle.pl_daily.specs.Columns.{rings_of}
 use Rattle.pl_daily.specs.declared.term_day.TermDay.{TermDay}
 use Rattle.pl_daily.specs.declared.term_day.TermCells.{TermCells}
 use Rattle.pl_daily.specs.Rows.{Shows, is_kept_by, row_of, rows_lent, rings_in, capacity_of, input_row, ring_window}

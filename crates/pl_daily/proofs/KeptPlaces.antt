@@ -21,8 +21,8 @@ use Rattle.pl_terms.specs.Nodes.{number_of as number_in}
 use Rattle.pl_terms.specs.Sorts.{Filters}
 use Rattle.pl_terms.specs.declared.node.TermId.{TermId}
 use Rattle.pl_values.proofs.Numbers.{number_is, plain-number}
-use Rattle.pl_rings.specs.Days.{Start, FedDay, fed, IsStart, AreFed}
-use Rattle.pl_rings.proofs.Moves.{days_are_fed}
+use Rattle.pl_daily.specs.Days.{Start, FedDay, fed, IsStart, AreFed}
+use Rattle.pl_daily.proofs.Moves.{days_are_fed}
 use Rattle.pl_daily.specs.Rows.{is_kept_by, lives_at, sids_of}
 use Rattle.pl_daily.specs.Rows.{row_of}
 use Rattle.pl_daily.specs.TermDays.{cell_on, number_row}

@@ -1,3 +1,11 @@
+pub mod PartsWorld
+pub mod Fed
+pub mod Moves
+pub mod Cells
+pub mod Advances
+pub mod Beginning
+pub mod Full
+pub mod Ends
 pub mod Begins
 pub mod Downsampled
 pub mod Placed

@@ -21,9 +21,9 @@ use Rattle.pl_terms.specs.Uses.{is_used}
 use Rattle.pl_terms.specs.Sorts.{is_windowed}
 use Rattle.pl_planner.proofs.Pipelines.{is-pipeline}
 use Rattle.pl_values.specs.Arrays.{cell_of, Fills}
-use Rattle.pl_rings.specs.Days.{Start, FedDay, fed, IsStart, AreFed}
-use Rattle.pl_rings.specs.Changes.{Ring, AreRings, ring_at}
-use Rattle.pl_rings.specs.Columns.{HoldColumns, rings_of}
+use Rattle.pl_daily.specs.Days.{Start, FedDay, fed, IsStart, AreFed}
+use Rattle.pl_daily.specs.Changes.{Ring, AreRings, ring_at}
+use Rattle.pl_daily.specs.Columns.{HoldColumns, rings_of}
 use Rattle.pl_daily.specs.declared.term_day.TermCells.{TermCells}
 use Rattle.pl_daily.specs.declared.term_day.TermDay.{TermDay}
 use Rattle.pl_daily.specs.Rows.{capacity_of, rings_in, row_of, rows_lent}

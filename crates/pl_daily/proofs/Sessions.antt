@@ -20,8 +20,8 @@ use Rattle.pl_numbers.proofs.NumberWorlds.{numbers_those}
 use Rattle.pl_cross.specs.Arrays.{sid_in, HasTexts}
 use Rattle.pl_values.specs.Arrays.{HasAll}
 use Rattle.pl_values.proofs.Texts.{texts-coded}
-use Rattle.pl_rings.specs.Days.{Start, FedDay, fed, days_of, bars_of, adjustments_of, IsStart, AreFed}
-use Rattle.pl_rings.proofs.Moves.{days_are_fed}
+use Rattle.pl_daily.specs.Days.{Start, FedDay, fed, days_of, bars_of, adjustments_of, IsStart, AreFed}
+use Rattle.pl_daily.proofs.Moves.{days_are_fed}
 use Rattle.pl_daily.specs.Rows.{lives_at, sids_of}
 use Rattle.pl_daily.specs.TermDays.{FedDaysAreSessions}
 use Rattle.pl_lifetimes.proofs.Among.{among-at, is_among}

@@ -11,7 +11,7 @@ use Rattle.pl_terms.specs.Uses.{is_used}
 use Rattle.pl_terms.specs.declared.checked.NamedColumn as code
 use Rattle.pl_terms.specs.declared.node.TermId.{TermId}
 use Rattle.pl_planner.proofs.Marks.{column-within}
-use Rattle.pl_rings.specs.Days.{Start, FedDay, fed, last_session}
+use Rattle.pl_daily.specs.Days.{Start, FedDay, fed, last_session}
 use Rattle.pl_daily.specs.declared.term_day.TermCells.{TermCells}
 use Rattle.pl_daily.specs.Held.{AreTermCells}
 use Rattle.pl_daily.specs.Rows.{sids_of}

@@ -13,13 +13,13 @@ use Rattle.pl_pipeline.specs.Table.{Pipeline}
 use Rattle.pl_adjust.specs.Events.{PutsCell}
 use Rattle.pl_terms.specs.Checked.{IsChecked}
 use Rattle.pl_terms.specs.Uses.{outputs}
-use Rattle.pl_rings.specs.declared.columns.BarRings.{BarRings}
-use Rattle.pl_rings.specs.declared.day.DayBar.{DayBar}
-use Rattle.pl_rings.specs.declared.day.DayEvent.{DayEvent}
-use Rattle.pl_rings.specs.Changes.{IsHandedIn, column_event}
-use Rattle.pl_rings.specs.Columns.{FollowColumns}
-use Rattle.pl_rings.specs.Days.{Start, FedDay, days_of, last_day, last_session, AreFed, IsLaterThan, MayFollow}
-use Rattle.pl_rings.proofs.Fed.{fed_is_a_world, length-days}
+use Rattle.pl_daily.specs.declared.columns.BarRings.{BarRings}
+use Rattle.pl_daily.specs.declared.day.DayBar.{DayBar}
+use Rattle.pl_daily.specs.declared.day.DayEvent.{DayEvent}
+use Rattle.pl_daily.specs.Changes.{IsHandedIn, column_event}
+use Rattle.pl_daily.specs.Columns.{FollowColumns}
+use Rattle.pl_daily.specs.Days.{Start, FedDay, days_of, last_day, last_session, AreFed, IsLaterThan, MayFollow}
+use Rattle.pl_daily.proofs.Fed.{fed_is_a_world, length-days}
 use Rattle.pl_daily.specs.declared.term_day.TermCells.{TermCells}
 use Rattle.pl_daily.specs.Rows.{row_of}
 use Rattle.pl_daily.specs.TermDays.{number_row}

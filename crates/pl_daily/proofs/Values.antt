@@ -9,10 +9,10 @@ use Rattle.pl_pipeline.specs.Value.Value.{Number}
 use Rattle.pl_spec.specs.Window.{before}
 use Rattle.pl_spec.specs.World.{World}
 use Rattle.pl_laws.proofs.Law.{agree-seen, values_agree}
-use Rattle.pl_rings.specs.Days.{fed}
+use Rattle.pl_daily.specs.Days.{fed}
 use Rattle.pl_daily.specs.Laws.{ValuesStay}
-use Rattle.pl_rings.proofs.Fed.{agrees, fed_is_a_world}
-use Rattle.pl_rings.proofs.Moves.{below_none}
+use Rattle.pl_daily.proofs.Fed.{agrees, fed_is_a_world}
+use Rattle.pl_daily.proofs.Moves.{below_none}
 
 -- what stands where there is no session
 abbrev pub nobody : Term → Value

@@ -3,9 +3,9 @@ use Rattle.std.proofs.Common.{◌≡◌, ℕ, List, length, subst, refl, arith}
 use Rattle.pl_spec.specs.declared.Column.{Column}
 use Rattle.pl_spec.specs.declared.Column.TheVariants.{OpenPrice, High, Low, Close, Volume}
 use Rattle.pl_pipeline.specs.Table.{Pipeline}
-use Rattle.pl_rings.specs.declared.columns.BarRings.{BarRings}
-use Rattle.pl_rings.specs.declared.day.DayEvent.{DayEvent}
-use Rattle.pl_rings.specs.Columns.{AreBarRings, rings_of, day_steps}
+use Rattle.pl_daily.specs.declared.columns.BarRings.{BarRings}
+use Rattle.pl_daily.specs.declared.day.DayEvent.{DayEvent}
+use Rattle.pl_daily.specs.Columns.{AreBarRings, rings_of, day_steps}
 use Rattle.pl_daily.specs.declared.term_day.TermCells.{TermCells}
 use Rattle.pl_daily.specs.Capacities.{column_window}
 use Rattle.pl_daily.specs.Daily.{day_work}

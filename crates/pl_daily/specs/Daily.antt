@@ -10,13 +10,13 @@ use Rattle.pl_pipeline.specs.Table.{Pipeline, kept_sids}
 use Rattle.pl_spec.specs.World.{World}
 use Rattle.pl_assets.specs.Labels.{LabelTable}
 use Rattle.pl_terms.specs.Uses.{is_used, outputs}
-use Rattle.pl_rings.specs.declared.columns.BarRings.{BarRings}
-use Rattle.pl_rings.specs.declared.day.Day.{Day}
-use Rattle.pl_rings.specs.declared.day.DayEvent.{DayEvent}
-use Rattle.pl_rings.specs.Changes.{column_event}
-use Rattle.pl_rings.specs.Columns.{HoldColumns}
-use Rattle.pl_rings.specs.Days.{Start, FedDay, fed, days_of, last_session, last_day, IsStart, AreFed}
-use Rattle.pl_rings.specs.Rings.{scaling}
+use Rattle.pl_daily.specs.declared.columns.BarRings.{BarRings}
+use Rattle.pl_daily.specs.declared.day.Day.{Day}
+use Rattle.pl_daily.specs.declared.day.DayEvent.{DayEvent}
+use Rattle.pl_daily.specs.Changes.{column_event}
+use Rattle.pl_daily.specs.Columns.{HoldColumns}
+use Rattle.pl_daily.specs.Days.{Start, FedDay, fed, days_of, last_session, last_day, IsStart, AreFed}
+use Rattle.pl_daily.specs.Rings.{scaling}
 use Rattle.pl_daily.specs.declared.term_day.TermCells.{TermCells}
 use Rattle.pl_daily.specs.Held.{HoldsTerm}
 use Rattle.pl_daily.specs.Capacities.{column_window}

@@ -4,8 +4,8 @@ use Rattle.pl_spec.specs.Rounding.{IsCell}
 use Rattle.pl_pipeline.specs.Table.{Pipeline}
 use Rattle.pl_spec.specs.Window.{before, downward}
 use Rattle.pl_values.specs.Arrays.{empty_cell}
-use Rattle.pl_rings.specs.Days.{Start, FedDay, fed, last_session, IsStart, AreFed}
-use Rattle.pl_rings.specs.Changes.{AreRings, ring_at}
+use Rattle.pl_daily.specs.Days.{Start, FedDay, fed, last_session, IsStart, AreFed}
+use Rattle.pl_daily.specs.Changes.{AreRings, ring_at}
 use Rattle.pl_daily.specs.declared.term_day.TermCells.{TermCells}
 use Rattle.pl_daily.specs.Rows.{sids_of}
 use Rattle.pl_daily.specs.TermDays.{cell_on}

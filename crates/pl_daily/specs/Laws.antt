@@ -3,7 +3,7 @@ use Rattle.std.specs.Prelude.{◌≡◌, ℕ, List, ◌∷◌}
 use Rattle.pl_pipeline.specs.Term.{Term}
 use Rattle.pl_pipeline.specs.Value.{value}
 use Rattle.pl_spec.specs.Window.{before}
-use Rattle.pl_rings.specs.Days.{Start, FedDay, fed, IsStart, AreFed, last_session}
+use Rattle.pl_daily.specs.Days.{Start, FedDay, fed, IsStart, AreFed, last_session}
 
 -- what a term was worth it is worth a day later
 abbrev pub ValuesStay : Type 0

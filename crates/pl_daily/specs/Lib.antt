@@ -14,3 +14,9 @@ pub mod TermDays
 pub mod Windows
 pub mod Held
 pub mod Laws
+-- Words of rings.
+pub mod Days
+pub mod Rings
+pub mod Changes
+pub mod Columns
+pub mod RingLaws

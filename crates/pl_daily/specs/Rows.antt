@@ -11,9 +11,9 @@ use Rattle.pl_pipeline.specs.Term.Input.{BarColumn, TermInput}
 use Rattle.pl_spec.specs.World.{lives_on}
 use Rattle.pl_numbers.specs.Numbers.{NumberTable}
 use Rattle.pl_values.specs.Arrays.{kept_or}
-use Rattle.pl_rings.specs.declared.columns.BarRings.{BarRings}
-use Rattle.pl_rings.specs.Changes.{Ring, ring_at}
-use Rattle.pl_rings.specs.Columns.{rings_of}
+use Rattle.pl_daily.specs.declared.columns.BarRings.{BarRings}
+use Rattle.pl_daily.specs.Changes.{Ring, ring_at}
+use Rattle.pl_daily.specs.Columns.{rings_of}
 use Rattle.pl_daily.specs.declared.term_day.TermCells.{TermCells}
 
 abbrev pub sids_of : List AssetRow → List ℕ

@@ -4,8 +4,8 @@ use Rattle.std.specs.Int.RustNames.{int_le}
 use Rattle.pl_pipeline.specs.Lows.{least_reach}
 use Rattle.pl_pipeline.specs.Table.{Pipeline}
 use Rattle.pl_terms.specs.Uses.{outputs}
-use Rattle.pl_rings.specs.Columns.{HoldColumns}
-use Rattle.pl_rings.specs.Days.{FedDay, last_day, IsStart, AreFed}
+use Rattle.pl_daily.specs.Columns.{HoldColumns}
+use Rattle.pl_daily.specs.Days.{FedDay, last_day, IsStart, AreFed}
 use Rattle.pl_daily.specs.declared.starts.StartCells.{StartCells}
 use Rattle.pl_daily.specs.Daily.{Held, last_of, start_in}
 use Rattle.pl_daily.specs.Reaches.{AreFirst}

@@ -22,9 +22,9 @@ use Rattle.pl_values.specs.Arrays.{cell_of, HasAll, Fills, IsKeep}
 use Rattle.pl_values.specs.Laws.{IsGivenCell}
 use Rattle.pl_values.specs.declared.family.Family.{Family}
 use Rattle.pl_values.specs.declared.family.Family.TheVariants as families
-use Rattle.pl_rings.specs.Days.{Start, FedDay, fed, IsStart, AreFed}
-use Rattle.pl_rings.specs.Changes.{AreRings, ring_at}
-use Rattle.pl_rings.specs.Columns.{rings_of}
+use Rattle.pl_daily.specs.Days.{Start, FedDay, fed, IsStart, AreFed}
+use Rattle.pl_daily.specs.Changes.{AreRings, ring_at}
+use Rattle.pl_daily.specs.Columns.{rings_of}
 use Rattle.pl_daily.specs.declared.term_day.TermCells.{TermCells}
 use Rattle.pl_daily.specs.declared.term_day.TermDay.{TermDay}
 use Rattle.pl_daily.specs.Rows.{capacity_of, is_kept_by, lives_at, rings_in, row_of, rows_lent, sids_of}

@@ -15,9 +15,9 @@ use Rattle.pl_assets.specs.Labels.{AreLabels, LabelTable}
 use Rattle.pl_terms.specs.Checked.{IsChecked, pipeline_of}
 use Rattle.pl_terms.specs.Sorts.{is_windowed}
 use Rattle.pl_terms.specs.Uses.{is_used}
-use Rattle.pl_rings.specs.Days.{Start, FedDay, fed, days_of, last_day, last_session, IsStart, AreFed}
-use Rattle.pl_rings.specs.declared.columns.BarRings.{BarRings}
-use Rattle.pl_rings.specs.Columns.{AreBarRings, HoldColumns, rings_of}
+use Rattle.pl_daily.specs.Days.{Start, FedDay, fed, days_of, last_day, last_session, IsStart, AreFed}
+use Rattle.pl_daily.specs.declared.columns.BarRings.{BarRings}
+use Rattle.pl_daily.specs.Columns.{AreBarRings, HoldColumns, rings_of}
 use Rattle.pl_daily.specs.declared.term_day.TermCells.{TermCells}
 use Rattle.pl_daily.specs.Rows.{rows_lent, sids_of}
 use Rattle.pl_daily.specs.TermDays.{cell_on}

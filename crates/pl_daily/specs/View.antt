@@ -2,7 +2,7 @@
 use Rattle.std.specs.Prelude.{◌≡◌, ℕ, ◌<◌, ◌≤◌, length, slice_get, vec_capacity, Some, All}
 use Rattle.pl_spec.specs.declared.Column.{Column}
 use Rattle.pl_terms.specs.Checked.{IsChecked, pipeline_of}
-use Rattle.pl_rings.specs.Columns.{rings_of}
+use Rattle.pl_daily.specs.Columns.{rings_of}
 use Rattle.pl_daily.specs.declared.term_day.TermCells.{TermCells}
 use Rattle.pl_daily.specs.Rows.{rows_lent}
 use Rattle.pl_daily.specs.declared.daily.Daily.TheInside.{Inside}

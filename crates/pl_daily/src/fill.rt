@@ -1,7 +1,7 @@
 //! A day's terms and reaches, in the room that is held for them.
 ghost use Rattle.std.specs.Prelude.{◌≡◌, ◌<◌, List, length};
 ghost use Rattle.pl_terms.specs.Checked.{pipeline_of};
-ghost use Rattle.pl_rings.specs.Days.{FedDay};
+ghost use Rattle.pl_daily.specs.Days.{FedDay};
 ghost use Rattle.pl_daily.specs.Reaches.{FollowFirst};
 ghost use Rattle.pl_daily.specs.Room.{IsRoom};
 ghost use Rattle.pl_daily.specs.Steps.{sessions_of};

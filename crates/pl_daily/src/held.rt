@@ -3,9 +3,9 @@ ghost use Rattle.std.specs.Prelude.{◌≡◌, ◌<◌, length, All, IfOk};
 ghost use Rattle.pl_spec.specs.Rounding.{IsCell};
 ghost use Rattle.pl_daily.specs.Held.{AreTermCells, BeginsTerm, FollowTerm};
 
+use crate::rings::{Rings, push_row};
 use crate::term_day::TermCells;
 use pl_fixed::Memory;
-use pl_rings::{Rings, push_row};
 use std::alloc::Global;
 
 /// What is held of a term before the first day, whose empty value is `empty`. The capacity is that of its

@@ -12,12 +12,12 @@ ghost use Rattle.pl_daily.specs.Terms.{Downsamples, IsStartRoom};
 
 use crate::capacities::{column_window, is_used, term_window};
 use crate::held::begin_term;
+use crate::ring_starts::Capacities;
 use crate::starts::StartCells;
 use crate::term_day::TermCells;
 use pl_cross::Cross;
 use pl_fixed::{Column, Memory};
 use pl_planner::{count, node_at};
-use pl_rings::Capacities;
 use pl_terms::{Checked, TermId, frequency_of};
 use pl_values::empty_value;
 use std::alloc::Global;

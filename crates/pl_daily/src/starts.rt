@@ -5,7 +5,7 @@ ghost use Rattle.pl_spec.specs.Dates.{IsDay};
 ghost use Rattle.pl_terms.specs.Nodes.{node_of, number_of};
 ghost use Rattle.pl_terms.specs.Sorts as sorts;
 ghost use Rattle.pl_terms.specs.Uses.{is_used};
-ghost use Rattle.pl_rings.specs.Days.{FedDay};
+ghost use Rattle.pl_daily.specs.Days.{FedDay};
 ghost use Rattle.pl_daily.specs.Terms.{AreTerms, Downsamples, FollowStart, IsAt, IsStartRoom};
 ghost use Rattle.pl_daily.specs.Terms.{assets_at, begins, pipeline_at};
 

@@ -1,7 +1,8 @@
 //! One term on one day: what it is computed from.
+use crate::columns::BarRings;
+use crate::rings::Rings;
 use pl_assets::{Assets, Labels};
 use pl_numbers::Numbers;
-use pl_rings::{BarRings, Rings};
 use pl_terms::{Checked, Node, TermId};
 
 /// What is held of a term: its cells on the last day, one for each asset by ascending sid, and the rings of

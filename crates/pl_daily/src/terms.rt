@@ -2,11 +2,12 @@
 ghost use Rattle.std.specs.Prelude.{◌≡◌, ◌<◌, ◌∷◌, true, List, length, All};
 ghost use Rattle.pl_spec.specs.Rounding.{IsCell};
 ghost use Rattle.pl_terms.specs.Uses.{is_used};
-ghost use Rattle.pl_rings.specs.Days.{FedDay};
+ghost use Rattle.pl_daily.specs.Days.{FedDay};
 ghost use Rattle.pl_daily.specs.Room.{IsRoom};
 ghost use Rattle.pl_daily.specs.Terms.{AreStarts, AreTerms, FollowTermAt, FollowTerms, IsAt, IsPlaced};
 ghost use Rattle.pl_daily.specs.Terms.{IsLent, IsRowOf, IsStartRoom, assets_at, pipeline_at, rooms};
 
+use crate::columns::BarRings;
 use crate::held::put_term;
 use crate::room::Room;
 use crate::row::fill_row;
@@ -14,7 +15,6 @@ use crate::starts::{StartCells, take_start};
 use crate::term_day::{TermCells, TermDay};
 use pl_assets::{Assets, Labels};
 use pl_numbers::Numbers;
-use pl_rings::BarRings;
 use pl_terms::{Checked, TermId};
 
 /// What the terms of a day are computed from: the pipeline, the assets, their labels and numbers, the rings

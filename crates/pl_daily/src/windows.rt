@@ -8,8 +8,8 @@ ghost use Rattle.pl_daily.specs.Rows.{Shows, ring_window};
 ghost use Rattle.pl_daily.specs.TermDays.{IsRowInEveryWorld, IsKept, IsTermDay, Moment, assets_at, node_at, pipeline_at};
 ghost use Rattle.pl_daily.specs.Windows.{windowed_by, window_size};
 
+use crate::rings::copy_window;
 use crate::term_day::TermDay;
-use pl_rings::copy_window;
 use pl_terms::Input;
 use pl_values::{input_at, is_one, kind_of, window_of, window_value};
 

@@ -8,7 +8,7 @@ use Rattle.pl_adjarray.specs.Buffered.{Buffered}
 use Rattle.pl_adjarray.specs.Stillness.{IsStill}
 use Rattle.pl_adjarray.specs.Traversals.{Traversal}
 use Rattle.pl_adjarray.specs.Worlds.{IsWindow}
-use Rattle.pl_running.specs.Lanes.{window_at}
+use Rattle.pl_factors.specs.Lanes.{window_at}
 use Rattle.pl_exec.specs.declared.term_session.TermSession.{TermSession}
 use Rattle.pl_exec.specs.declared.windows.Bars.{Bars}
 use Rattle.pl_exec.specs.declared.chunk_inputs.Array.{Array}

@@ -11,9 +11,9 @@ use Rattle.pl_spec.proofs.Lists.{get_or-front, get_or-behind}
 use Rattle.pl_spec.proofs.Windows.{length-downward}
 use Rattle.pl_terms.specs.Sorts.{is_windowed}
 use Rattle.pl_factors.specs.Kinds.{formula_of}
-use Rattle.pl_running.specs.Lanes.{AreValues, TakesLanes, window_at}
-use Rattle.pl_running.specs.Spans.{TakesWindows}
-use Rattle.pl_running.proofs.Following.{cells_at}
+use Rattle.pl_factors.specs.Lanes.{AreValues, TakesLanes, window_at}
+use Rattle.pl_factors.specs.Spans.{TakesWindows}
+use Rattle.pl_factors.proofs.Following.{cells_at}
 use Rattle.pl_values.specs.Arrays.{Holds, chosen, is_kept, window_up_to}
 use Rattle.pl_values.specs.Families.{TakesWindows as TakesGiven, windowed}
 use Rattle.pl_values.specs.Inputs.{input_window}

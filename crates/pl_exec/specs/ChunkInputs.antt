@@ -28,7 +28,7 @@ use Rattle.pl_values.specs.Arrays.{HasAll, Fills, IsKeep, empty_cell, is_kept}
 use Rattle.pl_adjarray.specs.Buffered.{Buffered, applied_at}
 use Rattle.pl_adjarray.specs.Traversals.{Traversal, advances}
 use Rattle.pl_adjarray.specs.Stillness.{IsStill}
-use Rattle.pl_running.specs.Lanes.{HasWindows, window_at}
+use Rattle.pl_factors.specs.Lanes.{HasWindows, window_at}
 use Rattle.pl_values.specs.Laws.{IsGivenCell}
 use Rattle.pl_workspace.specs.Slots.{Slots, Free, slot_at}
 use Rattle.std.specs.Borrow.{Bor}

@@ -14,7 +14,7 @@ use crate::course::{Course, Lane, on_session};
 use crate::term_session::{TermSession, term_reach};
 use pl_adjarray::Windows;
 use pl_fixed::Steps;
-use pl_running::fill_values;
+use pl_factors::fill_values;
 use pl_terms::Input;
 use pl_values::{input_at, kind_of, mask_of, window_of};
 use std::sync::ledger::Ledger;

@@ -25,10 +25,10 @@ use Rattle.pl_adjust.specs.Columns.{events_at}
 use Rattle.pl_world.specs.declared.world.World.{World}
 use Rattle.pl_world.specs.Worlds.{AreSound, world_of}
 use Rattle.pl_bars.proofs.BarSearch.{find-nothing}
-use Rattle.pl_rings.specs.Days.{adjustments_of, bar_row, bars_of, days_of, fed}
-use Rattle.pl_rings.proofs.Fed.{or-none, parts_fit, sessions_below}
-use Rattle.pl_rings.proofs.Moves.{events_at-append}
-use Rattle.pl_rings.proofs.PartsWorld.{events_by-at}
+use Rattle.pl_daily.specs.Days.{adjustments_of, bar_row, bars_of, days_of, fed}
+use Rattle.pl_daily.proofs.Fed.{or-none, parts_fit, sessions_below}
+use Rattle.pl_daily.proofs.Moves.{events_at-append}
+use Rattle.pl_daily.proofs.PartsWorld.{events_by-at}
 use Rattle.pl_runner.specs.Days.{bar_at, col_due, day_at, events_due, fed_day, fed_days, fed_world, start_of_world}
 use Rattle.pl_runner.proofs.Lists.{find-range}
 use Rattle.pl_runner.proofs.Merges.{known-split, inside}

@@ -19,8 +19,8 @@ use Rattle.pl_adjust.specs.Events.{PutsCell}
 use Rattle.pl_adjust.proofs.Kept.{cells_at}
 use Rattle.pl_world.specs.declared.world.World.{World}
 use Rattle.pl_world.specs.Worlds.{AreSound}
-use Rattle.pl_rings.specs.declared.day.DayBar.{DayBar}
-use Rattle.pl_rings.specs.Days.{IsStart, IsLaterThan, AreFed, MayFollow, days_of, last_day}
+use Rattle.pl_daily.specs.declared.day.DayBar.{DayBar}
+use Rattle.pl_daily.specs.Days.{IsStart, IsLaterThan, AreFed, MayFollow, days_of, last_day}
 use Rattle.pl_runner.specs.Feeds.{day_before, is_due}
 use Rattle.pl_runner.specs.Days.{bar_at, bars_due, col_due, day_at, events_due, fed_day, fed_days, in_col, start_of_world}
 use Rattle.pl_runner.proofs.Lists.{range-within, AllPairs-map, flat-all, flat-pairs}

@@ -8,7 +8,7 @@ use Rattle.std.proofs.lemmas.List.FromFn.{length-range_with_len, get_or-range_wi
 use Rattle.std.proofs.lemmas.List.Kept.{AllPairs-cons}
 use Rattle.std.proofs.lemmas.List.Sums.{sum_by-cons}
 use Rattle.pl_spec.proofs.Lists.{no-pairs}
-use Rattle.pl_rings.proofs.Fed.{AllPairs-append}
+use Rattle.pl_daily.proofs.Fed.{AllPairs-append}
 
 pub range-within : (a n : ℕ) → All (λ k. k < a + n) (range_with_len a n)
 range-within a n i d l =

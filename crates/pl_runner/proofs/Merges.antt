@@ -12,7 +12,7 @@ use Rattle.pl_spec.specs.Window.{is_between}
 use Rattle.pl_spec.specs.World.{Event}
 use Rattle.pl_spec.proofs.Signed.{int_le-false}
 use Rattle.pl_adjust.specs.Columns.{events_at}
-use Rattle.pl_rings.proofs.Moves.{events_at-append}
+use Rattle.pl_daily.proofs.Moves.{events_at-append}
 use Rattle.pl_runner.specs.Days.{in_col}
 
 -- ---- known by a day, or between two

@@ -16,8 +16,8 @@ use Rattle.pl_adjust.specs.Columns.{events_at}
 use Rattle.pl_adjust.specs.Events.{event_of}
 use Rattle.pl_adjust.proofs.Between.{IsEnd}
 use Rattle.pl_adjust.proofs.Runs.{filter-run}
-use Rattle.pl_rings.specs.declared.day.DayEvent.{DayEvent}
-use Rattle.pl_rings.specs.Changes.{column_event}
+use Rattle.pl_daily.specs.declared.day.DayEvent.{DayEvent}
+use Rattle.pl_daily.specs.Changes.{column_event}
 use Rattle.pl_runner.specs.Feeds.{day_before, is_due}
 use Rattle.pl_runner.specs.Days.{col_due, day_at, events_due, in_col}
 use Rattle.pl_runner.proofs.Lists.{counted-once, sum-le}

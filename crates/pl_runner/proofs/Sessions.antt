@@ -9,8 +9,8 @@ use Rattle.pl_values.specs.Arrays.{cell_of}
 use Rattle.pl_table.proofs.Outputs.{cell-is, sid-of-place}
 use Rattle.pl_world.specs.declared.world.World.{World}
 use Rattle.pl_world.specs.Worlds.{AreSound, world_of}
-use Rattle.pl_rings.specs.declared.day.DayBar.{DayBar}
-use Rattle.pl_rings.specs.Days.{FedDay, IsLaterThan, MayFollow, fed, last_day, last_session}
+use Rattle.pl_daily.specs.declared.day.DayBar.{DayBar}
+use Rattle.pl_daily.specs.Days.{FedDay, IsLaterThan, MayFollow, fed, last_day, last_session}
 use Rattle.pl_daily.specs.Daily.{Held, HasBeenFed, last_of, start_in}
 use Rattle.pl_daily.specs.Terms.{start_of}
 use Rattle.pl_runner.specs.Days.{IsFed, bars_due, day_at, events_due, fed_day, fed_days, fed_world, start_of_world}

@@ -30,8 +30,8 @@ use Rattle.pl_planner.specs.Plans.{Planned, IsPlanOf}
 use Rattle.pl_table.specs.Outcomes.{lines, rows_of_sessions}
 use Rattle.pl_table.proofs.SessionRows.{sessions-next, sessions-end}
 use Rattle.pl_runner.specs.Sessions.{rows_in_range}
-use Rattle.pl_rings.specs.Days.{days_of, fed, last_session}
-use Rattle.pl_rings.proofs.Fed.{fed_is_a_world}
+use Rattle.pl_daily.specs.Days.{days_of, fed, last_session}
+use Rattle.pl_daily.proofs.Fed.{fed_is_a_world}
 use Rattle.pl_assets.specs.Labels.{LabelTable}
 use Rattle.pl_daily.specs.Daily.{Held}
 use Rattle.pl_daily.specs.Terms.{start_of}

@@ -13,9 +13,9 @@ use Rattle.pl_spec.proofs.Columns.{sids-all}
 use Rattle.pl_world.specs.declared.world.World.{World}
 use Rattle.pl_world.specs.Worlds.{AreSound, world_of}
 use Rattle.pl_world.proofs.Made.{events_of-at}
-use Rattle.pl_rings.specs.declared.day.DayEvent.{DayEvent}
-use Rattle.pl_rings.specs.Changes.{column_event}
-use Rattle.pl_rings.specs.Rings.{scales, scaling}
+use Rattle.pl_daily.specs.declared.day.DayEvent.{DayEvent}
+use Rattle.pl_daily.specs.Changes.{column_event}
+use Rattle.pl_daily.specs.Rings.{scales, scaling}
 use Rattle.pl_daily.specs.Capacities.{column_window}
 use Rattle.pl_daily.specs.Daily.{day_work}
 use Rattle.pl_runner.specs.Feeds.{daily_steps, day_before, due_events, is_due, ratios_due, session_work}

@@ -9,8 +9,8 @@ use Rattle.pl_pipeline.specs.Table.{Pipeline}
 use Rattle.pl_bars.specs.Bars.{cells_at}
 use Rattle.pl_adjust.specs.Columns.{events_at}
 use Rattle.pl_world.specs.declared.world.World.{World}
-use Rattle.pl_rings.specs.declared.day.DayBar.{DayBar}
-use Rattle.pl_rings.specs.Days.{Start, FedDay, fed}
+use Rattle.pl_daily.specs.declared.day.DayBar.{DayBar}
+use Rattle.pl_daily.specs.Days.{Start, FedDay, fed}
 use Rattle.pl_daily.specs.Terms.{start_of}
 use Rattle.pl_daily.specs.Daily.{Held, HasBeenFed}
 use Rattle.pl_runner.specs.Feeds.{day_before, is_due}

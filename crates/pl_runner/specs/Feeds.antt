@@ -7,7 +7,7 @@ use Rattle.pl_spec.specs.declared.Column.TheVariants.{OpenPrice, High, Low, Clos
 use Rattle.pl_spec.specs.Window.{is_between}
 use Rattle.pl_spec.specs.World.{World, Event, events_of}
 use Rattle.pl_pipeline.specs.Table.{Pipeline}
-use Rattle.pl_rings.specs.Rings.{scales}
+use Rattle.pl_daily.specs.Rings.{scales}
 use Rattle.pl_daily.specs.Capacities.{column_window}
 
 -- the day of the session before one; the first session has none before it

@@ -3,14 +3,14 @@ ghost use Rattle.std.specs.Prelude.{◌≡◌, ◌≤◌, ◌<◌, ◌+◌, ◌^
 ghost use Rattle.std.specs.List.{range_with_len};
 ghost use Rattle.pl_spec.specs.Rounding.{IsCell};
 ghost use Rattle.pl_adjust.specs.Events.{event_of};
-ghost use Rattle.pl_rings.specs.Changes.{column_event};
+ghost use Rattle.pl_daily.specs.Changes.{column_event};
 ghost use Rattle.pl_runner.specs.Feeds.{is_due};
 ghost use Rattle.pl_runner.specs.Days.{bars_due, col_due, events_due, in_col};
 ghost use Rattle.pl_runner.specs.Days as spec;
 
 use pl_adjust::Adjust;
 use pl_bars::Bars;
-use pl_rings::{DayBar, DayEvent};
+use pl_daily::{DayBar, DayEvent};
 use pl_world::World;
 
 // The bar of the asset in a column; its cells are missing where there is none. It is looked up from the

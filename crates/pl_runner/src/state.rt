@@ -5,7 +5,7 @@ ghost use Rattle.pl_runner.specs.States.{IsState};
 
 use pl_daily::Daily;
 use pl_fixed::Memory;
-use pl_rings::{DayBar, DayEvent};
+use pl_daily::{DayBar, DayEvent};
 use pl_table::{Asked, Line};
 use std::alloc::Global;
 

@@ -1,3 +1,10 @@
+pub mod Longest
+pub mod Numbers
+pub mod Bad
+pub mod Reading
+pub mod Steps
+pub mod Written
+pub mod Shows
 pub mod Pushed
 pub mod Verdicts
 pub mod Arguments

@@ -11,7 +11,7 @@ use Rattle.pl_syntax.specs.declared.tree.Expr.{Expr}
 use Rattle.pl_syntax.specs.declared.tree.ArgList.{ArgList}
 use Rattle.pl_syntax.specs.declared.tree.ExprNode.{ExprNode, None', Some'}
 use Rattle.pl_syntax.specs.declared.tree.ExprNode.TheVariants.{Number, Text, Name, Call, Prefix, Prefix', Binary, Binary', Member, Member'}
-use Rattle.pl_tokens.specs.declared.word.Word.{Word}
+use Rattle.pl_syntax.specs.declared.word.Word.{Word}
 
 abbrev pub IsMember : ExprNode → Type 0
 IsMember n = (e : Box Expr Global) × ((w : Word) × ((ps : Option ArgList) × (n ≡ Member e w ps)))

@@ -4,8 +4,8 @@ use Rattle.pl_grammar.specs.declared.Place.{Place}
 use Rattle.pl_grammar.specs.Script.{Statement, is_known, first_version}
 use Rattle.pl_grammar.specs.Whole.{are_sound, bare_script}
 use Rattle.pl_grammar.proofs.Scripts.{script_derives, script_told, script_short, same_told, same_short, replaced_script}
-use Rattle.pl_tokens.specs.Sound.{is_written}
-use Rattle.pl_tokens.specs.Text.{start}
+use Rattle.pl_syntax.specs.Sound.{is_written}
+use Rattle.pl_syntax.specs.Text.{start}
 use Rattle.pl_syntax.specs.Canonical.{script_text}
 use Rattle.pl_syntax.specs.Spells.{Parsed, Spells, SameScript, SpellsAgain}
 use Rattle.pl_syntax.specs.Statements.{statements_of}

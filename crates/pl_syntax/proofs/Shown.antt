@@ -20,12 +20,12 @@ use Rattle.pl_grammar.specs.Printed.{here, tree_level, placed, name_tokens, toke
 use Rattle.pl_grammar.specs.Script.{Head, LetHead, ColumnHead, ScreenHead, Statement, is_known}
 use Rattle.pl_grammar.specs.Whole.{version_number, tree_passes, args_pass, name_passes, head_passes, head_tokens, statements_tokens, script_tokens, is_sound, are_sound}
 use Rattle.pl_grammar.proofs.Scripts.{parts, version_cases}
-use Rattle.pl_tokens.specs.Bytes.{Stops}
+use Rattle.pl_syntax.specs.Bytes.{Stops}
 use Rattle.pl_spec.specs.Names.{is_digit, starts_word, is_word_byte, is_name}
-use Rattle.pl_tokens.specs.Tokens.{NoDecimals, number_token}
-use Rattle.pl_tokens.specs.Numerals.{number_text}
-use Rattle.pl_tokens.specs.Sound.{is_number, is_written}
-use Rattle.pl_tokens.proofs.Shows.{Shows, end_shows, pair_shows, word_shows, digit_shows, blank_shows, sign_shows, name_shows, text_shows, number_shows}
+use Rattle.pl_syntax.specs.Tokens.{NoDecimals, number_token}
+use Rattle.pl_syntax.specs.Numerals.{number_text}
+use Rattle.pl_syntax.specs.Sound.{is_number, is_written}
+use Rattle.pl_syntax.proofs.Shows.{Shows, end_shows, pair_shows, word_shows, digit_shows, blank_shows, sign_shows, name_shows, text_shows, number_shows}
 use Rattle.pl_syntax.specs.Canonical.{prefix_text, binary_text, placed_text, name_text, comma_text, in_parentheses, tree_text, list_text, head_text, statements_text, version_text, script_text}
 
 -- what may follow an operand: nothing that a name or a number before it would take

@@ -5,9 +5,9 @@ use Rattle.pl_grammar.specs.Tree.{Lexeme}
 use Rattle.pl_grammar.specs.Script as g
 use Rattle.pl_grammar.specs.Faults.{Kind, Tail, AtEnd, AtBad, Verdict, Good, Fault, verdict}
 use Rattle.pl_grammar.proofs.First.{Right, right_of, spelled_only, first_only}
-use Rattle.pl_tokens.specs.Text.{start, Read}
-use Rattle.pl_tokens.specs.Reading.{Whole, whole}
-use Rattle.pl_tokens.proofs.Reading.{whole_read, whole_only}
+use Rattle.pl_syntax.specs.Text.{start, Read}
+use Rattle.pl_syntax.specs.Reading.{Whole, whole}
+use Rattle.pl_syntax.proofs.Reading.{whole_read, whole_only}
 use Rattle.pl_syntax.specs.Spells.{Parsed, Spells, FirstFault}
 use Rattle.pl_syntax.specs.Said.{Said, Spelled, Faulty, said_by, said}
 

@@ -12,11 +12,11 @@ use Rattle.pl_grammar.proofs.ScriptRead.{one_script, script_known}
 use Rattle.pl_grammar.specs.Whole.{are_sound}
 use Rattle.pl_grammar.proofs.Scripts.{script_sound}
 use Rattle.pl_grammar.proofs.First.{Right, right_of, spelled_only, first_only}
-use Rattle.pl_tokens.specs.Text.{start, Read}
-use Rattle.pl_tokens.specs.Code.{Begins}
-use Rattle.pl_tokens.specs.Sound.{is_written}
-use Rattle.pl_tokens.proofs.Written.{read_written}
-use Rattle.pl_tokens.proofs.Reading.{one_way, is_read}
+use Rattle.pl_syntax.specs.Text.{start, Read}
+use Rattle.pl_syntax.specs.Code.{Begins}
+use Rattle.pl_syntax.specs.Sound.{is_written}
+use Rattle.pl_syntax.proofs.Written.{read_written}
+use Rattle.pl_syntax.proofs.Reading.{one_way, is_read}
 use Rattle.pl_syntax.specs.Spells.{Parsed, Spells, FirstFault}
 use Rattle.pl_syntax.specs.Statements.{statements_of}
 use Rattle.pl_syntax.specs.Scripts.{statements_in, parsed}

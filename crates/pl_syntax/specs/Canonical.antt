@@ -6,7 +6,7 @@ use Rattle.pl_grammar.specs.declared.BinarySign.{BinarySign}
 use Rattle.pl_grammar.specs.declared.BinarySign.TheVariants.{Or, And, Less, LessEqual, Greater, GreaterEqual, Equal, NotEqual, Add, Sub, Mul, Div}
 use Rattle.pl_grammar.specs.Tree.{Tree, number, text, name, call, prefix, binary, member, method, Args, no_args, arg, prefix_level, left_level, right_level}
 use Rattle.pl_grammar.specs.Printed.{tree_level}
-use Rattle.pl_tokens.specs.Numerals.{number_text}
+use Rattle.pl_syntax.specs.Numerals.{number_text}
 use Rattle.pl_grammar.specs.Script.{Head, LetHead, ColumnHead, ScreenHead, Statement}
 
 abbrev pub prefix_text : PrefixSign → List ℕ

@@ -3,7 +3,7 @@ use Rattle.std.specs.Prelude.{◌≡◌, ℕ, true, List}
 use Rattle.pl_grammar.specs.declared.Place.{Place}
 use Rattle.pl_grammar.specs.Script.{Statement, is_known}
 use Rattle.pl_grammar.specs.Whole.{are_sound}
-use Rattle.pl_tokens.specs.Sound.{is_written}
+use Rattle.pl_syntax.specs.Sound.{is_written}
 use Rattle.pl_syntax.specs.Canonical.{script_text}
 use Rattle.pl_syntax.specs.Spells.{SpellsAgain}
 

@@ -7,7 +7,7 @@ use Rattle.pl_grammar.specs.Script.{Statement, script_step, first_version}
 use Rattle.pl_grammar.specs.Tree.{Lexeme}
 use Rattle.pl_grammar.specs.Faults as f
 use Rattle.pl_grammar.specs.Faults.{Kind, Tail, AtEnd, Verdict, Good, Fault, too_large, most_tokens, most_depth, verdict}
-use Rattle.pl_tokens.specs.Text.{start, Read}
+use Rattle.pl_syntax.specs.Text.{start, Read}
 use Rattle.pl_syntax.specs.Spells.{Parsed, FirstFault, SameScript}
 use Rattle.pl_syntax.specs.Statements.{statements_of}
 use Rattle.pl_syntax.specs.Scripts.{version_in, statements_in, end_in, parsed}

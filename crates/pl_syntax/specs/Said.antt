@@ -4,7 +4,7 @@ use Rattle.pl_grammar.specs.declared.Place.{Place}
 use Rattle.pl_grammar.specs.Script.{Opening, first_version}
 use Rattle.pl_grammar.specs.Faults as f
 use Rattle.pl_grammar.specs.Faults.{Kind, Tail, AtEnd, AtBad, Verdict, Good, Fault, verdict}
-use Rattle.pl_tokens.specs.Reading.{whole}
+use Rattle.pl_syntax.specs.Reading.{whole}
 use Rattle.pl_syntax.specs.Spells.{Parsed, Spells, FirstFault}
 
 pub data Said : Type 0 where

@@ -5,7 +5,7 @@ use Rattle.pl_grammar.specs.Tree.{Lexeme}
 use Rattle.pl_grammar.specs.Script.{Statement, Script, first_version}
 use Rattle.pl_grammar.specs.Whole.{bare_script}
 use Rattle.pl_grammar.specs.Faults.{Tail, AtEnd, Kind, IsShort, IsFirst, most_depth}
-use Rattle.pl_tokens.specs.Text.{start, Read}
+use Rattle.pl_syntax.specs.Text.{start, Read}
 
 -- the version of the language that a file names, its statements, and where the file ends
 pub record Parsed : Type 0 where

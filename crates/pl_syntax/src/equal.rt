@@ -14,8 +14,8 @@ ghost use Rattle.std.specs.Cmp.Lexicographic.{nat_list_eq_equiv};
 
 use crate::script::{Script, Statement};
 use crate::tree::{Arg, ArgList, Expr, ExprNode};
+use crate::word::Word;
 use pl_grammar::{BinarySign, PrefixSign};
-use pl_tokens::Word;
 
 fn same_words(a: &Word, b: &Word) -> bool
     ensures { (result ≡ true) ↔ (a.now ≡ b.now) }

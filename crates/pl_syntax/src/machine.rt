@@ -7,16 +7,17 @@ ghost use Rattle.pl_grammar.specs.Tree.{mark};
 ghost use Rattle.pl_syntax.specs.Plain.{plain};
 ghost use Rattle.pl_syntax.specs.Open.{open_in};
 ghost use Rattle.pl_syntax.specs.Frames.{frame_of, call_of, mode_of, shown, shown_callee, callee_of, args_list, Moves};
-ghost use Rattle.pl_tokens.specs.Code.{token_of};
+ghost use Rattle.pl_syntax.specs.Code.{token_of};
 ghost use Rattle.pl_syntax.specs.declared.machine.MoveError.TheVariants.{Memory};
 
 use crate::stack::{
     Called, Callee, Frame, Stack, frame_level_of, is_ended, left_level_of, level_of,
     prefix_level_of,
 };
+use crate::token::Token;
 use crate::tree::{Arg, ArgList, Expr, ExprNode};
+use crate::word::Word;
 use pl_grammar::{BinarySign, Place, PrefixSign};
-use pl_tokens::{Token, Word};
 use std::alloc::{AllocError, AllocFailed, Global};
 
 /// The state of the machine.

@@ -6,9 +6,9 @@ ghost use Rattle.pl_grammar.specs.Tree.{mark};
 ghost use Rattle.pl_grammar.specs.Script.{is_known, script_finish, token_version, version_or};
 ghost use Rattle.pl_grammar.specs.Script as g;
 ghost use Rattle.pl_grammar.specs.Whole.{are_sound};
-ghost use Rattle.pl_tokens.specs.Sound.{is_written};
+ghost use Rattle.pl_syntax.specs.Sound.{is_written};
 ghost use Rattle.pl_grammar.specs.Faults.{Kind, counted};
-ghost use Rattle.pl_tokens.specs.Code.{token_of};
+ghost use Rattle.pl_syntax.specs.Code.{token_of};
 ghost use Rattle.pl_syntax.specs.Spells.{Parsed, Spells, FirstFault, OneScriptSpelled};
 ghost use Rattle.pl_syntax.specs.Said.{TextsSay};
 ghost use Rattle.pl_syntax.specs.Scripts.{parsed, printed_text};
@@ -22,8 +22,9 @@ use crate::machine::MoveError;
 use crate::progress::{Progress, count_with, is_too_large};
 use crate::script::Script;
 use crate::stage::{Stage, depth_in, stage_after, version_with};
+use crate::text::{Next, Text};
+use crate::token::Token;
 use pl_grammar::Place;
-use pl_tokens::{Next, Text, Token};
 use std::alloc::Global;
 
 /// The most bytes of a pipeline file.

@@ -2,10 +2,10 @@
 
 ghost use Rattle.std.specs.Prelude.{◌≡◌, ◌≤◌, ◌<◌};
 ghost use Rattle.pl_grammar.specs.Faults.{most_tokens, token_too_large, token_counted};
-ghost use Rattle.pl_tokens.specs.Code.{token_of};
+ghost use Rattle.pl_syntax.specs.Code.{token_of};
 
 use crate::stage::Stage;
-use pl_tokens::Token;
+use crate::token::Token;
 
 // Where the reader stands, how many tokens of its statement have come, and which version was named, 0 for
 // none.

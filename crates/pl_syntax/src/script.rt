@@ -3,13 +3,13 @@
 ghost use Rattle.std.specs.Prelude.{◌≡◌, true, IsTrue};
 ghost use Rattle.pl_grammar.specs.Script.{is_known};
 ghost use Rattle.pl_grammar.specs.Whole.{are_sound};
-ghost use Rattle.pl_tokens.specs.Sound.{is_written};
+ghost use Rattle.pl_syntax.specs.Sound.{is_written};
 ghost use Rattle.pl_syntax.specs.Statements.{statement_of, statements_of, head_of};
 ghost use Rattle.pl_syntax.specs.Plain.{plain};
 
 use crate::tree::Expr;
+use crate::word::Word;
 use pl_grammar::Place;
-use pl_tokens::Word;
 
 /// A statement. Its place is that of its NAME, or of `screen`.
 #[derive(Drop, Debug)]

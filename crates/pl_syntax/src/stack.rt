@@ -6,8 +6,8 @@ ghost use Rattle.pl_grammar.specs.Machine.{ends, frame_level, asked, depth};
 ghost use Rattle.pl_syntax.specs.Frames.{frame_of, frames_of};
 
 use crate::tree::{Arg, Expr};
+use crate::word::Word;
 use pl_grammar::{BinarySign, Place, PrefixSign};
-use pl_tokens::Word;
 use std::alloc::{AllocError, Global};
 
 /// What a list of arguments belongs to.

@@ -5,7 +5,7 @@ ghost use Rattle.pl_grammar.specs.Tree.{mark};
 ghost use Rattle.pl_grammar.specs.Machine.{finished, operand, move, at};
 ghost use Rattle.pl_grammar.specs.Script.{token_version, version_of, version_or, opening_move, version_move, given_move, between_move, name_move, assign_head, ended, within_move, script_move, stage_depth, LetHead, ColumnHead};
 ghost use Rattle.pl_grammar.specs.Script as g;
-ghost use Rattle.pl_tokens.specs.Code.{token_of};
+ghost use Rattle.pl_syntax.specs.Code.{token_of};
 ghost use Rattle.pl_syntax.specs.Frames.{mode_of};
 ghost use Rattle.pl_syntax.specs.Open.{open_in};
 ghost use Rattle.pl_syntax.specs.Statements.{statement_of, statements_of, head_of};
@@ -14,9 +14,9 @@ ghost use Rattle.pl_syntax.specs.Stages.{stage_of, StageMoves, Finishes};
 use crate::machine::{Mode, MoveError, end_constructs, moved, operand_of};
 use crate::script::{Head, Statement, stated};
 use crate::stack::Stack;
+use crate::token::Token;
 use crate::tree::Expr;
 use pl_grammar::Place;
-use pl_tokens::Token;
 use std::alloc::{AllocError, Global};
 
 /// The state of the reader of a script.

@@ -3,8 +3,8 @@
 ghost use Rattle.std.specs.Prelude.{◌≡◌};
 ghost use Rattle.pl_syntax.specs.Rows.{args_of};
 
+use crate::word::Word;
 use pl_grammar::{BinarySign, Place, PrefixSign};
-use pl_tokens::Word;
 
 /// An expression, at the place of its token: the operator; the NAME of a call or member; the literal or
 /// name itself.

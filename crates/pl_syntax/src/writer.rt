@@ -7,7 +7,7 @@ ghost use Rattle.pl_spec.specs.Dates.{digits};
 ghost use Rattle.pl_spec.specs.Decimals.{point_text};
 ghost use Rattle.pl_grammar.specs.Printed.{tree_level};
 ghost use Rattle.pl_grammar.specs.Script.{is_known};
-ghost use Rattle.pl_tokens.specs.Numerals.{is_zero, trimmed, number_text};
+ghost use Rattle.pl_syntax.specs.Numerals.{is_zero, trimmed, number_text};
 ghost use Rattle.pl_syntax.specs.Canonical.{comma_text, prefix_text, binary_text, open_text, close_text, placed_text, name_text, tree_text, args_text, head_text, statement_text, version_text};
 ghost use Rattle.pl_syntax.specs.Plain.{plain, args_tree};
 ghost use Rattle.pl_syntax.specs.Statements.{statement_of};
@@ -18,9 +18,9 @@ ghost use Rattle.pl_syntax.specs.Laws.{ScriptsAreSpelled};
 use crate::script::{Script, Statement};
 use crate::stack::{left_level_of, level_of, prefix_level_of, right_level_of};
 use crate::tree::{ArgList, Expr, ExprNode};
+use crate::word::Word;
 use pl_fixed::Memory;
 use pl_grammar::{BinarySign, PrefixSign};
-use pl_tokens::Word;
 use std::alloc::{AllocError, Global};
 
 fn put(out: &mut Vec<u8>, bytes: &[u8]) -> Result<(), AllocError>
@@ -142,7 +142,7 @@ fn trimmed_digits(digits: &[u8]) -> &[u8]
 }
 
 // A number of millionths.
-#[tactic(auto, unfolding(pl_tokens::specs::Numerals::number_text, pl_tokens::specs::Numerals::fraction_of))]
+#[tactic(auto, unfolding(pl_syntax::specs::Numerals::number_text, pl_syntax::specs::Numerals::fraction_of))]
 fn put_number(value: i64, out: &mut Vec<u8>) -> Result<(), AllocError>
     ensures { OnOk result (out.new.items ≡ out.old.items ++ number_text value) }
 {

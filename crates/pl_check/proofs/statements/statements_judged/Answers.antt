@@ -3,7 +3,7 @@ use Rattle.std.proofs.lemmas.List.{drop_all}
 use Rattle.std.proofs.lemmas.Result.{IfOk-at_ok}
 use Rattle.pl_syntax.specs.Statements.{statement_of, statements_of}
 use Rattle.pl_grammar.specs.Whole.{are_sound}
-use Rattle.pl_tokens.specs.Sound.{is_written}
+use Rattle.pl_syntax.specs.Sound.{is_written}
 use Rattle.pl_check.specs.Answers.{Fails}
 use Rattle.pl_check.specs.Judging.{judged_of}
 use Rattle.pl_check.specs.Standing.{JudgedIsSound}

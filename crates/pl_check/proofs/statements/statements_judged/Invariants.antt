@@ -1,7 +1,7 @@
 use Rattle.std.proofs.Common.{◌≡◌, true, drop}
 use Rattle.pl_syntax.specs.Statements.{statements_of}
 use Rattle.pl_grammar.specs.Whole.{are_sound}
-use Rattle.pl_tokens.specs.Sound.{is_written}
+use Rattle.pl_syntax.specs.Sound.{is_written}
 use Rattle.pl_check.specs.Judging.{judged_of}
 use Rattle.pl_check.specs.Typed.{statements_judged}
 use Rattle.pl_check.specs.Standing.{JudgedIsSound}

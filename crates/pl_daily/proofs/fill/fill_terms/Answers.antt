@@ -1,6 +1,6 @@
 use Rattle.std.proofs.Common.{◌++◌, List, length, take, drop, ap, sym, subst, ◌∙◌}
-use Rattle.pl_rings.specs.Days.{FedDay}
-use Rattle.pl_rings.proofs.Advances.{vec_back}
+use Rattle.pl_daily.specs.Days.{FedDay}
+use Rattle.pl_daily.proofs.Advances.{vec_back}
 use Rattle.pl_daily.specs.declared.term_day.TermCells.{TermCells}
 use Rattle.pl_daily.specs.declared.starts.StartCells.{StartCells}
 use Rattle.pl_daily.specs.Terms.{AreStarts, AreTerms, FollowTerms, IsPlaced, assets_at, pipeline_at, rooms}

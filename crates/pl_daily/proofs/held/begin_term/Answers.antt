@@ -3,8 +3,8 @@ use Rattle.std.proofs.lemmas.List.{length-replicate}
 use Rattle.std.proofs.lemmas.Int.{to_z-of_z}
 use Rattle.circular_buffer.specs.Buffer.{buffer}
 use Rattle.pl_spec.specs.Rounding.{IsCell}
-use Rattle.pl_rings.specs.Changes.{AreRings}
-use Rattle.pl_rings.proofs.Full.{all_one}
+use Rattle.pl_daily.specs.Changes.{AreRings}
+use Rattle.pl_daily.proofs.Full.{all_one}
 use Rattle.pl_daily.proofs.DayByDay.{begin_term}
 use Rattle.pl_daily.proofs.held.begin_term.Goals as goal
 

@@ -1,7 +1,7 @@
 use Rattle.std.proofs.Common.{length, drop, get_or, pos, ap, sym, refl, ◌∙◌, arith, subst, List, All}
 use Rattle.pl_spec.specs.Rounding.{IsCell}
-use Rattle.pl_rings.specs.Changes.{Ring, AreRings, pushed, ring_at}
-use Rattle.pl_rings.proofs.Advances.{vec_back, rings_pushed}
+use Rattle.pl_daily.specs.Changes.{Ring, AreRings, pushed, ring_at}
+use Rattle.pl_daily.proofs.Advances.{vec_back, rings_pushed}
 use Rattle.pl_daily.proofs.DayByDay.{follow_term}
 use Rattle.pl_daily.proofs.held.put_term.Goals as goal
 

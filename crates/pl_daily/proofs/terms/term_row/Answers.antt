@@ -4,7 +4,7 @@ use Rattle.pl_spec.specs.Rounding.{IsCell}
 use Rattle.pl_terms.specs.Nodes.{node_of}
 use Rattle.pl_terms.proofs.Graphs.{graph-at}
 use Rattle.pl_planner.proofs.Pipelines.{is-pipeline}
-use Rattle.pl_rings.proofs.Advances.{vec_back}
+use Rattle.pl_daily.proofs.Advances.{vec_back}
 use Rattle.pl_daily.specs.Terms.{IsRowOf, pipeline_at}
 use Rattle.pl_daily.proofs.Placed.{cells_at, moment_of, row_at, stands_at}
 use Rattle.pl_daily.proofs.terms.term_row.Goals as goal

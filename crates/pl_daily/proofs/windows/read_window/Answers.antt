@@ -5,8 +5,8 @@ use Rattle.circular_buffer.specs.Buffer.{keep_last}
 use Rattle.pl_pipeline.specs.Term.{Input, Node}
 use Rattle.pl_pipeline.specs.Term.Input.{BarColumn, TermInput}
 use Rattle.pl_terms.specs.Nodes.{input_of}
-use Rattle.pl_rings.specs.Changes.{Ring}
-use Rattle.pl_rings.specs.declared.columns.BarRings.{BarRings}
+use Rattle.pl_daily.specs.Changes.{Ring}
+use Rattle.pl_daily.specs.declared.columns.BarRings.{BarRings}
 use Rattle.pl_daily.specs.declared.term_day.TermCells.{TermCells}
 use Rattle.pl_daily.specs.Rows.{ring_window}
 use Rattle.pl_daily.specs.TermDays.{node_at}

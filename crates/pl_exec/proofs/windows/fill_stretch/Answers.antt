@@ -1,6 +1,6 @@
 use Rattle.std.proofs.Common.{◌≡◌, ◌-◌, ◌∙◌, ap, length, subst, sym}
 use Rattle.pl_terms.specs.Kinds.{kind_of}
-use Rattle.pl_running.specs.Lanes.{AreValues, TakesLanes}
+use Rattle.pl_factors.specs.Lanes.{AreValues, TakesLanes}
 use Rattle.pl_exec.specs.declared.term_session.TermSession.{TermSession}
 use Rattle.pl_exec.specs.ChunkInputs.{IsLentReach, node_at, node_in}
 use Rattle.pl_exec.proofs.Stretches.{lanes_taken, stretch_given}

@@ -1,7 +1,7 @@
 use Rattle.std.proofs.Common.{◌*◌, ◌+◌, pos, get_or}
 use Rattle.pl_spec.specs.Rounding.{LIMIT}
 use Rattle.pl_factors.specs.Terms.{swing}
-use Rattle.pl_factors.proofs.Sums.{IsTermSum}
+use Rattle.pl_factors.proofs.Totals.{IsTermSum}
 use Rattle.pl_factors.proofs.changes.total_swings.Given as goal
 
 abbrev pub invariant-loop-at : goal.invariant-loop-at

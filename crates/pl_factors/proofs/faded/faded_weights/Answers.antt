@@ -5,7 +5,7 @@ use Rattle.std.proofs.lemmas.List.{drop_all}
 use Rattle.pl_spec.specs.Rounding.{MILLION, div_round, IsCell}
 use Rattle.pl_pipeline.specs.Formula.{faded}
 use Rattle.pl_spec.specs.Cells.{total}
-use Rattle.pl_factors.proofs.Sums.{terms-begin, terms-next, terms-end}
+use Rattle.pl_factors.proofs.Totals.{terms-begin, terms-next, terms-end}
 use Rattle.pl_factors.proofs.FadedLemmas.{weights-sum, weights-cells, weights-more, weights-all}
 use Rattle.pl_factors.proofs.faded.faded_weights.Goals as goal
 

@@ -2,7 +2,7 @@ use Rattle.std.proofs.Common.{◌≡◌, ◌≤◌, ◌-◌, pos, length, drop, 
 use Rattle.pl_spec.specs.Rounding.{MILLION}
 use Rattle.pl_pipeline.specs.Formula.{faded}
 use Rattle.pl_spec.specs.Window.{downward}
-use Rattle.pl_factors.proofs.Sums.{IsTermSum}
+use Rattle.pl_factors.proofs.Totals.{IsTermSum}
 use Rattle.pl_factors.proofs.faded.faded_weights.Given as goal
 
 abbrev pub invariant-loop-back : goal.invariant-loop-back

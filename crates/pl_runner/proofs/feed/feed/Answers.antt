@@ -1,14 +1,14 @@
 use Rattle.std.proofs.Common.{rules, ◌≡◌, ◌≤◌, ◌+◌, ◌∙◌, ap, arith, drop, length, sym, subst, ℕ, List, pos, map, w32, FitsSigned, to_z, of_z}
 use Rattle.std.proofs.lemmas.Int.{to_z-of_z}
 use Rattle.std.proofs.lemmas.Option.{get_or_from_slice_get}
-use Rattle.pl_rings.specs.Changes.{column_event}
-use Rattle.pl_rings.specs.Days.{FedDay}
+use Rattle.pl_daily.specs.Changes.{column_event}
+use Rattle.pl_daily.specs.Days.{FedDay}
 use Rattle.pl_daily.specs.Daily.{day_work}
 use Rattle.pl_runner.specs.Days.{day_at, fed_days}
 use Rattle.pl_runner.specs.Feeds.{session_work}
 use Rattle.pl_pipeline.specs.Table.{Pipeline}
 use Rattle.pl_table.specs.Asked.{asked_pipeline, asked_world}
-use Rattle.pl_rings.proofs.Advances.{vec_back}
+use Rattle.pl_daily.proofs.Advances.{vec_back}
 use Rattle.pl_runner.proofs.Sessions.{news-are, next-fed, next-follows, next-later}
 use Rattle.pl_runner.proofs.Work.{day-work}
 use Rattle.pl_runner.proofs.feed.feed.Goals as goal

@@ -1,7 +1,7 @@
 use Rattle.std.proofs.Common.{rules, ◌-◌, ◌++◌, ◌∷◌, [], ◌∙◌, ap, map, sym, arith, List}
 use Rattle.std.specs.List.{range_with_len}
 use Rattle.std.proofs.lemmas.List.FromFn.{map-range_with_len_more}
-use Rattle.pl_rings.specs.declared.day.DayBar.{DayBar}
+use Rattle.pl_daily.specs.declared.day.DayBar.{DayBar}
 use Rattle.pl_runner.specs.Days.{bar_at}
 use Rattle.pl_runner.proofs.news.fill_bars.Goals as goal
 

@@ -1,5 +1,5 @@
 use Rattle.std.proofs.Common.{◌≡◌, ◌≤◌, length, map, vec_len, vec_capacity}
-use Rattle.pl_rings.specs.Changes.{column_event}
+use Rattle.pl_daily.specs.Changes.{column_event}
 use Rattle.pl_runner.specs.Days.{events_due}
 use Rattle.pl_runner.proofs.news.fill_events.Given as goal
 

@@ -2,8 +2,8 @@ use Rattle.std.proofs.Common.{◌∙◌, ap, map, arith}
 use Rattle.pl_runner.specs.Days.{in_col}
 use Rattle.pl_adjust.specs.Events.{event_of}
 use Rattle.pl_adjust.specs.declared.adjust.Adjust.{Adjust}
-use Rattle.pl_rings.specs.declared.day.DayEvent.{DayEvent}
-use Rattle.pl_rings.specs.Changes.{column_event}
+use Rattle.pl_daily.specs.declared.day.DayEvent.{DayEvent}
+use Rattle.pl_daily.specs.Changes.{column_event}
 use Rattle.pl_runner.proofs.Puts.{event-more}
 use Rattle.pl_runner.proofs.news.put_events.Goals as goal
 

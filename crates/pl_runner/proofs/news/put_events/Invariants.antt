@@ -1,6 +1,6 @@
 use Rattle.std.proofs.Common.{◌≡◌, ◌≤◌, ◌+◌, ◌++◌, map, take, vec_len, vec_capacity}
 use Rattle.pl_adjust.specs.Events.{event_of}
-use Rattle.pl_rings.specs.Changes.{column_event}
+use Rattle.pl_daily.specs.Changes.{column_event}
 use Rattle.pl_runner.specs.Days.{in_col}
 use Rattle.pl_runner.proofs.news.put_events.Given as goal
 

@@ -1,8 +1,8 @@
 use Rattle.std.proofs.Common.{◌≤◌, List, length}
 use Rattle.pl_grammar.specs.Tree.{Lexeme}
 use Rattle.pl_grammar.specs.Faults.{Tail, most_tokens}
-use Rattle.pl_tokens.specs.Text.{Read}
-use Rattle.pl_tokens.specs.Code.{HasRoom}
+use Rattle.pl_syntax.specs.Text.{Read}
+use Rattle.pl_syntax.specs.Code.{HasRoom}
 use Rattle.pl_syntax.specs.Stages.{stage_of}
 use Rattle.pl_syntax.proofs.Verdicts.{Continues}
 use Rattle.pl_syntax.proofs.parser.read_all.Given as goal

@@ -1,6 +1,6 @@
 use Rattle.std.proofs.Common.{◌≡◌, subst, sym, ◌∙◌, ap, rules, arith}
 use Rattle.pl_terms.specs.Checked.{IsChecked}
-use Rattle.pl_rings.specs.Days.{IsLaterThan}
+use Rattle.pl_daily.specs.Days.{IsLaterThan}
 use Rattle.pl_daily.specs.Daily.{Held, last_of}
 use Rattle.pl_daily.specs.Steps.{IsMidway}
 use Rattle.pl_daily.proofs.Taken.{few, handed_in, midway, next_of, stands_on}

@@ -1,7 +1,7 @@
 use Rattle.std.proofs.Common.{◌≡◌, ◌<◌, length, subst, sym, ◌∙◌, ap, arith, refl, All}
 use Rattle.std.proofs.lemmas.List.{length-replicate}
 use Rattle.pl_terms.specs.Checked.{pipeline_of}
-use Rattle.pl_rings.specs.Columns.{AreBarRings, BeginColumns}
+use Rattle.pl_daily.specs.Columns.{AreBarRings, BeginColumns}
 use Rattle.pl_daily.specs.Room.{AreBegun, AreBegunStarts, IsRoom, no_session}
 use Rattle.pl_daily.proofs.Begun.{columns_fit, stands_first, starts_are, terms_are}
 use Rattle.pl_daily.proofs.daily.Daily.begin.Goals as goal

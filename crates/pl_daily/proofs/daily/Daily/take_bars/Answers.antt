@@ -1,6 +1,6 @@
 use Rattle.std.proofs.Common.{◌≡◌, ◌+◌, length, subst, ap, sym, ◌∙◌}
-use Rattle.pl_rings.specs.Columns.{AreBarRings, FollowColumns}
-use Rattle.pl_rings.specs.Changes.{IsHandedIn}
+use Rattle.pl_daily.specs.Columns.{AreBarRings, FollowColumns}
+use Rattle.pl_daily.specs.Changes.{IsHandedIn}
 use Rattle.pl_terms.specs.Checked.{pipeline_of}
 use Rattle.pl_daily.specs.Daily.{Held, day_work}
 use Rattle.pl_daily.proofs.Worked.{terms_stay, work_is}

@@ -4,7 +4,7 @@ use Rattle.pl_spec.specs.Parts.{sid_at}
 use Rattle.pl_pipeline.specs.Table.{in_array, value_of}
 use Rattle.pl_terms.specs.Checked.{columns_of}
 use Rattle.pl_terms.proofs.Graphs.{columns-long}
-use Rattle.pl_rings.specs.Days.{last_session}
+use Rattle.pl_daily.specs.Days.{last_session}
 use Rattle.pl_daily.specs.Daily.{Held, HasBeenFed, world_in}
 use Rattle.pl_daily.proofs.Shown.{col_row, is_cell, is_value, term_in}
 use Rattle.pl_daily.proofs.daily.Daily.value.Goals as goal

@@ -1,8 +1,0 @@
-pub mod PartsWorld
-pub mod Fed
-pub mod Moves
-pub mod Cells
-pub mod Advances
-pub mod Beginning
-pub mod Full
-pub mod Ends

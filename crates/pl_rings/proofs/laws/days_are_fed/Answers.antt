@@ -1,5 +1,0 @@
-use Rattle.pl_rings.proofs.Moves.{days_are_fed}
-use Rattle.pl_rings.proofs.laws.days_are_fed.Goals as goal
-
-pub returns : goal.returns
-returns c = days_are_fed

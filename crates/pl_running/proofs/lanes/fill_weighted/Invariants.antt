@@ -1,5 +1,0 @@
-use Rattle.pl_running.specs.Lanes.{AreGiven, weighted_at}
-use Rattle.pl_running.proofs.lanes.fill_weighted.Given as goal
-
-abbrev pub invariant-loop-k : goal.invariant-loop-k
-invariant-loop-k l = AreGiven (weighted_at l.weights l.a) l.k l.out

@@ -1,4 +1,0 @@
-pub mod Kept
-pub mod Lanes
-pub mod Laws
-pub mod Spans

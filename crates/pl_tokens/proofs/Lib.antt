@@ -1,7 +1,0 @@
-pub mod Longest
-pub mod Numbers
-pub mod Bad
-pub mod Reading
-pub mod Steps
-pub mod Written
-pub mod Shows

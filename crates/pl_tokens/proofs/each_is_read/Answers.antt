@@ -1,5 +1,0 @@
-use Rattle.pl_tokens.proofs.Reading.{is_read}
-use Rattle.pl_tokens.proofs.each_is_read.Goals as goal
-
-pub returns : goal.returns
-returns c = λ p bs. let r = is_read p bs in (r.tokens, r.tail, r.reads)
