@@ -10,7 +10,7 @@ use crate::adjust::Adjust;
 use std::alloc::{AllocError, Global};
 
 // An adjustment of the asset in a column.
-#[derive(Clone, Copy, Debug)]
+#[derive(Clone, Copy)]
 pub(crate) struct Row {
     pub(crate) col: usize,
     pub(crate) adjust: Adjust,

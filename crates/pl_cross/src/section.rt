@@ -8,7 +8,7 @@ use pl_pipeline::{RankMethod, RankOrder};
 use pl_terms::TermKind;
 
 /// What is computed over a session's assets. The bounds of `PercentileBetween` are hundredths of a percent.
-#[derive(Clone, Copy, Debug, PartialEq, Eq)]
+#[derive(Clone, Copy, PartialEq, Eq)]
 pub(crate) enum Section {
     Rank {
         method: RankMethod,

@@ -11,7 +11,7 @@ use pl_terms::Input;
 
 /// What a line of a derivation is about: the bar of a session of an asset as it is seen on a later session,
 /// or the value of a term for an asset on a session. Sessions are counted from 0.
-#[derive(Clone, Copy, Debug)]
+#[derive(Clone, Copy)]
 pub(crate) enum Fact {
     Seen {
         column: Column,

@@ -17,7 +17,7 @@ use std::simd::prelude::*;
 
 /// What is done with the two values of a place: they are compared; both are asked to be true, or one of them;
 /// or one is chosen, by a filter.
-#[derive(Clone, Copy, Debug)]
+#[derive(Clone, Copy)]
 pub(crate) enum Kernel<'a> {
     Compares(Compare),
     Joins { both: bool },

@@ -12,7 +12,7 @@ use std::alloc::{AllocError, Global};
 const MOST_TAKEN: usize = 260;
 
 /// The slots of the values of a term, and of its bar columns while it is computed.
-#[derive(Clone, Copy, Debug)]
+#[derive(Clone, Copy)]
 pub(crate) struct TermSlots {
     pub(crate) own: usize,
     pub(crate) columns: [usize; 3],

@@ -17,7 +17,7 @@ use pl_terms::{Checked, Input, Node, TermId, frequency_of};
 use std::alloc::{AllocError, Global};
 
 /// What the used terms ask of a term.
-#[derive(Clone, Copy, Debug)]
+#[derive(Clone, Copy)]
 pub(crate) struct Use {
     pub(crate) used: bool,
     /// So many sessions before the session.

@@ -7,7 +7,7 @@ ghost use Rattle.pl_spec.specs.Names.{is_digit, starts_word, is_word_byte};
 ghost use Rattle.pl_syntax.specs.Front.{fraction_behind, text_end, sign_front, word_front, front};
 
 /// The form of a token, with its lengths in bytes.
-#[derive(Clone, Copy, Debug)]
+#[derive(Clone, Copy)]
 pub(crate) enum Form {
     Word(usize),
     /// The digits, and the digits after a point, 0 where there is no point.
@@ -20,7 +20,7 @@ pub(crate) enum Form {
 }
 
 /// What is at the front of a text that begins with no gap.
-#[derive(Clone, Copy, Debug)]
+#[derive(Clone, Copy)]
 pub(crate) enum Found {
     End,
     /// The byte at this index begins or continues no token.
