@@ -63,3 +63,10 @@ returns-clause-session c =
     let fits : FitsSigned w32 c.args.request.now.date.day = search rules in
     let session = simp to_z-of_z at c.in-Some.ensures.exact in
     sym session
+
+pub returns-clause-reach : goal.returns-clause-reach
+returns-clause-reach c =
+    let fits : FitsSigned w64 c.in_ok-reach.reach = search rules in
+    let reach : c.in_ok-reach.reach ≡ term_reach c.args.sessions.now (pipeline_of c.args.checked.now) c.in-Some-term_of.term.0 c.in-Some.session = c.in_ok-reach.ensures in
+    let behind = is-late c.in_ok-reach.reach (simp to_z-of_z at c.if-reach-lt0.false) in
+    rw reach at behind

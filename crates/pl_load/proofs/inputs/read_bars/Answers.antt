@@ -4,8 +4,13 @@ use Rattle.pl_words.specs.declared.request.InputFile.TheVariants as files
 use Rattle.pl_load.specs.Rules.{bars_fault}
 use Rattle.pl_load.specs.Work.{bars_rule}
 use Rattle.pl_load.specs.Held.{bars_in}
-use Rattle.pl_load.proofs.FileReads.{read-passes, read-stops, reader-tells}
+use Rattle.pl_load.proofs.FileReads.{read-passes, read-stops, read-fails, reader-tells}
 use Rattle.pl_load.proofs.inputs.read_bars.Goals as goal
+
+pub returns-in_err-bytes-clause-read : goal.returns-in_err-bytes-clause-read
+returns-in_err-bytes-clause-read g c =
+    let p = err_from_is_err_and c.from_residual.result c.from_residual.ensures.1 in
+    rw (p.1, p.2) (read-fails files.Bars (bars_rule c.args.sessions.now c.args.assets.now) _ _ c.in_err-bytes.ensures.read)
 
 pub returns-in_err-read-clause-read : goal.returns-in_err-read-clause-read
 unfolding bars_rule

@@ -3,9 +3,14 @@ use Rattle.std.proofs.lemmas.Result.{err_from_is_err_and}
 use Rattle.pl_words.specs.declared.request.InputFile.TheVariants as files
 use Rattle.pl_load.specs.Work.{lines_rule}
 use Rattle.pl_load.specs.Held.{derivation_in}
-use Rattle.pl_load.proofs.FileReads.{read-passes, read-stops}
+use Rattle.pl_load.proofs.FileReads.{read-passes, read-stops, read-fails}
 use Rattle.pl_load.proofs.DerivationReads.{lines-tell}
 use Rattle.pl_load.proofs.inputs.read_derivation.Goals as goal
+
+pub returns-in_err-bytes : goal.returns-in_err-bytes
+returns-in_err-bytes g c =
+    let p = err_from_is_err_and c.from_residual.result c.from_residual.ensures.1 in
+    rw (p.1, p.2) (read-fails files.Derivation lines_rule _ _ c.in_err-bytes.ensures.read)
 
 pub returns-in_err-read_lines : goal.returns-in_err-read_lines
 unfolding lines_rule

@@ -6,9 +6,14 @@ use Rattle.pl_syntax.proofs.TextsSaid.{spells-said}
 use Rattle.pl_words.specs.declared.request.InputFile.TheVariants as files
 use Rattle.pl_load.specs.Held.{script_in}
 use Rattle.pl_load.specs.Work.{syntax_rule}
-use Rattle.pl_load.proofs.FileReads.{read-passes, read-stops}
+use Rattle.pl_load.proofs.FileReads.{read-passes, read-stops, read-fails}
 use Rattle.pl_load.proofs.ScriptReads.{error-tells}
 use Rattle.pl_load.proofs.inputs.read_script.Goals as goal
+
+pub returns-in_err-bytes : goal.returns-in_err-bytes
+returns-in_err-bytes g c =
+    let p = err_from_is_err_and c.from_residual.result c.from_residual.ensures.1 in
+    rw (p.1, p.2) (read-fails files.Pipeline syntax_rule _ _ c.in_err-bytes.ensures.read)
 
 pub returns-in_err-parse : goal.returns-in_err-parse
 returns-in_err-parse g c =

@@ -4,8 +4,13 @@ use Rattle.pl_words.specs.declared.request.InputFile.TheVariants as files
 use Rattle.pl_load.specs.Rules.{sessions_fault}
 use Rattle.pl_load.specs.Work.{sessions_rule}
 use Rattle.pl_load.specs.Held.{days_in}
-use Rattle.pl_load.proofs.FileReads.{read-passes, read-stops, reader-tells}
+use Rattle.pl_load.proofs.FileReads.{read-passes, read-stops, read-fails, reader-tells}
 use Rattle.pl_load.proofs.inputs.read_sessions.Goals as goal
+
+pub returns-in_err-bytes : goal.returns-in_err-bytes
+returns-in_err-bytes g c =
+    let p = err_from_is_err_and c.from_residual.result c.from_residual.ensures.1 in
+    rw (p.1, p.2) (read-fails files.Sessions sessions_rule _ _ c.in_err-bytes.ensures.read)
 
 pub returns-in_err-read : goal.returns-in_err-read
 unfolding sessions_rule

@@ -58,3 +58,16 @@ pub returns-clause-from : goal.returns-clause-from
 returns-clause-from c =
     let fits : FitsSigned w32 c.args.from.now.day = search rules in
     let from = simp to_z-of_z at c.in-Some.ensures.exact in ap (λ o. unwrap_or o 0) from
+
+pub returns-clause-to : goal.returns-clause-to
+returns-clause-to c =
+    let fits : FitsSigned w32 c.args.to.now.day = search rules in
+    let to = simp to_z-of_z at c.in-Some-index_of.ensures.exact in ap (λ o. unwrap_or o 0) to
+
+pub returns-clause-as_of : goal.returns-clause-as_of
+returns-clause-as_of c = c.in_ok-as_of.ensures.session.1
+
+pub returns-in_err-as_of-clause-risen : goal.returns-in_err-as_of-clause-risen
+returns-in_err-as_of-clause-risen c =
+    let p = err_from_is_err_and c.from_residual.result c.from_residual.ensures.1 in
+    rw (p.1, p.2, c.in_err-as_of.ensures.session.1) tt
