@@ -10,7 +10,7 @@ use Rattle.pl_spec.specs.Limits.{saturated}
 use Rattle.pl_planner.specs.Plans.{is_used, last_user, slot_of}
 use Rattle.pl_planner.proofs.Counting.{count_more}
 use Rattle.pl_planner.specs.Slotting.{one}
-use Rattle.pl_workspace.specs.Slots.{Slots, Free, Live, live_count, with_slot}
+use Rattle.pl_workspace.specs.Slots.{Slots, Free, Live, IsLive, live_count, slot_at, with_slot}
 use Rattle.pl_workspace.proofs.Tables.{within}
 use Rattle.pl_exec.specs.Slotted.{AreLive, AreApart, ends_at, left}
 use Rattle.pl_exec.specs.Tasks.{Task, IsArray, graph_in, held_in, kept_in}
@@ -25,6 +25,12 @@ module _ (t : Task) (k u : ℕ) (w : Slots) (low : u < k + 1) (live : AreLive (s
   pub not_released : b ≡ false → AreLive (slot_of t.plan) (IsArray t) (left (is_used t.plan) (last_user t.plan) k (u + 1)) (k + 1) w
   not_released off = live_below (slot_of t.plan) (IsArray t) (left (is_used t.plan) (last_user t.plan) k u) (left (is_used t.plan) (last_user t.plan) k (u + 1)) (k + 1) w
       (λ j h. left_same (is_used t.plan) (last_user t.plan) k u (λ x y. true≢false (sym (and_from _ _ x y) ∙ sym is ∙ off)) j) live
+
+  pub still_live : b ≡ true → (s : ℕ) → s ≡ slot_of t.plan u → IsLive (slot_at w s)
+  still_live on s slot =
+      let so = sym is ∙ on in
+      let h = live.held u low (left_was (is_used t.plan) (last_user t.plan) k u (first_so (is_used t.plan u) (ends_at (last_user t.plan u) k) so) (second_so (is_used t.plan u) (ends_at (last_user t.plan u) k) so)) in
+      (h.cells, ap (slot_at w) slot ∙ h.is)
 
   module _ (on : b ≡ true) (s : ℕ) (slot : s ≡ slot_of t.plan u) (v : Slots) (gone : v ≡ with_slot w s Free) where
     used : is_used t.plan u ≡ true

@@ -1,13 +1,13 @@
-use Rattle.std.proofs.Common.{ap, ◌∙◌, arith, length}
+use Rattle.std.proofs.Common.{ap, ◌∙◌, arith, get_or, length}
 use Rattle.pl_pipeline.specs.Graph.{columns_at}
 use Rattle.pl_planner.specs.Plans.{slot_of}
-use Rattle.pl_workspace.specs.Slots.{Slots, Free, Begun, Live, slot_at, with_slot}
+use Rattle.pl_workspace.specs.Slots.{Slots, Free, Begun, Live, live_count, slot_at, with_slot}
 use Rattle.pl_exec.specs.Tasks.{IsArray, graph_in, kept_in}
 use Rattle.pl_exec.specs.ChunkInputs.{task_of}
 use Rattle.pl_exec.proofs.Mentions.{own_free, run_begun, columns_free, slot_within, own_kept, apart_at}
 use Rattle.pl_exec.proofs.Releases.{few_columns}
 use Rattle.pl_exec.proofs.Living.{one_more}
-use Rattle.pl_exec.proofs.Trips.{long, now_used, stay_peak}
+use Rattle.pl_exec.proofs.Trips.{long, now_used, stay_peak, there}
 use Rattle.pl_exec.proofs.chunk.add_term.Goals as goal
 
 pub begin-own-requires : goal.begin-own-requires
@@ -18,6 +18,32 @@ compute-filled-requires-clause-run g c = run_begun (task_of c.args.chunk.now) c.
 
 pub compute-filled-requires-clause-free : goal.compute-filled-requires-clause-free
 compute-filled-requires-clause-free g c = columns_free (task_of c.args.chunk.now) c.requires.chunk.task c.args.workspace.now c.args.term.0 c.requires.live c.requires.used c.requires.slots c.begin-own.new.self (c.begin-own.ensures.changed ∙ ap (λ s. with_slot c.args.workspace.now s Begun) c.slot-slot.ensures.value) (few_columns (graph_in (task_of c.args.chunk.now)) c.requires.chunk.task.checked.graph c.args.term.0)
+
+pub compute-filled-requires-clause-counted : goal.compute-filled-requires-clause-counted
+compute-filled-requires-clause-counted g c =
+    let peak = ap (λ (x : Slots). x.peak) c.begin-own.ensures.changed in
+    let live = ap (λ (x : Slots). live_count x.slots) c.begin-own.ensures.changed in
+    omega (arith, peak, live)
+
+pub compute-filled-requires-clause-columns : goal.compute-filled-requires-clause-columns
+compute-filled-requires-clause-columns g c = λ some.
+    let room = c.requires.room.columns c.args.term.0 c.requires.used some in
+    let len = ap (λ (x : Slots). x.len) c.begin-own.ensures.changed in
+    omega (arith, room, len)
+
+pub compute-filled-requires-clause-room : goal.compute-filled-requires-clause-room
+compute-filled-requires-clause-room g c = let room = c.requires.room.terms c.args.term.0 c.requires.used in omega (arith, room, c.begin-own.ensures.cells)
+
+pub finish-requires-clause-within : goal.finish-requires-clause-within
+finish-requires-clause-within g c =
+    let begun = long c.args.workspace.now c.begin-own.new.self _ _ c.begin-own.ensures.changed in
+    let same = ap (λ l. length l) c.compute-filled.ensures.filled.slots in
+    omega (arith, begun, same, c.slot-slot.ensures.within, c.requires.slots)
+
+pub finish-requires-clause-begun : goal.finish-requires-clause-begun
+finish-requires-clause-begun g c =
+    ap (λ l. get_or l c.slot-slot.result Begun) c.compute-filled.ensures.filled.slots
+    ∙ there c.args.workspace.now c.begin-own.new.self c.slot-slot.result Begun c.begin-own.ensures.changed (omega (arith, c.slot-slot.ensures.within, c.requires.slots))
 
 pub returns-clause-live : goal.returns-clause-live
 returns-clause-live g c =

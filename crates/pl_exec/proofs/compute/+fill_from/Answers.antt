@@ -1,10 +1,14 @@
-use Rattle.std.proofs.Common.{◌≡◌, ◌<◌, refl, ap, ◌∙◌, subst, arith, length}
+use Rattle.std.proofs.Common.{◌≡◌, ◌<◌, refl, ap, sym, ◌∙◌, subst, arith, length}
+use Rattle.std.specs.List.{length_refill}
 use Rattle.pl_planner.specs.Plans.{column_slot}
 use Rattle.pl_workspace.specs.Slots.{Slots}
 use Rattle.pl_exec.specs.Filling.{node_for, task_for}
 use Rattle.pl_exec.specs.ChunkInputs.{AreFree, new_column, one_new}
 use Rattle.pl_exec.proofs.Levels.{before_next, below_three, counted_next, filled_as, filled_back, finish_in, free_next, from_end, from_none, is_live, rows_none, rows_one, run_next, slot_free}
 use Rattle.pl_exec.proofs.compute.+fill_from.Goals as goal
+
+pub fill_last-requires-clause-room : goal.fill_last-requires-clause-room
+fill_last-requires-clause-room g t c = c.requires.room
 
 pub fill_last-requires-clause-first : goal.fill_last-requires-clause-first
 fill_last-requires-clause-first g t c = c.requires.cells.first 0 (omega (arith, c.if-place-eq3.true))
@@ -43,6 +47,9 @@ pub returns-then-one_new-eq0 : goal.returns-then-one_new-eq0
 returns-then-one_new-eq0 g t c =
     let none : one_new (new_column (node_for c.args.term.now) c.args.place) ≡ 0 = omega (arith, c.one_new.ensures.value, c.if-one_new-eq0.true) in
     filled_as (task_for c.args.term.now) c.args.term.now.id.0 _ _ c.args.workspace.now c.fill_from.new.workspace c.fill_from.new.own _ c.args.steps.now c.fill_from.new.steps c.fill_from.result (from_none (node_for c.args.term.now) c.args.place none) refl c.fill_from.ensures
+
+pub column_slot-slot-requires-clause-used : goal.column_slot-slot-requires-clause-used
+column_slot-slot-requires-clause-used g t c = c.requires.run.run.used
 
 pub column_slot-slot-requires-clause-within : goal.column_slot-slot-requires-clause-within
 column_slot-slot-requires-clause-within g t c =
@@ -98,6 +105,11 @@ finish-requires-clause-begun g t c =
     let place : c.args.place < 3 = omega (arith, c.requires.place, c.if-place-eq3.false) in
     let slot = c.column_slot-slot.ensures ∙ ap (column_slot c.args.term.now.chunk.now.plan.now c.args.term.now.id.0) c.new_count.ensures.value in
     (finish_in c.args.term.now.chunk.now c.args.workspace.now c.args.term.now.id.0 (node_for c.args.term.now) c.requires.run c.args.place place one c.requires.free c.column_slot-slot.result slot c.begin-column.new.self c.begin-column.ensures.changed c.fill_from-filled.new.workspace c.fill_from-filled.new.own c.args.steps.now c.fill_from-filled.new.steps c.fill_from-filled.result c.fill_from-filled.ensures).1
+
+pub finish-requires-clause-whole : goal.finish-requires-clause-whole
+finish-requires-clause-whole g t c =
+    sym (length_refill (length c.begin-column.result.cells) c.begin-column.result.cells _ refl) ∙ c.begin-column.ensures.cells
+    ∙ sym (c.fill_from-filled.ensures.len ∙ ap (λ (x : Slots). x.len) c.begin-column.ensures.changed)
 
 pub release-requires : goal.release-requires
 release-requires g t c =

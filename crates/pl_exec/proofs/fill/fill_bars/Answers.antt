@@ -1,5 +1,5 @@
-use Rattle.std.proofs.Common.{◌≤◌, ◌*◌, ◌+◌, ◌∙◌, ap, sym, length, arith}
-use Rattle.std.proofs.lemmas.List.{take_all}
+use Rattle.std.proofs.Common.{◌≤◌, ◌*◌, ◌+◌, ◌-◌, ◌∙◌, ap, sym, drop, length, arith}
+use Rattle.std.proofs.lemmas.List.{length-drop, length-take-le, take_all}
 use Rattle.pl_spec.specs.Limits.{saturated}
 use Rattle.pl_exec.specs.Tasks.{assets_in, cell_in}
 use Rattle.pl_exec.specs.ChunkInputs.{node_in, steps_of, task_in}
@@ -17,6 +17,26 @@ pub start_in-start-requires : goal.start_in-start-requires
 start_in-start-requires g c =
     let within : (c.loop-i.i + 1) * c.args.course.now.count ≤ length c.loop-i.own = lane_room c.loop-i.i (assets_in (task_in c.args.course.now)) c.args.course.now.count (length c.loop-i.own) c.loop-i-test.true (omega (arith, c.requires.room, c.loop-i.auto.own)) in
     omega (arith, within)
+
+pub fill_asset-more-requires-clause-run : goal.fill_asset-more-requires-clause-run
+fill_asset-more-requires-clause-run g c = c.requires.run
+
+pub fill_asset-more-requires-clause-lane : goal.fill_asset-more-requires-clause-lane
+fill_asset-more-requires-clause-lane g c = record { course = c.requires.course; lent = c.sources_of-sources.ensures; asset = c.loop-i-test.true }
+
+pub fill_asset-more-requires-clause-long : goal.fill_asset-more-requires-clause-long
+fill_asset-more-requires-clause-long g c =
+    let rest = length-drop c.start_in-start.result c.loop-i.own in
+    length-take-le (c.start_in-start.result + c.args.course.now.count - c.start_in-start.result) (drop c.start_in-start.result c.loop-i.own) (omega (arith, rest, c.start_in-start.ensures.within)) ∙ omega arith
+
+pub fill_asset-more-requires-clause-first : goal.fill_asset-more-requires-clause-first
+fill_asset-more-requires-clause-first g c = λ some. let rows = c.requires.first some in omega (arith, rows, c.loop-i.auto.first)
+
+pub fill_asset-more-requires-clause-second : goal.fill_asset-more-requires-clause-second
+fill_asset-more-requires-clause-second g c = λ some. let rows = c.requires.second some in omega (arith, rows, c.loop-i.auto.second)
+
+pub fill_asset-more-requires-clause-third : goal.fill_asset-more-requires-clause-third
+fill_asset-more-requires-clause-third g c = λ some. let rows = c.requires.third some in omega (arith, rows, c.loop-i.auto.third)
 
 pub loop-i-preserved : goal.loop-i-preserved
 loop-i-preserved g c =

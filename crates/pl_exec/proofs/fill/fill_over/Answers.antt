@@ -1,10 +1,54 @@
-use Rattle.std.proofs.Common.{◌+◌, ◌∙◌, subst, arith}
+use Rattle.std.proofs.Common.{◌≤◌, ◌<◌, ◌*◌, ◌+◌, ◌∙◌, ap, sym, subst, length, arith}
 use Rattle.pl_exec.specs.declared.term_session.TermSession.{TermSession}
+use Rattle.std.proofs.lemmas.List.{length-take-le}
+use Rattle.pl_spec.specs.Rounding.{IsCell}
+use Rattle.pl_values.specs.Families.{IsOf}
 use Rattle.pl_exec.specs.Tasks.{assets_in, cell_in}
-use Rattle.pl_exec.specs.ChunkInputs.{IsRowOfTerm, task_in}
+use Rattle.pl_exec.specs.ChunkInputs.{IsRowOfTerm, node_at, task_at, task_in}
 use Rattle.pl_exec.proofs.Courses.{course_array}
 use Rattle.pl_exec.proofs.Spans.{all_written, more_written, row_put}
 use Rattle.pl_exec.proofs.fill.fill_over.Goals as goal
+
+pub row_on-requires-clause-term_session : goal.row_on-requires-clause-term_session
+row_on-requires-clause-term_session c = c.on_session-term_session.ensures.term_session
+
+pub row_on-requires-clause-family : goal.row_on-requires-clause-family
+row_on-requires-clause-family c = subst (λ (t : TermSession). IsOf (node_at t).kind c.family_of-family.result) (sym c.on_session-term_session.ensures.is)
+    (subst (λ k. IsOf k c.family_of-family.result) c.kind_of.ensures c.family_of-family.ensures)
+
+pub row_on-requires-clause-cross : goal.row_on-requires-clause-cross
+row_on-requires-clause-cross c =
+    subst (λ (t : TermSession). assets_in (task_at t) ≤ c.loop-j.cross) (sym c.on_session-term_session.ensures.is) (omega (arith, c.requires.cross, c.loop-j.invariant.cross))
+
+pub row_on-requires-clause-first : goal.row_on-requires-clause-first
+row_on-requires-clause-first c =
+    length-take-le (assets_in (task_in c.args.course.now)) c.loop-j.first (omega (arith, c.requires.first, c.loop-j.auto.first))
+    ∙ ap (λ (t : TermSession). assets_in (task_at t)) (sym c.on_session-term_session.ensures.is)
+
+pub row_on-requires-clause-second : goal.row_on-requires-clause-second
+row_on-requires-clause-second c =
+    length-take-le (assets_in (task_in c.args.course.now)) c.loop-j.second (omega (arith, c.requires.second, c.loop-j.auto.second))
+    ∙ ap (λ (t : TermSession). assets_in (task_at t)) (sym c.on_session-term_session.ensures.is)
+
+pub row_on-requires-clause-keep : goal.row_on-requires-clause-keep
+row_on-requires-clause-keep c =
+    length-take-le (assets_in (task_in c.args.course.now)) c.loop-j.keep (omega (arith, c.requires.keep, c.loop-j.auto.keep))
+    ∙ ap (λ (t : TermSession). assets_in (task_at t)) (sym c.on_session-term_session.ensures.is)
+
+pub row_on-requires-clause-long : goal.row_on-requires-clause-long
+row_on-requires-clause-long c =
+    length-take-le (assets_in (task_in c.args.course.now)) c.loop-j.out (omega (arith, c.requires.out, c.loop-j.auto.out))
+    ∙ ap (λ (t : TermSession). assets_in (task_at t)) (sym c.on_session-term_session.ensures.is)
+
+pub put_row-requires-clause-cells : goal.put_row-requires-clause-cells
+put_row-requires-clause-cells c =
+    let row = c.row_on.ensures.out in
+    λ i h. let within : i < assets_in (task_at c.on_session-term_session.result) = omega (arith, h, row.long) in subst IsCell (sym (row.each i within)) (row.cell i within)
+
+pub put_row-requires-clause-room : goal.put_row-requires-clause-room
+put_row-requires-clause-room c =
+    let row = subst (λ (t : TermSession). IsRowOfTerm t c.row_on.new.out) c.on_session-term_session.ensures.is c.row_on.ensures.out in
+    subst (λ n. n * c.args.course.now.count ≤ length c.loop-j.own) (sym row.long) (omega (arith, c.requires.room, c.loop-j.auto.own))
 
 pub loop-j-preserved : goal.loop-j-preserved
 loop-j-preserved c =
