@@ -1,4 +1,4 @@
-use Rattle.std.proofs.Common.{sym, ◌∙◌, ap, map}
+use Rattle.std.proofs.Common.{sym, ◌∙◌}
 use Rattle.pl_spec.specs.Lines.{quote}
 use Rattle.pl_assets.proofs.TextLists.{not_new, field_behind}
 use Rattle.pl_assets.proofs.labels.texts.LabelTexts.insert.Goals as goal
@@ -11,6 +11,3 @@ pub invariant_of-self-in-Ok : goal.invariant_of-self-in-Ok
 invariant_of-self-in-Ok c =
     field_behind (λ v. v.items) quote c.self.inside.fields.items c.push.new.self.items c.self.inside.texts c.insert.new.self c.in_ok-field.field c.args.text.now
     c.self.invariant c.in_ok-push.ensures.items c.in_ok-field.ensures c.in-Ok.ensures.texts (sym c.number_of.ensures ∙ c.in_default.is)
-
-pub invariant_of-self : goal.invariant_of-self
-invariant_of-self c = ap (map (λ v. v.items)) c.in_err-push.ensures.items ∙ c.self.invariant
