@@ -1,4 +1,5 @@
 -- The order of rows of labels by their keys.
+use native.Mathlib.Numerals.{unary_clauses}
 use Rattle.std.proofs.Common.{AllPairs, ◌≡◌, ℕ, zero, suc, ◌+◌, ◌*◌, ◌-◌, ◌<◌, ◌≤◌, ◌^◌, nat_le, true, false, ℤ, pos, ◌+ℤ◌, ◌≤ℤ◌, List, [], ◌∷◌, ◌++◌, length, get_or, All, Some, None, FitsSigned, w32, refl, sym, ap, ◌∙◌, arith, inl, inr, length-append, unsigned_abs, option_map, unwrap_or}
 use Rattle.std.specs.Prelude.{Contains}
 use Rattle.std.specs.List.Sorted.{IsPartitionedBy}
@@ -84,6 +85,10 @@ pub length-numbers : (n : ℕ) → length (numbers n) ≡ n
 unfolding numbers
 length-numbers zero = refl
 length-numbers (suc n) = omega (arith, length-append (numbers n) (n ∷ []), length-numbers n)
+
+pub numbers_more : (n : ℕ) → numbers n ++ n ∷ [] ≡ numbers (n + 1)
+unfolding numbers
+numbers_more n = simp unary_clauses refl
 
 get_or-numbers : (n k d : ℕ) → k < n → get_or (numbers n) k d ≡ k
 unfolding numbers

@@ -1,9 +1,20 @@
-use Rattle.std.proofs.Common.{◌≡◌, ◌∙◌, ◌∷◌, ◌++◌, [], ap, w32}
+use Rattle.std.proofs.Common.{arith, ◌≡◌, ◌∙◌, ◌∷◌, ◌++◌, [], ap, w32}
 use Rattle.std.proofs.lemmas.Int.{to_z-of_z}
+use Rattle.std.proofs.lemmas.List.{length-append, length-map}
 use Rattle.pl_assets.specs.Labels.{LabelTable, MayFollow, label_row, with_label}
-use Rattle.pl_assets.specs.LabelPlaces.{shown_rows}
+use Rattle.pl_assets.specs.LabelPlaces.{row_at, shown_rows}
 use Rattle.pl_assets.proofs.LabelTables.{own_keys, order_before, labels_more}
 use Rattle.pl_assets.proofs.labels.Labels.add.Goals as goal
+
+pub insert_last-requires-clause-some : goal.insert_last-requires-clause-some
+insert_last-requires-clause-some c = rw (c.deref.ensures.value, c.in_ok-push.ensures.place) (omega (arith, length-append c.self.inside.rows.places.items (c.in_ok-push.field-0 ∷ [])))
+
+pub insert_last-requires-clause-few : goal.insert_last-requires-clause-few
+insert_last-requires-clause-few c =
+    let old = c.self.inside.rows in
+    let row = label_row c.args.assets.now c.args.name.now c.args.sid c.args.start c.args.label.now in
+    let may : MayFollow (shown_rows old) row = rw (← c.self.view_is) at c.requires.row in
+    rw (c.deref.ensures.value, c.in_ok-push.ensures.place) (omega (arith, may.room, length-map old.places.items (row_at old.names old.texts), length-append old.places.items (c.in_ok-push.field-0 ∷ [])))
 
 pub insert_last-requires-clause-own : goal.insert_last-requires-clause-own
 insert_last-requires-clause-own c =

@@ -14,3 +14,6 @@ returns c =
     let put : IsOrder c.args.places.now ((length c.args.places.now - 1) + 1) (insert c.args.order.now.items c.point_of-at.result (length c.args.places.now - 1)) =
     order_put c.args.places.now (length c.args.places.now - 1) c.args.order.now.items n c.requires.own c.requires.others c.point_of-at.result (rw c.deref.ensures.value at c.point_of-at.ensures.within) point in
     rw (← n, ← c.in-Ok.ensures.items) at put
+
+pub point_of-at-requires : goal.point_of-at-requires
+point_of-at-requires c = rw c.deref.ensures.value c.requires.others.ascend

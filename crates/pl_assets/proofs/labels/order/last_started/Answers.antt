@@ -35,3 +35,6 @@ returns-else-place-name c =
       | else-place-name-via-then-place-name+else-place-col w ↦ w.if-place-col.false same_col
       | else-place-name-via-else-place-name w ↦ w.if-place-name.false same_name
     ])
+
+pub point_of-end-requires : goal.point_of-end-requires
+point_of-end-requires c = rw c.deref.ensures.value c.requires.order.ascend
