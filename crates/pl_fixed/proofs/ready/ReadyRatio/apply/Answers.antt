@@ -39,3 +39,8 @@ returns-then-rounded-clause-cell g c =
     let within : c.quotient-rounded.result ≤ LIMIT = omega (arith, c.if-rounded.true) in
     let cell : FitsSigned w64 c.args.cell = c.ranges.cell in
     rw (to_z-of_z w64 _ fits, simp to_z-of_z at c.with_sign.ensures) (signed_cell c.args.cell c.quotient-rounded.result within)
+
+pub returns-clause-cell : goal.returns-clause-cell
+returns-clause-cell g c =
+    let fits : FitsSigned w64 c.apply.result = search rules in
+    rw (to_z-of_z w64 _ fits) c.apply.ensures.cell
