@@ -1,6 +1,6 @@
-use Rattle.std.proofs.Common.{w64, arith, unsigned_abs, ◌∙◌, ap}
-use Rattle.std.proofs.lemmas.Int.{to_z-of_z, ints, quot_is, rem_is, quot_fits}
-use Rattle.pl_fixed.proofs.RoundingLemmas.{IsDivided, quotient_nearest, quotient_above, quotient_below, above_zero, div_round-fits, divided_by, rest_within, quotient_below-fits, quotient_above-fits}
+use Rattle.std.proofs.Common.{w64, arith, unsigned_abs, ◌∙◌}
+use Rattle.std.proofs.lemmas.Int.{to_z-of_z, ints, quot_is, quot_fits}
+use Rattle.pl_fixed.proofs.RoundingLemmas.{quotient_nearest, quotient_above, quotient_below, above_zero, div_round-fits, divided_by, rest_within, quotient_below-fits, quotient_above-fits}
 use Rattle.pl_fixed.proofs.rounding.short_quotient.Goals as goal
 
 pub overflow_sub-unsigned_abs : goal.overflow_sub-unsigned_abs
