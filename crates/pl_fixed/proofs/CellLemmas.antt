@@ -1,6 +1,8 @@
 -- Signed numbers that are cast and negated on the way to a cell.
 use Rattle.std.proofs.Common.{◌≡◌, ℤ, pos, negsuc, neg_ℤ, ◌*ℤ◌, ◌<ℤ◌, unsigned_abs, refl, arith, ◌^◌, of_z, w64, FitsSigned, false}
-use Rattle.std.proofs.lemmas.Int.{ints}
+use Rattle.std.specs.Int.{w128}
+use Rattle.std.specs.Int.Signed.{nat_abs-le}
+use Rattle.std.proofs.lemmas.Int.{ints, fits_signed_mul}
 use Rattle.pl_spec.specs.Rounding.{Fraction, scaled, div_round, to_cell, quot, of_both, is_missing}
 
 -- a divisor below 0: both signs turn
@@ -22,3 +24,11 @@ pub scaled-present : (f : Fraction) (cell : ℤ) → FitsSigned w64 cell → (of
     → to_cell (div_round (cell *ℤ pos f.num) f.den) ≡ scaled f cell
 unfolding scaled
 scaled-present f cell fits present = rw (is_missing-not cell fits present)
+
+-- a number that is cast to 128 bits
+pub wide : (a : ℤ) → FitsSigned w64 a → FitsSigned w128 a
+wide a f = record { sfits = omega (arith, f.sfits) }
+
+-- the millionths of a cell
+pub millionths-fits : (a : ℤ) → FitsSigned w64 a → FitsSigned w128 (a *ℤ pos 1000000)
+millionths-fits a f = fits_signed_mul w128 a (pos 1000000) (2 ^ 63) 1000000 (nat_abs-le a f.sfits) (omega arith) (omega arith)

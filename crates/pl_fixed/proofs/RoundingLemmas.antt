@@ -1,9 +1,9 @@
 -- The code's quotient is the nearest number, and what follows of its size.
-use Rattle.std.proofs.Common.{◌≡◌, ℕ, zero, suc, ◌+◌, ◌-◌, ◌*◌, ◌/◌, ◌%◌, ◌<◌, ◌≤◌, ℤ, pos, negsuc, neg_ℤ, ◌+ℤ◌, ◌-ℤ◌, ◌<ℤ◌, ◌≤ℤ◌, unsigned_abs, arith, refl, ap, sym, ◌∙◌, FitsSigned, div-lt_iff_lt-mul}
+use Rattle.std.proofs.Common.{◌≡◌, ℕ, zero, suc, ◌+◌, ◌-◌, ◌*◌, ◌/◌, ◌%◌, ◌<◌, ◌≤◌, ℤ, pos, negsuc, neg_ℤ, ◌+ℤ◌, ◌-ℤ◌, ◌<ℤ◌, ◌≤ℤ◌, unsigned_abs, arith, refl, ap, sym, ◌∙◌, FitsSigned, to_z, of_z, div-lt_iff_lt-mul}
 use Rattle.std.specs.Int.{Width}
 use Rattle.std.specs.Int.RustNames.{int_div, int_rem}
 use Rattle.std.proofs.lemmas.Nat.{div-add-mod', div-mul-add, mod_below, mul-le}
-use Rattle.std.proofs.lemmas.Int.{ints}
+use Rattle.std.proofs.lemmas.Int.{ints, to_z-of_z, quot_is, rem_is, quot_fits, rem_below}
 use Rattle.pl_spec.specs.Rounding.{LIMIT, div_round}
 
 -- ---- from the quotient that is rounded toward 0, by its rest
@@ -93,6 +93,33 @@ pub div_round-fits : (w : Width) (a : ℤ) (b : ℕ) → 0 < b → FitsSigned w 
 unfolding div_round
 div_round-fits w (pos a) b p f = record { sfits = omega (arith, f.sfits, size-le a b p) }
 div_round-fits w (negsuc a) b p f = below_fits w ((2 * suc a + b) / (2 * b)) a (size-le (suc a) b p) f
+
+-- ---- the code's division
+
+-- what the code has of the rest and of the divisor
+pub divided_by : (w : Width) (a b : ℤ) (rest size : ℕ) → FitsSigned w a → FitsSigned w b → pos 0 <ℤ b
+    → rest ≡ unsigned_abs (to_z w (of_z w (int_rem (to_z w (of_z w a)) (to_z w (of_z w b))))) → size ≡ unsigned_abs (to_z w (of_z w b))
+    → IsDivided a b rest size
+divided_by w a b rest size fa fb above r s = record {
+  above = above;
+  rest_is = r ∙ ap unsigned_abs (rem_is w a b fa fb);
+  size_is = s ∙ ap unsigned_abs (to_z-of_z w b fb);
+}
+
+-- the rest is not above the divisor
+pub rest_within : (a b : ℤ) (rest size : ℕ) → IsDivided a b rest size → rest ≤ size
+rest_within a b rest size h = omega (arith, h.rest_is, h.size_is, rem_below a b (above_zero b h.above))
+
+-- the quotient can be moved by 1
+pub quotient_below-fits : (w : Width) (a b : ℤ) (rest size : ℕ) → IsDivided a b rest size → size - rest ≤ rest → a <ℤ pos 0
+    → FitsSigned w a → FitsSigned w b → FitsSigned w (to_z w (of_z w (int_div (to_z w (of_z w a)) (to_z w (of_z w b)))) -ℤ pos 1)
+quotient_below-fits w a b rest size h more sign fa fb =
+    rw (quot_is w a b fa fb (quot_fits w a b fa h.above), quotient_below a b rest size h more sign) (div_round-fits w a _ (above_zero b h.above) fa)
+
+pub quotient_above-fits : (w : Width) (a b : ℤ) (rest size : ℕ) → IsDivided a b rest size → size - rest ≤ rest → pos 0 ≤ℤ a
+    → FitsSigned w a → FitsSigned w b → FitsSigned w (to_z w (of_z w (int_div (to_z w (of_z w a)) (to_z w (of_z w b)))) +ℤ pos 1)
+quotient_above-fits w a b rest size h more sign fa fb =
+    rw (quot_is w a b fa fb (quot_fits w a b fa h.above), quotient_above a b rest size h more sign) (div_round-fits w a _ (above_zero b h.above) fa)
 
 -- ---- a multiple is divided exactly
 

@@ -1,9 +1,12 @@
 -- A cell times a ratio, by its size and its sign.
-use Rattle.std.proofs.Common.{◌≡◌, ℕ, zero, suc, ◌+◌, ◌*◌, ◌/◌, ◌<◌, ◌≤◌, false, ℤ, pos, negsuc, ◌*ℤ◌, unsigned_abs, refl, ap, ◌∙◌, sym, arith}
+use Rattle.std.proofs.Common.{◌≡◌, ℕ, zero, suc, ◌+◌, ◌*◌, ◌/◌, ◌<◌, ◌≤◌, false, ℤ, pos, negsuc, ◌*ℤ◌, unsigned_abs, inr, refl, ap, ◌∙◌, sym, arith}
 use Rattle.std.proofs.Math.IntN.{pos-*ℤ-pos, negsuc-*ℤ-pos}
-use Rattle.pl_spec.specs.Rounding.{Fraction, LIMIT, div_round, is_missing, scaled, to_cell}
+use Rattle.pl_spec.specs.Rounding.{Fraction, IsCell, LIMIT, div_round, is_missing, scaled, to_cell}
 use Rattle.pl_spec.proofs.Within.{to_cell-within}
 use Rattle.pl_fixed.specs.Ratios.{signed}
+use Rattle.pl_fixed.specs.Ready.{IsReadyRatio}
+use Rattle.pl_fixed.specs.declared.ready.ReadyRatio.TheInside.{Inside}
+use Rattle.std.proofs.lemmas.Nat.{mul-le}
 use Rattle.pl_fixed.proofs.RoundingLemmas.{div_round-neg}
 
 -- the size of a product, over the double of what divides it
@@ -30,3 +33,10 @@ pub scaled_by_size : (f : Fraction) (x : ℤ) (n : ℕ) → 0 < f.den → unsign
 unfolding scaled
 scaled_by_size f x n p h e few =
     rw (there x h) (sym (ap to_cell (by_sign x f.num f.den p ∙ ap (signed x) (sym e)) ∙ to_cell-within (signed x n) (rw (signed_size x n) few)))
+
+pub signed_cell : (x : ℤ) (n : ℕ) → n ≤ LIMIT → IsCell (signed x n)
+signed_cell x n few = inr (rw (signed_size x n) few)
+
+-- a product that a ready ratio forms in 64 bits
+pub ready-product : (f : Inside) → IsReadyRatio f → (size : ℕ) → size ≤ f.most → 2 * (size * f.num) + f.den ≤ 18000000001000000000
+ready-product f h size few = omega (arith, mul-le size f.num f.most f.num few (omega arith), h.most, h.den, h.ratio)

@@ -19,3 +19,8 @@ pub returns-then-b-lt0-clause-cell : goal.returns-then-b-lt0-clause-cell
 returns-then-b-lt0-clause-cell c =
     let fr : FitsSigned w64 c.to_cell.result = search rules in
     rw (to_z-of_z w64 _ fr) c.to_cell.ensures.cell
+
+pub returns-else-b-lt0-clause-cell : goal.returns-else-b-lt0-clause-cell
+returns-else-b-lt0-clause-cell c =
+    let fr : FitsSigned w64 c.to_cell-else-b-lt0.result = search rules in
+    rw (to_z-of_z w64 _ fr) c.to_cell-else-b-lt0.ensures.cell

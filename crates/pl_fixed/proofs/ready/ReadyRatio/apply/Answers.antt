@@ -3,8 +3,17 @@ use Rattle.std.proofs.lemmas.Int.{to_z-of_z}
 use Rattle.std.proofs.lemmas.Nat.{mul-le}
 use Rattle.pl_spec.specs.Rounding.{LIMIT, scaled}
 use Rattle.pl_fixed.specs.Ready.{IsReadyRatio}
-use Rattle.pl_fixed.proofs.ScaledCells.{rounded_size, scaled_by_size}
+use Rattle.pl_fixed.proofs.ScaledCells.{rounded_size, scaled_by_size, signed_cell, ready-product}
 use Rattle.pl_fixed.proofs.ready.ReadyRatio.apply.Goals as goal
+
+pub overflow_mul-size : goal.overflow_mul-size
+overflow_mul-size g c = omega (arith, ready-product c.self.inside c.self.invariant c.unsigned_abs-size.result c.if-size-self.true)
+
+pub overflow_mul-size-then-size-self : goal.overflow_mul-size-then-size-self
+overflow_mul-size-then-size-self g c = omega (arith, ready-product c.self.inside c.self.invariant c.unsigned_abs-size.result c.if-size-self.true)
+
+pub overflow_add-size : goal.overflow_add-size
+overflow_add-size g c = omega (arith, ready-product c.self.inside c.self.invariant c.unsigned_abs-size.result c.if-size-self.true)
 
 pub returns-then-rounded-clause-value : goal.returns-then-rounded-clause-value
 returns-then-rounded-clause-value g c =
@@ -23,3 +32,15 @@ returns-then-rounded-clause-value g c =
     to_z-of_z w64 _ fits ∙ simp to_z-of_z at c.with_sign.ensures
     ∙ scaled_by_size f.ratio c.args.cell c.quotient-rounded.result den few rounded within
     ∙ ap (λ ratio. scaled ratio c.args.cell) c.self.view_is
+
+pub returns-then-rounded-clause-cell : goal.returns-then-rounded-clause-cell
+returns-then-rounded-clause-cell g c =
+    let fits : FitsSigned w64 c.with_sign.result = search rules in
+    let within : c.quotient-rounded.result ≤ LIMIT = omega (arith, c.if-rounded.true) in
+    let cell : FitsSigned w64 c.args.cell = c.ranges.cell in
+    rw (to_z-of_z w64 _ fits, simp to_z-of_z at c.with_sign.ensures) (signed_cell c.args.cell c.quotient-rounded.result within)
+
+pub returns-clause-cell : goal.returns-clause-cell
+returns-clause-cell g c =
+    let fits : FitsSigned w64 c.apply.result = search rules in
+    rw (to_z-of_z w64 _ fits) c.apply.ensures.cell
