@@ -2,6 +2,7 @@ pub mod Pushed
 pub mod Verdicts
 pub mod Arguments
 pub mod Lines
+pub mod Operands
 pub mod Shown
 pub mod Printing
 pub mod TextsSaid
