@@ -1,4 +1,5 @@
 pub mod Longest
+pub mod Fronts
 pub mod Numbers
 pub mod Bad
 pub mod Reading
