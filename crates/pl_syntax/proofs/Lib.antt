@@ -1,4 +1,5 @@
 pub mod Longest
+pub mod Fronts
 pub mod Numbers
 pub mod Bad
 pub mod Reading
@@ -9,6 +10,7 @@ pub mod Pushed
 pub mod Verdicts
 pub mod Arguments
 pub mod Lines
+pub mod Operands
 pub mod Shown
 pub mod Printing
 pub mod TextsSaid
