@@ -16,7 +16,7 @@ use pl_records::Records;
 use std::alloc::Global;
 
 // What a record says of a payout; its number is its place.
-#[derive(Clone, Copy, Drop)]
+#[derive(Clone, Copy, Debug, Drop)]
 pub(crate) struct Dividend {
     pub sid: u32,
     pub ex: i32,
