@@ -1,5 +1,6 @@
-use Rattle.std.proofs.Common.{◌<◌, ◌∙◌, length, get_or, ap, sym, subst, arith}
+use Rattle.std.proofs.Common.{◌<◌, ◌∙◌, All, length, get_or, ap, sym, subst, arith}
 use Rattle.std.proofs.lemmas.Option.{slice_get-get_or}
+use Rattle.pl_spec.specs.Rounding.{IsCell}
 use Rattle.pl_daily.specs.declared.term_day.TermCells.{TermCells}
 use Rattle.pl_daily.specs.Held.{AreTermCells}
 use Rattle.pl_daily.specs.Terms.{IsRowOf, assets_at, pipeline_at}
@@ -9,6 +10,16 @@ use Rattle.pl_daily.proofs.terms.advance_term.Goals as goal
 
 pub bounds-terms-term : goal.bounds-terms-term
 bounds-terms-term c = omega (arith, c.requires.known, c.requires.terms.many, graph-long c.args.lent.now.checked.now.graph)
+
+pub term_row-requires-clause-placed : goal.term_row-requires-clause-placed
+term_row-requires-clause-placed c =
+    let next = c.requires.placed.0 in
+    let days = c.requires.placed.1 in
+    let is = c.requires.placed.2 in
+    (next, days, record { may = is.may; terms = is.terms; start = c.take_start.ensures.follow next days is })
+
+pub put_term-requires-clause-row : goal.put_term-requires-clause-row
+put_term-requires-clause-row c = subst (All IsCell) (sym c.deref.ensures.value) c.term_row.ensures.cells
 
 pub put_term-requires-clause-cells : goal.put_term-requires-clause-cells
 put_term-requires-clause-cells c =

@@ -1,9 +1,23 @@
-use Rattle.std.proofs.Common.{rules, arith, pos, ◌∙◌, get_or, FitsSigned, w64}
+use Rattle.std.proofs.Common.{rules, arith, pos, ◌∙◌, sym, subst, get_or, FitsSigned, w64}
 use Rattle.std.proofs.lemmas.Int.{to_z-of_z}
+use Rattle.pl_spec.specs.Rounding.{IsCell}
 use Rattle.pl_values.proofs.Written.{one_given}
 use Rattle.pl_daily.specs.Windows.{windowed_by}
 use Rattle.pl_daily.proofs.RowsShown.{ShowsAt, all_shown}
 use Rattle.pl_daily.proofs.windows.window_cells.Goals as goal
+
+pub window_cell-requires : goal.window_cell-requires
+window_cell-requires c =
+    let e : FitsSigned w64 c.args.empty = c.ranges.empty in
+    record {
+      term_day = c.requires.term_day;
+      kind = c.requires.kind;
+      asset = omega (arith, c.loop-i-test.true, c.requires.long, c.requires.keep);
+      none = subst IsCell (sym (to_z-of_z w64 _ e)) c.requires.none;
+      first = c.loop-i.invariant.first;
+      second = c.loop-i.invariant.second;
+      third = c.loop-i.invariant.third;
+    }
 
 pub loop-i-preserved : goal.loop-i-preserved
 loop-i-preserved c =
