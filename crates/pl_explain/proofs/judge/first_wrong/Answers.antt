@@ -35,6 +35,12 @@ loop-i-preserved g c =
       table = c.in_ok-is_right.ensures.table;
     }
 
+pub returns-clause-exact : goal.returns-clause-exact
+returns-clause-exact g c =
+    let lines = c.args.derivation.now in
+    let end : length lines ≤ c.loop-i.i = omega (arith, c.loop-i-test.false, c.len-i-end.ensures.length) in
+    sym (whole (world_of c.args.world.now) (pipeline_of c.args.checked.now) lines c.loop-i.i end c.loop-i.invariant.none)
+
 pub returns-clause-truth : goal.returns-clause-truth
 returns-clause-truth g c =
     let w = c.args.world.now in
