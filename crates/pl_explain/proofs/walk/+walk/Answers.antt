@@ -49,6 +49,17 @@ finish-finish_bar-requires-clause-fresh g t c =
     let fresh : has c.args.walk.now.stated (fact_of c.args.fact) ≡ false = search rules in
     subst (λ f. has c.args.walk.now.stated (fact_of f) ≡ false) c.in-Seen.is fresh
 
+pub finish-finish_value-requires : goal.finish-finish_value-requires
+finish-finish_value-requires g t c =
+    let w = c.args.source.now.world in
+    let p = c.args.source.now.checked.now in
+    let v = c.in-TermValue in
+    let lacks : has c.args.walk.now.stated (fact_of c.args.fact) ≡ false = search rules in
+    let fresh : has c.args.walk.now.stated (TermValue v.term v.sid (pos v.session)) ≡ false = subst (λ f. has c.args.walk.now.stated (fact_of f) ≡ false) v.is lacks in
+    let fact : MayBeDerived w p (TermValue v.term v.sid (pos v.session)) = subst (λ f. MayBeDerived w p (fact_of f)) v.is c.requires.fact in
+    let smaller : 8 * (v.term + 2) + 4 < 8 * depth_of (fact_of c.args.fact) + 6 = subst (λ f. 8 * (v.term + 2) + 4 < 8 * depth_of (fact_of f) + 6) (sym v.is) (omega arith) in
+    search rules
+
 pub finish-returns-in-Seen : goal.finish-returns-in-Seen
 finish-returns-in-Seen g t c =
     let w = c.args.source.now.world in
@@ -64,6 +75,9 @@ finish-returns-in-TermValue g t c =
     (subst (λ k. IsWalkTo w p k (TermValue c.in-TermValue.term c.in-TermValue.sid (pos c.in-TermValue.session) ∷ []) c.args.walk.now c.finish_value.new.walk c.finish_value.result) deep c.finish_value.ensures)
 
 -- ---- facts in a row
+
+pub finish_all-loop-fact-init : goal.finish_all-loop-fact-init
+finish_all-loop-fact-init g t c = record { stands = c.requires.stands; finished = walk-none c.args.source.now.world c.args.source.now.checked.now (c.args.t.0 + 1) c.args.walk.now }
 
 pub finish_all-finish-requires : goal.finish_all-finish-requires
 finish_all-finish-requires g t c =
@@ -144,6 +158,9 @@ finish_value-unreachable-requires g t c =
 
 pub finish_value-returns-in_err-value : goal.finish_value-returns-in_err-value
 finish_value-returns-in_err-value g t c = no-memory _ _ _ _ _ _ _ c.from_residual-in_err-value.ensures.1
+
+pub finish_value-value_now-requires-clause-stands : goal.finish_value-value_now-requires-clause-stands
+finish_value-value_now-requires-clause-stands g t c = c.in_ok-finish_premises.ensures.stands
 
 pub finish_value-value_now-requires-clause-term : goal.finish_value-value_now-requires-clause-term
 finish_value-value_now-requires-clause-term g t c = worth-within c.args.source.now.world c.args.source.now.checked.now c.requires.stands.table.ready.checked c.args.term c.args.sid c.args.session c.requires.fact
@@ -320,6 +337,13 @@ pub finish_kind-facts_read-requires-clause-asked : goal.finish_kind-facts_read-r
 finish_kind-facts_read-requires-clause-asked g t c =
     let ready = c.requires.stands.table.ready in
     worth-asked c.args.source.now.world c.args.source.now.checked.now ready.checked c.args.t.0 (sid_at c.args.source.now.world.assets.now c.args.col) c.args.session c.requires.fact ready.made ready.days
+
+pub finish_kind-finish_all-requires : goal.finish_kind-finish_all-requires
+finish_kind-finish_all-requires g t c =
+    let stand = Each (CanBeDerivedWithin c.args.source.now.world c.args.source.now.checked.now (c.args.t.0 + 1)) in
+    let facts : stand (map fact_of c.deref.result.now) = subst stand (sym (ap (map fact_of) c.deref.ensures.value ∙ c.in_ok-facts.ensures)) c.requires.facts in
+    let smaller : 8 * (c.args.t.0 + 1) + 7 < 8 * (c.args.t.0 + 2) + 1 = omega arith in
+    search rules
 
 pub finish_kind-returns : goal.finish_kind-returns
 finish_kind-returns g t c =
