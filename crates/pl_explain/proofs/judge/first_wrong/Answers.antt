@@ -1,4 +1,4 @@
-use Rattle.std.proofs.Common.{◌≤◌, ◌∙◌, take, length, ap, sym, arith}
+use Rattle.std.proofs.Common.{◌≤◌, ◌∙◌, take, length, is_some, ap, refl, sym, arith}
 use Rattle.pl_terms.specs.Checked.{pipeline_of}
 use Rattle.pl_derivation.specs.Right.{is_stated}
 use Rattle.pl_derivation.proofs.Truths.{sound}
@@ -7,7 +7,18 @@ use Rattle.pl_world.specs.Worlds.{world_of}
 use Rattle.pl_derivation.proofs.Printing.{lines_more}
 use Rattle.pl_explain.proofs.Passing.{pass, stop, whole}
 use Rattle.pl_explain.proofs.Judging.{judged-right, stated-behind}
+use Rattle.pl_explain.proofs.Standing.{table-first}
 use Rattle.pl_explain.proofs.judge.first_wrong.Goals as goal
+
+pub loop-i-init : goal.loop-i-init
+loop-i-init g c = record {
+  none = refl;
+  stated = λ f. ap is_some (c.new-stated.ensures f);
+  table = table-first c.args.world.now c.args.checked.now c.new-stated.result c.new-rows.result c.new-stated.ensures c.new-rows.ensures c.parts_are_ready.ensures;
+}
+
+pub is_right-requires-clause-table : goal.is_right-requires-clause-table
+is_right-requires-clause-table g c = c.loop-i.invariant.table
 
 pub returns-then-not-branch-clause-exact : goal.returns-then-not-branch-clause-exact
 returns-then-not-branch-clause-exact g c =
