@@ -125,3 +125,14 @@ module _ (old new : Rows) (t s : ℕ) (row : List ℤ) (is : (u d : ℕ) → row
       here : (b : Bool) → (t == u && s == d) ≡ b → row_at new u d ≡ Some r
       here true f = let p = and_parts (t == u) (s == d) f in absurd (none-some r (sym none ∙ ap (λ n. row_at old n s) (eqb-true t u p.0) ∙ ap (row_at old u) (eqb-true s d p.1) ∙ e))
       here false f = is u d ∙ ap (λ b. if b then Some row else row_at old u d) f ∙ e
+
+  -- what each kept row has, those that were kept have, and the row that is put
+  pub rows-have : (P : ℕ → ℕ → List ℤ → Type 0) → ((u d : ℕ) (r : List ℤ) → row_at old u d ≡ Some r → P u d r) → P t s row → (u d : ℕ) (r : List ℤ) → row_at new u d ≡ Some r → P u d r
+  rows-have P have one u d r e = here (t == u && s == d) refl
+    where
+      here : (b : Bool) → (t == u && s == d) ≡ b → P u d r
+      here true f =
+          let p = and_parts (t == u) (s == d) f in
+          let same : Some row ≡ Some r = sym (ap (λ b. if b then Some row else row_at old u d) f) ∙ sym (is u d) ∙ e in
+          subst (λ o. IfSome o (P u d)) same (subst (λ n. P n d row) (eqb-true t u p.0) (subst (λ n. P t n row) (eqb-true s d p.1) one))
+      here false f = have u d r (sym (ap (λ b. if b then Some row else row_at old u d) f) ∙ sym (is u d) ∙ e)

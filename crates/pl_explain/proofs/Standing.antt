@@ -16,6 +16,8 @@ use Rattle.pl_derivation.specs.Right.{is_fitting}
 use Rattle.pl_derivation.specs.Walks.{finish, facts_for, line_for, derivation}
 use Rattle.pl_explain.specs.Looking.{look, row_at, IsInsertionOf}
 use Rattle.pl_explain.specs.Given.{has, IsReady}
+use Rattle.pl_explain.specs.declared.fact_numbers.FactNumbers.{FactNumbers}
+use Rattle.pl_explain.specs.declared.rows.Rows.{Rows}
 use Rattle.pl_explain.specs.declared.walk.Walk.{Walk}
 use Rattle.pl_explain.specs.Judging.{IsTable}
 use Rattle.pl_explain.specs.Walking.{HasWalked, HoldsSoFar, Finishes, IsTooLong}
@@ -38,6 +40,15 @@ module _ (w : World) (c : Parts) where
     few = few;
   }
 
+  -- where nothing is stated and no row is kept
+  pub table-first : (stated : FactNumbers) (rows : Rows) → ((f : Fact) → look stated f ≡ None) → ((t d : ℕ) → row_at rows t d ≡ None) → IsReady w c → IsTable w c stated rows
+  table-first stated rows none no_row ready = record {
+    ready = ready;
+    truth = λ f x e. absurd (let bad = sym (none f) ∙ e in cc);
+    fits = λ f e. absurd (let bad = sym (ap is_some (none f)) ∙ e in cc);
+    kept = λ t d row e. absurd (let bad = sym (no_row t d) ∙ e in cc);
+  }
+
   -- before the first fact
   module _ (walk : Walk) (stated : (f : Fact) → look walk.stated f ≡ None) (rows : (t d : ℕ) → row_at walk.rows t d ≡ None) (none : walk.lines.items ≡ []) where
     pub walked-none : HasWalked w c walk []
@@ -47,12 +58,7 @@ module _ (w : World) (c : Parts) where
     stands-first ready = record {
       facts = [];
       walked = walked-none;
-      table = record {
-        ready = ready;
-        truth = λ f x e. absurd (let bad = sym (stated f) ∙ e in cc);
-        fits = λ f e. absurd (let bad = sym (ap is_some (stated f)) ∙ e in cc);
-        kept = λ t d row e. absurd (let bad = sym (rows t d) ∙ e in cc);
-      };
+      table = table-first walk.stated walk.rows stated rows ready;
       writable = subst (λ ls. AreWritable (map line_of ls)) (sym none) tt;
       few = (let e = ap (λ (ls : List Line). length ls) none in omega (arith, e));
     }

@@ -1,4 +1,4 @@
-use Rattle.std.proofs.Common.{◌≤◌, ◌∙◌, take, length, ap, sym, arith}
+use Rattle.std.proofs.Common.{◌≤◌, ◌∙◌, take, length, is_some, ap, refl, sym, arith}
 use Rattle.pl_terms.specs.Checked.{pipeline_of}
 use Rattle.pl_derivation.specs.Right.{is_stated}
 use Rattle.pl_derivation.proofs.Truths.{sound}
@@ -7,7 +7,18 @@ use Rattle.pl_world.specs.Worlds.{world_of}
 use Rattle.pl_derivation.proofs.Printing.{lines_more}
 use Rattle.pl_explain.proofs.Passing.{pass, stop, whole}
 use Rattle.pl_explain.proofs.Judging.{judged-right, stated-behind}
+use Rattle.pl_explain.proofs.Standing.{table-first}
 use Rattle.pl_explain.proofs.judge.first_wrong.Goals as goal
+
+pub loop-i-init : goal.loop-i-init
+loop-i-init g c = record {
+  none = refl;
+  stated = λ f. ap is_some (c.new-stated.ensures f);
+  table = table-first c.args.world.now c.args.checked.now c.new-stated.result c.new-rows.result c.new-stated.ensures c.new-rows.ensures c.parts_are_ready.ensures;
+}
+
+pub is_right-requires-clause-table : goal.is_right-requires-clause-table
+is_right-requires-clause-table g c = c.loop-i.invariant.table
 
 pub returns-then-not-branch-clause-exact : goal.returns-then-not-branch-clause-exact
 returns-then-not-branch-clause-exact g c =
@@ -34,6 +45,12 @@ loop-i-preserved g c =
       stated = λ f. stated-behind (world_of w) c.loop-i.stated c.is_right.new.stated (take i lines) l so_far.stated more f ∙ ap (λ ls. is_stated (world_of w) ls f) (sym (lines_more lines i l c.line-line.ensures.line));
       table = c.in_ok-is_right.ensures.table;
     }
+
+pub returns-clause-exact : goal.returns-clause-exact
+returns-clause-exact g c =
+    let lines = c.args.derivation.now in
+    let end : length lines ≤ c.loop-i.i = omega (arith, c.loop-i-test.false, c.len-i-end.ensures.length) in
+    sym (whole (world_of c.args.world.now) (pipeline_of c.args.checked.now) lines c.loop-i.i end c.loop-i.invariant.none)
 
 pub returns-clause-truth : goal.returns-clause-truth
 returns-clause-truth g c =

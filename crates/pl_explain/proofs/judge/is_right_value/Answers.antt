@@ -22,6 +22,9 @@ returns-in_default-index_of c =
     let day : FitsSigned w32 l.day = search rules in
     value-no-day c.requires.table l.term l.sid l.day l.value l.known (sym (simp to_z-of_z at c.index_of.ensures.exact) ∙ none-of c.index_of.result c.in_default-index_of.not-Some)
 
+pub known_day-requires-clause-ready : goal.known_day-requires-clause-ready
+known_day-requires-clause-ready c = c.requires.table.ready
+
 -- the day of another record
 pub returns-then-not-same_day : goal.returns-then-not-same_day
 returns-then-not-same_day c =
@@ -43,6 +46,14 @@ returns-in-Some-number c =
     c.in-Some-number.number (sym c.in-Some-number.ensures) c.same_number.result (simp to_z-of_z at c.same_number.ensures)
 
 -- what is judged where nothing is stated of the fact yet
+pub value_stated-requires-clause-at : goal.value_stated-requires-clause-at
+value_stated-requires-clause-at c =
+    let table = c.requires.table in
+    record { on = record { ready = table.ready; truth = table.truth; session = c.in-Some-index_of.ensures.within }; column = c.in-Some.ensures.some.within }
+
+pub value_stated-requires-clause-rows : goal.value_stated-requires-clause-rows
+value_stated-requires-clause-rows c = c.requires.table.kept
+
 pub returns-in_default-2 : goal.returns-in_default-2
 returns-in_default-2 c =
     let l = c.args.line.now in

@@ -3,7 +3,7 @@ use Rattle.std.proofs.lemmas.Int.{to_z-of_z}
 use Rattle.pl_explain.specs.Looking.{row_at}
 use Rattle.pl_explain.specs.Given.{IsKeptRow}
 use Rattle.pl_explain.proofs.Given.{some-holds}
-use Rattle.pl_explain.proofs.Kept.{kept-long, kept-cell, none-kept, row-now, rows-stay}
+use Rattle.pl_explain.proofs.Kept.{kept-long, kept-cell, none-kept, row-now, rows-have, rows-stay}
 use Rattle.pl_explain.proofs.sections.section_stated.Goals as goal
 
 -- ---- a row that was kept
@@ -47,6 +47,12 @@ returns-in_ok-keep-in-Some-2-clause-given c =
     let kept = some-holds (λ v. IsKeptRow b.world b.checked.now b.stated.now c.args.t.0 c.args.session v.items) c.in_ok-whole_row.field-0 c.in-Some-2.row c.in-Some-2.is c.in_ok-whole_row.ensures.row in
     let fits : FitsSigned w64 c.index-cell.result.now = search rules in
     kept-cell c.requires.kept c.requires.kind c.in-Some-2.row.items c.index-cell.result.now _ kept (to_z-of_z w64 _ fits ∙ c.index-cell.ensures)
+
+pub returns-in_ok-keep-in-Some-2-clause-rows : goal.returns-in_ok-keep-in-Some-2-clause-rows
+returns-in_ok-keep-in-Some-2-clause-rows c =
+    let b = c.args.basis.now in
+    let kept = some-holds (λ v. IsKeptRow b.world b.checked.now b.stated.now c.args.t.0 c.args.session v.items) c.in_ok-whole_row.field-0 c.in-Some-2.row c.in-Some-2.is c.in_ok-whole_row.ensures.row in
+    rows-have c.args.rows.now c.keep.new.self c.args.t.0 c.args.session c.in-Some-2.row.items c.in_ok-keep-in-Some-2.ensures (IsKeptRow b.world b.checked.now b.stated.now) c.requires.rows kept
 
 pub returns-in_ok-keep-in-Some-2-clause-kept : goal.returns-in_ok-keep-in-Some-2-clause-kept
 returns-in_ok-keep-in-Some-2-clause-kept c = (c.in-Some-2.row.items, row-now c.args.rows.now c.keep.new.self c.args.t.0 c.args.session c.in-Some-2.row.items c.in_ok-keep-in-Some-2.ensures)

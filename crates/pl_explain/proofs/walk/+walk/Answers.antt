@@ -1,9 +1,10 @@
-use Rattle.std.proofs.Common.{rules, arith, ◌≡◌, ◌<◌, ◌≤◌, ◌+◌, ◌*◌, ◌^◌, ◌∷◌, [], ◌∙◌, true, Some, suc, ap, sym, subst, length, map, get_or, pos, slice_get, w32, w64, FitsSigned}
+use Rattle.std.proofs.Common.{rules, arith, ◌≡◌, ◌<◌, ◌≤◌, ◌+◌, ◌*◌, ◌^◌, ◌∷◌, [], ◌∙◌, false, true, Some, suc, ap, sym, subst, length, map, get_or, pos, slice_get, w32, w64, FitsSigned}
 use Rattle.std.proofs.lemmas.Bool.{true≢false}
 use Rattle.std.proofs.lemmas.Int.{to_z-of_z}
 use Rattle.std.proofs.lemmas.List.{take_all}
 use Rattle.std.proofs.lemmas.Option.{slice_get-get_or}
 use Rattle.std.proofs.lemmas.Result.{err_from_is_err_and}
+use Rattle.pl_spec.specs.Limits.{most_lines}
 use Rattle.pl_spec.specs.Dates.{IsDay}
 use Rattle.pl_spec.specs.Rounding.{IsCell}
 use Rattle.pl_spec.specs.Parts.{sid_at}
@@ -18,7 +19,7 @@ use Rattle.pl_world.specs.Evaluations.{cell_in}
 use Rattle.pl_world.proofs.Evaluated.{sid-of}
 use Rattle.pl_explain.specs.declared.fact.Fact.{Fact}
 use Rattle.pl_explain.specs.Keys.{fact_of}
-use Rattle.pl_explain.specs.Given.{facts_read, has_all, own_facts}
+use Rattle.pl_explain.specs.Given.{facts_read, has, has_all, own_facts}
 use Rattle.pl_explain.proofs.Given.{none-holds}
 use Rattle.pl_explain.specs.Walking.{MayBeDerived, CanBeDerivedWithin, Finishes, IsTooLong, IsWalkTo}
 use Rattle.pl_explain.proofs.Behind.{worth-within, worth-day, worth-sid, worth-asked}
@@ -37,6 +38,28 @@ finish-returns-then-is_some g t c =
     let there : has_all c.args.walk.now.stated (f ∷ []) ≡ true = search rules in
     record { stands = c.requires.stands; finished = walk-stated w p (depth_of f) c.args.walk.now (f ∷ []) there; long = tt }
 
+pub finish-finish_bar-requires-clause-stands : goal.finish-finish_bar-requires-clause-stands
+finish-finish_bar-requires-clause-stands g t c = c.requires.stands
+
+pub finish-finish_bar-requires-clause-fact : goal.finish-finish_bar-requires-clause-fact
+finish-finish_bar-requires-clause-fact g t c = subst (λ f. MayBeDerived c.args.source.now.world c.args.source.now.checked.now (fact_of f)) c.in-Seen.is c.requires.fact
+
+pub finish-finish_bar-requires-clause-fresh : goal.finish-finish_bar-requires-clause-fresh
+finish-finish_bar-requires-clause-fresh g t c =
+    let fresh : has c.args.walk.now.stated (fact_of c.args.fact) ≡ false = search rules in
+    subst (λ f. has c.args.walk.now.stated (fact_of f) ≡ false) c.in-Seen.is fresh
+
+pub finish-finish_value-requires : goal.finish-finish_value-requires
+finish-finish_value-requires g t c =
+    let w = c.args.source.now.world in
+    let p = c.args.source.now.checked.now in
+    let v = c.in-TermValue in
+    let lacks : has c.args.walk.now.stated (fact_of c.args.fact) ≡ false = search rules in
+    let fresh : has c.args.walk.now.stated (TermValue v.term v.sid (pos v.session)) ≡ false = subst (λ f. has c.args.walk.now.stated (fact_of f) ≡ false) v.is lacks in
+    let fact : MayBeDerived w p (TermValue v.term v.sid (pos v.session)) = subst (λ f. MayBeDerived w p (fact_of f)) v.is c.requires.fact in
+    let smaller : 8 * (v.term + 2) + 4 < 8 * depth_of (fact_of c.args.fact) + 6 = subst (λ f. 8 * (v.term + 2) + 4 < 8 * depth_of (fact_of f) + 6) (sym v.is) (omega arith) in
+    search rules
+
 pub finish-returns-in-Seen : goal.finish-returns-in-Seen
 finish-returns-in-Seen g t c =
     let w = c.args.source.now.world in
@@ -52,6 +75,9 @@ finish-returns-in-TermValue g t c =
     (subst (λ k. IsWalkTo w p k (TermValue c.in-TermValue.term c.in-TermValue.sid (pos c.in-TermValue.session) ∷ []) c.args.walk.now c.finish_value.new.walk c.finish_value.result) deep c.finish_value.ensures)
 
 -- ---- facts in a row
+
+pub finish_all-loop-fact-init : goal.finish_all-loop-fact-init
+finish_all-loop-fact-init g t c = record { stands = c.requires.stands; finished = walk-none c.args.source.now.world c.args.source.now.checked.now (c.args.t.0 + 1) c.args.walk.now }
 
 pub finish_all-finish-requires : goal.finish_all-finish-requires
 finish_all-finish-requires g t c =
@@ -104,6 +130,15 @@ finish_all-returns g t c =
 
 -- ---- a value
 
+pub finish_value-finish_premises-requires : goal.finish_value-finish_premises-requires
+finish_value-finish_premises-requires g t c =
+    let w = c.args.source.now.world in
+    let p = c.args.source.now.checked.now in
+    let fact : MayBeDerived w p (TermValue c.args.term (sid_at w.assets.now c.in-Some.col) (pos c.args.session)) = subst (λ a. MayBeDerived w p (TermValue c.args.term a (pos c.args.session))) (sym c.in-Some.ensures.some.sid_is) c.requires.fact in
+    let day = worth-day w p c.requires.stands.table.ready.checked c.args.term c.args.sid c.args.session c.requires.fact in
+    let smaller : 8 * (c.args.term + 2) + 2 < 8 * (c.args.term + 2) + 4 = omega arith in
+    search rules
+
 pub finish_value-returns-in_err-finish_premises : goal.finish_value-returns-in_err-finish_premises
 finish_value-returns-in_err-finish_premises g t c =
     let w = c.args.source.now.world in
@@ -124,6 +159,9 @@ finish_value-unreachable-requires g t c =
 pub finish_value-returns-in_err-value : goal.finish_value-returns-in_err-value
 finish_value-returns-in_err-value g t c = no-memory _ _ _ _ _ _ _ c.from_residual-in_err-value.ensures.1
 
+pub finish_value-value_now-requires-clause-stands : goal.finish_value-value_now-requires-clause-stands
+finish_value-value_now-requires-clause-stands g t c = c.in_ok-finish_premises.ensures.stands
+
 pub finish_value-value_now-requires-clause-term : goal.finish_value-value_now-requires-clause-term
 finish_value-value_now-requires-clause-term g t c = worth-within c.args.source.now.world c.args.source.now.checked.now c.requires.stands.table.ready.checked c.args.term c.args.sid c.args.session c.requires.fact
 
@@ -143,6 +181,9 @@ finish_value-known_day-requires-clause-term g t c = worth-within c.args.source.n
 
 pub finish_value-known_day-requires-clause-session : goal.finish_value-known_day-requires-clause-session
 finish_value-known_day-requires-clause-session g t c = worth-day c.args.source.now.world c.args.source.now.checked.now c.requires.stands.table.ready.checked c.args.term c.args.sid c.args.session c.requires.fact
+
+pub finish_value-put-requires : goal.finish_value-put-requires
+finish_value-put-requires g t c = record { few = subst (λ l. length l.items ≤ most_lines) (sym c.in_ok-value.ensures.lines) c.in_ok-finish_premises.ensures.stands.few }
 
 pub finish_value-returns : goal.finish_value-returns
 finish_value-returns g t c =
@@ -222,6 +263,11 @@ finish_premises-returns-in_err-finish_all g t c =
       long = λ e. mask-long c.requires.stands c.args.t.0 n c.node_in-node.ensures a c.args.session there (map fact_of c.deref.result.now) read (c.in_err-finish_all.ensures.long e);
     })
 
+pub finish_premises-mask_stated-requires : goal.finish_premises-mask_stated-requires
+finish_premises-mask_stated-requires g t c =
+    let table = c.in_ok-finish_all.ensures.stands.table in
+    record { on = record { ready = table.ready; truth = table.truth; session = c.requires.session }; column = c.requires.col }
+
 pub finish_premises-finish_kind-requires : goal.finish_premises-finish_kind-requires
 finish_premises-finish_kind-requires g t c =
     let w = c.args.source.now.world in
@@ -291,6 +337,13 @@ pub finish_kind-facts_read-requires-clause-asked : goal.finish_kind-facts_read-r
 finish_kind-facts_read-requires-clause-asked g t c =
     let ready = c.requires.stands.table.ready in
     worth-asked c.args.source.now.world c.args.source.now.checked.now ready.checked c.args.t.0 (sid_at c.args.source.now.world.assets.now c.args.col) c.args.session c.requires.fact ready.made ready.days
+
+pub finish_kind-finish_all-requires : goal.finish_kind-finish_all-requires
+finish_kind-finish_all-requires g t c =
+    let stand = Each (CanBeDerivedWithin c.args.source.now.world c.args.source.now.checked.now (c.args.t.0 + 1)) in
+    let facts : stand (map fact_of c.deref.result.now) = subst stand (sym (ap (map fact_of) c.deref.ensures.value ∙ c.in_ok-facts.ensures)) c.requires.facts in
+    let smaller : 8 * (c.args.t.0 + 1) + 7 < 8 * (c.args.t.0 + 2) + 1 = omega arith in
+    search rules
 
 pub finish_kind-returns : goal.finish_kind-returns
 finish_kind-returns g t c =
