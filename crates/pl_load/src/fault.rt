@@ -105,7 +105,7 @@ pub enum RowFault {
 }
 
 /// Why a command ends without its whole text.
-#[derive(Clone, Copy, Debug, PartialEq, Eq)]
+#[derive(Clone, Copy, Debug)]
 pub enum Fault {
     /// The words have none of the commands' forms.
     Usage,
