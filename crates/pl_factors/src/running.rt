@@ -9,6 +9,7 @@ ghost use Rattle.pl_factors.specs.Spans.{TakesWindows, TakesSpans, before, after
 
 use crate::best_places::{next_placed_best, place_value, placed_best};
 use crate::extremes::{best_kept, next_kept, next_range, range_of};
+use crate::formula;
 use crate::spreads::{bollinger, deviation};
 use crate::starts::{placed_of, spreads_of, sums_of, swings_of, weighted_of};
 use crate::steps::{next_placed, next_spreads, next_sums, next_swings, next_weighted};
@@ -16,7 +17,6 @@ use crate::values::{
     all_present, at_least, average_dollar_volume, extreme, linear_weighted, mean,
     relative_strength, stochastic, weighted_mean, window_sum,
 };
-use crate::formula;
 use pl_terms::TermKind;
 use std::marker::Model;
 

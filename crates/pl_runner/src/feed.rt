@@ -6,8 +6,8 @@ ghost use Rattle.pl_runner.specs.States.{IsState};
 
 use crate::news::{fill_bars, fill_events};
 use crate::state::RunState;
-use pl_fixed::Steps;
 use pl_daily::Day;
+use pl_fixed::Steps;
 use pl_table::Asked;
 use std::sync::ledger::Ledger;
 

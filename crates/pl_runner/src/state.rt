@@ -3,9 +3,8 @@ ghost use Rattle.std.specs.Prelude.{IfOk};
 ghost use Rattle.pl_table.specs.Asked.{IsAsked, asked_pipeline};
 ghost use Rattle.pl_runner.specs.States.{IsState};
 
-use pl_daily::Daily;
+use pl_daily::{Daily, DayBar, DayEvent};
 use pl_fixed::Memory;
-use pl_daily::{DayBar, DayEvent};
 use pl_table::{Asked, Line};
 use std::alloc::Global;
 
