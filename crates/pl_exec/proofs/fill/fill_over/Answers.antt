@@ -9,24 +9,6 @@ use Rattle.pl_exec.proofs.Courses.{course_array}
 use Rattle.pl_exec.proofs.Spans.{all_written, more_written, row_put}
 use Rattle.pl_exec.proofs.fill.fill_over.Goals as goal
 
-pub fill_lanes-requires-clause-course : goal.fill_lanes-requires-clause-course
-fill_lanes-requires-clause-course c = c.requires.course
-
-pub fill_lanes-requires-clause-family : goal.fill_lanes-requires-clause-family
-fill_lanes-requires-clause-family c = subst (λ k. IsOf k c.family_of-family.result) c.kind_of.ensures c.family_of-family.ensures
-
-pub fill_lanes-requires-clause-none : goal.fill_lanes-requires-clause-none
-fill_lanes-requires-clause-none c = c.requires.none
-
-pub fill_lanes-requires-clause-room : goal.fill_lanes-requires-clause-room
-fill_lanes-requires-clause-room c = c.requires.room
-
-pub returns-then-not-is_by_rows-clause-array : goal.returns-then-not-is_by_rows-clause-array
-returns-then-not-is_by_rows-clause-array c = c.fill_lanes.ensures
-
-pub returns-then-not-is_by_rows-clause-cross : goal.returns-then-not-is_by_rows-clause-cross
-returns-then-not-is_by_rows-clause-cross c = refl
-
 pub slice_bounds-row-end : goal.slice_bounds-row-end
 slice_bounds-row-end c = omega (arith, c.requires.out, c.loop-j.auto.out)
 
@@ -50,9 +32,6 @@ slice_bounds-row_on-end-in-loop-j-4 c = omega (arith, c.requires.keep, c.loop-j.
 
 pub slice_bounds-row_on-end-in-loop-j-5 : goal.slice_bounds-row_on-end-in-loop-j-5
 slice_bounds-row_on-end-in-loop-j-5 c = sym (length-take-le (assets_in (task_in c.args.course.now)) c.loop-j.keep (omega (arith, c.requires.keep, c.loop-j.auto.keep)))
-
-pub returns-clause-cross : goal.returns-clause-cross
-returns-clause-cross c = c.loop-j.invariant.cross
 
 pub row_on-requires-clause-term_session : goal.row_on-requires-clause-term_session
 row_on-requires-clause-term_session c = c.on_session-term_session.ensures.term_session
