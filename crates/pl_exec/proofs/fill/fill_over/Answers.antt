@@ -1,4 +1,4 @@
-use Rattle.std.proofs.Common.{◌≤◌, ◌<◌, ◌*◌, ◌+◌, ◌∙◌, ap, refl, sym, subst, length, arith}
+use Rattle.std.proofs.Common.{◌≤◌, ◌<◌, ◌*◌, ◌+◌, ◌∙◌, ap, sym, subst, length, arith}
 use Rattle.pl_exec.specs.declared.term_session.TermSession.{TermSession}
 use Rattle.std.proofs.lemmas.List.{length-take-le}
 use Rattle.pl_spec.specs.Rounding.{IsCell}
