@@ -33,6 +33,25 @@ pub returns-clause-live : goal.returns-clause-live
 returns-clause-live g c =
     live_below (slot_of c.args.chunk.now.plan.now) (IsArray (task_of c.args.chunk.now)) (left (is_used c.args.chunk.now.plan.now) (last_user c.args.chunk.now.plan.now) c.args.k (c.args.k + 1)) (kept_in (task_of c.args.chunk.now) (c.args.k + 1)) (c.args.k + 1) c.release_ended.new.workspace (λ j h. left_at_last (is_used c.args.chunk.now.plan.now) (last_user c.args.chunk.now.plan.now) c.args.k j h) c.release_ended.ensures.live
 
+pub returns-clause-counted : goal.returns-clause-counted
+returns-clause-counted g c = c.release_ended.ensures.counted
+
+pub returns-clause-len : goal.returns-clause-len
+returns-clause-len g c = c.release_ended.ensures.len ∙ c.add_term-filled.ensures.len
+
+pub returns-clause-slots : goal.returns-clause-slots
+returns-clause-slots g c = c.release_ended.ensures.slots ∙ c.add_term-filled.ensures.slots
+
+pub returns-clause-cost : goal.returns-clause-cost
+returns-clause-cost g c =
+    let used : is_used c.args.chunk.now.plan.now c.args.k ≡ true = search rules in
+    rw used c.add_term-filled.ensures.cost
+
+pub returns-clause-applied : goal.returns-clause-applied
+returns-clause-applied g c =
+    let used : is_used c.args.chunk.now.plan.now c.args.k ≡ true = search rules in
+    rw used c.add_term-filled.ensures.applied
+
 pub returns-clause-peak : goal.returns-clause-peak
 returns-clause-peak g c =
     let used : is_used c.args.chunk.now.plan.now c.args.k ≡ true = search rules in

@@ -19,8 +19,20 @@ fill_last-requires-clause-second g t c = c.requires.cells.second 1 (omega (arith
 pub fill_last-requires-clause-third : goal.fill_last-requires-clause-third
 fill_last-requires-clause-third g t c = c.requires.cells.third 2 (omega (arith, c.if-place-eq3.true))
 
+pub shape_of-cells-then-place-eq3 : goal.shape_of-cells-then-place-eq3
+shape_of-cells-then-place-eq3 g t c = c.fill_last.auto.first
+
+pub shape_of-cells-then-place-eq3-2 : goal.shape_of-cells-then-place-eq3-2
+shape_of-cells-then-place-eq3-2 g t c = c.fill_last.auto.second
+
+pub shape_of-cells-then-place-eq3-3 : goal.shape_of-cells-then-place-eq3-3
+shape_of-cells-then-place-eq3-3 g t c = c.fill_last.auto.third
+
 pub returns-then-place-eq3 : goal.returns-then-place-eq3
 returns-then-place-eq3 g t c = filled_as (task_for c.args.term.now) c.args.term.now.id.0 0 _ c.args.workspace.now c.args.workspace.now c.fill_last.new.own _ c.args.steps.now c.fill_last.new.steps c.fill_last.result (from_end (node_for c.args.term.now) c.args.place c.if-place-eq3.true) refl c.fill_last.ensures
+
+pub overflow_add-place : goal.overflow_add-place
+overflow_add-place g t c = omega (arith, c.requires.place, c.if-place-eq3.false)
 
 pub fill_from-requires : goal.fill_from-requires
 fill_from-requires g t c =
@@ -43,6 +55,15 @@ fill_from-requires g t c =
       ),
     )
 
+pub shape_of-cells-then-one_new-eq0 : goal.shape_of-cells-then-one_new-eq0
+shape_of-cells-then-one_new-eq0 g t c = refl
+
+pub shape_of-cells-then-one_new-eq0-2 : goal.shape_of-cells-then-one_new-eq0-2
+shape_of-cells-then-one_new-eq0-2 g t c = c.fill_from.auto.cells.0
+
+pub shape_of-cells-then-one_new-eq0-3 : goal.shape_of-cells-then-one_new-eq0-3
+shape_of-cells-then-one_new-eq0-3 g t c = c.fill_from.auto.cells.1.0
+
 pub returns-then-one_new-eq0 : goal.returns-then-one_new-eq0
 returns-then-one_new-eq0 g t c =
     let none : one_new (new_column (node_for c.args.term.now) c.args.place) ≡ 0 = omega (arith, c.one_new.ensures.value, c.if-one_new-eq0.true) in
@@ -64,6 +85,9 @@ begin-column-requires g t c =
     let place : c.args.place < 3 = omega (arith, c.requires.place, c.if-place-eq3.false) in
     let slot = c.column_slot-slot.ensures ∙ ap (column_slot c.args.term.now.chunk.now.plan.now c.args.term.now.id.0) c.new_count.ensures.value in
     slot_free c.args.term.now.chunk.now c.args.workspace.now c.args.term.now.id.0 (node_for c.args.term.now) c.requires.run c.args.place place one c.requires.free c.column_slot-slot.result slot
+
+pub overflow_add-place-2 : goal.overflow_add-place-2
+overflow_add-place-2 g t c = omega (arith, c.requires.place, c.if-place-eq3.false)
 
 pub fill_from-filled-requires : goal.fill_from-filled-requires
 fill_from-filled-requires g t c =
@@ -106,6 +130,9 @@ finish-requires-clause-begun g t c =
     let slot = c.column_slot-slot.ensures ∙ ap (column_slot c.args.term.now.chunk.now.plan.now c.args.term.now.id.0) c.new_count.ensures.value in
     (finish_in c.args.term.now.chunk.now c.args.workspace.now c.args.term.now.id.0 (node_for c.args.term.now) c.requires.run c.args.place place one c.requires.free c.column_slot-slot.result slot c.begin-column.new.self c.begin-column.ensures.changed c.fill_from-filled.new.workspace c.fill_from-filled.new.own c.args.steps.now c.fill_from-filled.new.steps c.fill_from-filled.result c.fill_from-filled.ensures).1
 
+pub finish-requires-clause-same : goal.finish-requires-clause-same
+finish-requires-clause-same g t c = c.begin-column.ensures.slot
+
 pub finish-requires-clause-whole : goal.finish-requires-clause-whole
 finish-requires-clause-whole g t c =
     sym (length_refill (length c.begin-column.result.cells) c.begin-column.result.cells _ refl) ∙ c.begin-column.ensures.cells
@@ -117,6 +144,15 @@ release-requires g t c =
     let place : c.args.place < 3 = omega (arith, c.requires.place, c.if-place-eq3.false) in
     let slot = c.column_slot-slot.ensures ∙ ap (column_slot c.args.term.now.chunk.now.plan.now c.args.term.now.id.0) c.new_count.ensures.value in
     (_, is_live c.args.term.now.chunk.now c.args.workspace.now c.args.term.now.id.0 (node_for c.args.term.now) c.requires.run c.args.place place one c.requires.free c.column_slot-slot.result slot c.begin-column.new.self c.begin-column.ensures.changed c.fill_from-filled.new.workspace c.fill_from-filled.new.own c.args.steps.now c.fill_from-filled.new.steps c.fill_from-filled.result c.fill_from-filled.ensures c.finish.new.self _ c.finish.ensures)
+
+pub shape_of-cells-else-one_new-eq0 : goal.shape_of-cells-else-one_new-eq0
+shape_of-cells-else-one_new-eq0 g t c = refl
+
+pub shape_of-cells-else-one_new-eq0-2 : goal.shape_of-cells-else-one_new-eq0-2
+shape_of-cells-else-one_new-eq0-2 g t c = c.fill_from-filled.auto.cells.0
+
+pub shape_of-cells-else-one_new-eq0-3 : goal.shape_of-cells-else-one_new-eq0-3
+shape_of-cells-else-one_new-eq0-3 g t c = c.fill_from-filled.auto.cells.1.0
 
 pub returns : goal.returns
 returns g t c =

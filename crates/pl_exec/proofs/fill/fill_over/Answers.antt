@@ -9,6 +9,30 @@ use Rattle.pl_exec.proofs.Courses.{course_array}
 use Rattle.pl_exec.proofs.Spans.{all_written, more_written, row_put}
 use Rattle.pl_exec.proofs.fill.fill_over.Goals as goal
 
+pub slice_bounds-row-end : goal.slice_bounds-row-end
+slice_bounds-row-end c = omega (arith, c.requires.out, c.loop-j.auto.out)
+
+pub slice_bounds-row-end-in-loop-j : goal.slice_bounds-row-end-in-loop-j
+slice_bounds-row-end-in-loop-j c = sym (length-take-le (assets_in (task_in c.args.course.now)) c.loop-j.out (omega (arith, c.requires.out, c.loop-j.auto.out)))
+
+pub slice_bounds-row_on-end : goal.slice_bounds-row_on-end
+slice_bounds-row_on-end c = omega (arith, c.requires.first, c.loop-j.auto.first)
+
+pub slice_bounds-row_on-end-in-loop-j : goal.slice_bounds-row_on-end-in-loop-j
+slice_bounds-row_on-end-in-loop-j c = sym (length-take-le (assets_in (task_in c.args.course.now)) c.loop-j.first (omega (arith, c.requires.first, c.loop-j.auto.first)))
+
+pub slice_bounds-row_on-end-in-loop-j-2 : goal.slice_bounds-row_on-end-in-loop-j-2
+slice_bounds-row_on-end-in-loop-j-2 c = omega (arith, c.requires.second, c.loop-j.auto.second)
+
+pub slice_bounds-row_on-end-in-loop-j-3 : goal.slice_bounds-row_on-end-in-loop-j-3
+slice_bounds-row_on-end-in-loop-j-3 c = sym (length-take-le (assets_in (task_in c.args.course.now)) c.loop-j.second (omega (arith, c.requires.second, c.loop-j.auto.second)))
+
+pub slice_bounds-row_on-end-in-loop-j-4 : goal.slice_bounds-row_on-end-in-loop-j-4
+slice_bounds-row_on-end-in-loop-j-4 c = omega (arith, c.requires.keep, c.loop-j.auto.keep)
+
+pub slice_bounds-row_on-end-in-loop-j-5 : goal.slice_bounds-row_on-end-in-loop-j-5
+slice_bounds-row_on-end-in-loop-j-5 c = sym (length-take-le (assets_in (task_in c.args.course.now)) c.loop-j.keep (omega (arith, c.requires.keep, c.loop-j.auto.keep)))
+
 pub row_on-requires-clause-term_session : goal.row_on-requires-clause-term_session
 row_on-requires-clause-term_session c = c.on_session-term_session.ensures.term_session
 

@@ -1,9 +1,27 @@
-use Rattle.std.proofs.Common.{rules, ◌≡◌, arith, ◌∙◌, sym, subst, refl, Some, None}
-use Rattle.pl_cross.specs.Section.{HasParameters}
+use Rattle.std.proofs.Common.{rules, ◌≡◌, true, arith, ◌∙◌, sym, subst, refl, Some, None}
+use Rattle.pl_cross.specs.Section.{HasParameters, is_section}
 use Rattle.pl_values.proofs.Rows.{section-cells, section-out, section-right}
 use Rattle.pl_exec.specs.ChunkInputs.{node_at}
 use Rattle.pl_exec.proofs.Givens.{fills_sids, section_is}
 use Rattle.pl_exec.proofs.kinds.section_row.Goals as goal
+
+pub section_values-requires-clause-room : goal.section_values-requires-clause-room
+section_values-requires-clause-room c = omega (arith, c.requires.cross, c.input_row.ensures.long, c.requires.values)
+
+pub section_values-requires-clause-out : goal.section_values-requires-clause-out
+section_values-requires-clause-out c = omega (arith, c.requires.long, c.input_row.ensures.long, c.requires.values)
+
+pub section_values-requires-clause-kind : goal.section_values-requires-clause-kind
+section_values-requires-clause-kind c = subst (λ k. is_section k ≡ true) (sym c.kind_of.ensures) c.requires.kind
+
+pub section_values-requires-in-None-clause-room : goal.section_values-requires-in-None-clause-room
+section_values-requires-in-None-clause-room c = omega (arith, c.requires.cross, c.input_row.ensures.long, c.requires.values)
+
+pub section_values-requires-in-None-clause-out : goal.section_values-requires-in-None-clause-out
+section_values-requires-in-None-clause-out c = omega (arith, c.requires.long, c.input_row.ensures.long, c.requires.values)
+
+pub section_values-requires-in-None-clause-kind : goal.section_values-requires-in-None-clause-kind
+section_values-requires-in-None-clause-kind c = subst (λ k. is_section k ≡ true) (sym c.kind_of-in-None.ensures) c.requires.kind
 
 pub term_row-requires-clause-read : goal.term_row-requires-clause-read
 term_row-requires-clause-read c =

@@ -1,10 +1,47 @@
-use Rattle.std.proofs.Common.{◌≡◌, ◌-◌, ◌∙◌, ap, length, subst, sym}
+use Rattle.std.proofs.Common.{◌≡◌, ◌≤◌, ◌<◌, ◌+◌, ◌-◌, ◌∙◌, ap, arith, length, subst, sym}
 use Rattle.pl_terms.specs.Kinds.{kind_of}
 use Rattle.pl_factors.specs.Lanes.{AreValues, TakesLanes}
 use Rattle.pl_exec.specs.declared.term_session.TermSession.{TermSession}
-use Rattle.pl_exec.specs.ChunkInputs.{IsLentReach, node_at, node_in}
+use Rattle.pl_exec.specs.Tasks.{assets_in}
+use Rattle.pl_exec.specs.ChunkInputs.{HasBars, IsLentAt, IsLentReach, bars_now, node_at, node_in, one_col, task_at}
 use Rattle.pl_exec.proofs.Stretches.{lanes_taken, stretch_given}
 use Rattle.pl_exec.proofs.windows.fill_stretch.Goals as goal
+
+pub reach_in-first-requires-clause-bars : goal.reach_in-first-requires-clause-bars
+reach_in-first-requires-clause-bars c = subst (λ (t : TermSession). HasBars t.chunk.now t.term.0 (node_at t) (one_col t.chunk.now c.args.lane.now.i) t.session (bars_now c.args.bars)) (sym c.on_session-term_session.ensures.is) c.requires.bars
+
+pub reach_in-first-requires-clause-asset : goal.reach_in-first-requires-clause-asset
+reach_in-first-requires-clause-asset c = subst (λ (t : TermSession). c.args.lane.now.i < assets_in (task_at t)) (sym c.on_session-term_session.ensures.is) c.requires.lane.asset
+
+pub reach_in-first-requires-clause-lent : goal.reach_in-first-requires-clause-lent
+reach_in-first-requires-clause-lent c = subst (λ (t : TermSession). IsLentAt t c.args.lane.now.sources.now.first) (sym c.on_session-term_session.ensures.is) (0, c.requires.lane.lent.first)
+
+pub reach_in-first-requires-clause-late : goal.reach_in-first-requires-clause-late
+reach_in-first-requires-clause-late c = subst (λ (t : TermSession). t.session + (length c.args.out.now - 1) ≤ t.chunk.now.to) (sym c.on_session-term_session.ensures.is) (omega (arith, c.requires.lane.course.end, c.requires.within, c.requires.some))
+
+pub reach_in-second-requires-clause-bars : goal.reach_in-second-requires-clause-bars
+reach_in-second-requires-clause-bars c = subst (λ (t : TermSession). HasBars t.chunk.now t.term.0 (node_at t) (one_col t.chunk.now c.args.lane.now.i) t.session (bars_now c.args.bars)) (sym c.on_session-term_session.ensures.is) c.requires.bars
+
+pub reach_in-second-requires-clause-asset : goal.reach_in-second-requires-clause-asset
+reach_in-second-requires-clause-asset c = subst (λ (t : TermSession). c.args.lane.now.i < assets_in (task_at t)) (sym c.on_session-term_session.ensures.is) c.requires.lane.asset
+
+pub reach_in-second-requires-clause-lent : goal.reach_in-second-requires-clause-lent
+reach_in-second-requires-clause-lent c = subst (λ (t : TermSession). IsLentAt t c.args.lane.now.sources.now.second) (sym c.on_session-term_session.ensures.is) (1, c.requires.lane.lent.second)
+
+pub reach_in-second-requires-clause-late : goal.reach_in-second-requires-clause-late
+reach_in-second-requires-clause-late c = subst (λ (t : TermSession). t.session + (length c.args.out.now - 1) ≤ t.chunk.now.to) (sym c.on_session-term_session.ensures.is) (omega (arith, c.requires.lane.course.end, c.requires.within, c.requires.some))
+
+pub reach_in-third-requires-clause-bars : goal.reach_in-third-requires-clause-bars
+reach_in-third-requires-clause-bars c = subst (λ (t : TermSession). HasBars t.chunk.now t.term.0 (node_at t) (one_col t.chunk.now c.args.lane.now.i) t.session (bars_now c.args.bars)) (sym c.on_session-term_session.ensures.is) c.requires.bars
+
+pub reach_in-third-requires-clause-asset : goal.reach_in-third-requires-clause-asset
+reach_in-third-requires-clause-asset c = subst (λ (t : TermSession). c.args.lane.now.i < assets_in (task_at t)) (sym c.on_session-term_session.ensures.is) c.requires.lane.asset
+
+pub reach_in-third-requires-clause-lent : goal.reach_in-third-requires-clause-lent
+reach_in-third-requires-clause-lent c = subst (λ (t : TermSession). IsLentAt t c.args.lane.now.sources.now.third) (sym c.on_session-term_session.ensures.is) (2, c.requires.lane.lent.third)
+
+pub reach_in-third-requires-clause-late : goal.reach_in-third-requires-clause-late
+reach_in-third-requires-clause-late c = subst (λ (t : TermSession). t.session + (length c.args.out.now - 1) ≤ t.chunk.now.to) (sym c.on_session-term_session.ensures.is) (omega (arith, c.requires.lane.course.end, c.requires.within, c.requires.some))
 
 pub fill_values-requires : goal.fill_values-requires
 fill_values-requires c =
