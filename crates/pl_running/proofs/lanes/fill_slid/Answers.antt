@@ -66,3 +66,7 @@ loop-k-preserved c =
       values = one_given value c.loop-k.k c.loop-k.out c.next_value.result c.loop-k.invariant.values (omega (arith, size, inside, c.loop-k.auto.out))
           (c.next_value.ensures.value ∙ new (λ x y z. formula_of kind x y z ≡ value c.loop-k.k) refl) c.next_value.ensures.cell;
     })
+
+pub start-running-requires : goal.start-running-requires
+start-running-requires c =
+    holds_of (TakesWindows (kind_of c.args.kind.now)) _ _ _ _ _ _ c.window_at-first.ensures c.window_at-second.ensures c.window_at-third.ensures (c.requires.lanes.windows 0 c.requires.windows)
