@@ -6,6 +6,7 @@ use Rattle.pl_spec.specs.Cells.{present_values, total, count}
 use Rattle.pl_pipeline.specs.Formula.{square, spread}
 use Rattle.pl_lanes.proofs.Cells.{few-present, total-few}
 use Rattle.pl_fixed.proofs.RoundingLemmas.{div_round-few}
+use Rattle.pl_factors.proofs.Kept.{kept_cell}
 use Rattle.pl_factors.proofs.deviations.deviation_of.Goals as goal
 
 -- the middle that the code computes
@@ -39,3 +40,6 @@ returns-clause-value c =
     let none = c.if-number-eq0.false in
     let some : nat_eq (count xs) 0 ≡ false = ne_eqb _ _ (λ z. none (c.requires.number ∙ z)) in
     rw some (to_z-of_z w64 _ fr ∙ c.to_cell.ensures.value ∙ ap to_cell (wide ∙ ap pos root))
+
+pub returns-clause-cell : goal.returns-clause-cell
+returns-clause-cell c = kept_cell _ c.to_cell.ensures.cell

@@ -5,7 +5,7 @@ use Rattle.pl_factors.specs.Kinds.{formula_of}
 use Rattle.pl_factors.specs.Kept.{Kept, kept_of}
 use Rattle.pl_factors.specs.Lanes.{formula_at, window_at}
 use Rattle.pl_factors.specs.Spans.{TakesSpans, TakesWindows}
-use Rattle.pl_factors.proofs.Following.{after_hold, before_hold, holds_of, none_given, one_given, same_of, spans_at}
+use Rattle.pl_factors.proofs.Following.{after_hold, all_given, before_hold, holds_of, none_given, one_given, same_of, spans_at}
 use Rattle.pl_factors.proofs.lanes.fill_slid.Goals as goal
 
 pub value-requires-clause-windows : goal.value-requires-clause-windows
@@ -66,3 +66,27 @@ loop-k-preserved c =
       values = one_given value c.loop-k.k c.loop-k.out c.next_value.result c.loop-k.invariant.values (omega (arith, size, inside, c.loop-k.auto.out))
           (c.next_value.ensures.value ∙ new (λ x y z. formula_of kind x y z ≡ value c.loop-k.k) refl) c.next_value.ensures.cell;
     })
+
+pub start-running-requires : goal.start-running-requires
+start-running-requires c =
+    holds_of (TakesWindows (kind_of c.args.kind.now)) _ _ _ _ _ _ c.window_at-first.ensures c.window_at-second.ensures c.window_at-third.ensures (c.requires.lanes.windows 0 c.requires.windows)
+
+pub window_at-a_span-requires : goal.window_at-a_span-requires
+window_at-a_span-requires c =
+    let size = length-set c.args.out.now 0 (to_z w64 (of_z w64 c.value.result)) in
+    λ some. omega (arith, size, c.loop-k-test.true, c.loop-k.auto.k, c.loop-k.auto.out, c.requires.lanes.first_long some)
+
+pub window_at-b_span-requires : goal.window_at-b_span-requires
+window_at-b_span-requires c =
+    let size = length-set c.args.out.now 0 (to_z w64 (of_z w64 c.value.result)) in
+    λ some. omega (arith, size, c.loop-k-test.true, c.loop-k.auto.k, c.loop-k.auto.out, c.requires.lanes.second_long some)
+
+pub window_at-c_span-requires : goal.window_at-c_span-requires
+window_at-c_span-requires c =
+    let size = length-set c.args.out.now 0 (to_z w64 (of_z w64 c.value.result)) in
+    λ some. omega (arith, size, c.loop-k-test.true, c.loop-k.auto.k, c.loop-k.auto.out, c.requires.lanes.third_long some)
+
+pub returns : goal.returns
+returns c =
+    let size = length-set c.args.out.now 0 (to_z w64 (of_z w64 c.value.result)) in
+    all_given (formula_at (kind_of c.args.kind.now) c.args.size c.args.a.now c.args.b.now c.args.c.now) (length c.args.out.now) c.loop-k.k c.loop-k.out (omega (arith, size, c.loop-k-test.false, c.loop-k.auto.out)) c.loop-k.invariant.values

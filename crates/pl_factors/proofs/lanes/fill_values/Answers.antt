@@ -9,3 +9,6 @@ returns-in-ExponentialWeightedMovingAverage-clause-values c =
     let fits : FitsSigned w64 c.in-ExponentialWeightedMovingAverage.decay = search rules in
     let means = rw (to_z-of_z w64 _ fits) at (c.fill_faded.ensures c.args.b.now c.args.c.now) in
     rw c.in-ExponentialWeightedMovingAverage.is means
+
+pub fill_anew-requires : goal.fill_anew-requires
+fill_anew-requires c = c.requires

@@ -28,3 +28,18 @@ pub returns-clause-cell : goal.returns-clause-cell
 returns-clause-cell c =
     let fr : FitsSigned w64 c.quot.result = search rules in
     rw (to_z-of_z w64 _ fr) c.quot.ensures.cell
+
+pub overflow_mul-close : goal.overflow_mul-close
+overflow_mul-close c =
+    let tx = is_missing-not c.args.close c.ranges.close c.if-close-eq-MISSING.false in
+    let tl = is_missing-not c.args.low c.ranges.low c.if-low-eq-MISSING.false in
+    let small = apart c.args.low c.args.close (is_within _ c.requires.low tl) (is_within _ c.requires.close tx) in
+    rw (difference-wide c.args.low c.args.close c.ranges.low c.ranges.close) (scaled-fits (c.args.close -ℤ c.args.low) (pos 100000000) small (omega arith)).0
+
+pub quot-requires-clause-dividend : goal.quot-requires-clause-dividend
+quot-requires-clause-dividend c =
+    let tx = is_missing-not c.args.close c.ranges.close c.if-close-eq-MISSING.false in
+    let tl = is_missing-not c.args.low c.ranges.low c.if-low-eq-MISSING.false in
+    let small = apart c.args.low c.args.close (is_within _ c.requires.low tl) (is_within _ c.requires.close tx) in
+    let s = scaled-fits (c.args.close -ℤ c.args.low) (pos 100000000) small (omega arith) in
+    rw (difference-wide c.args.low c.args.close c.ranges.low c.ranges.close, to_z-of_z w128 _ s.0) s.1
