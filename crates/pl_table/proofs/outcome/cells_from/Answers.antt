@@ -22,3 +22,8 @@ returns-clause-each c j h =
     ap (λ (n : ℕ). get_or (take n (drop start c.array-cells.result.now)) j (pos 0)) count
     ∙ ap (λ (l : ℕ). get_or (take c.args.count (drop (c.args.place * (o.to + 1 - l) + (c.args.first - l)) c.array-cells.result.now)) j (pos 0)) low
     ∙ tiles.part-at o c.requires.outcome c.args.term.0 c.requires.output c.args.place c.requires.place c.array-cells.result.now (ap (slot_at o.workspace.now) (sym c.slot.ensures.value) ∙ c.array-cells.ensures) c.args.first c.args.count c.requires.first.from c.requires.last j h
+
+pub array-cells-requires : goal.array-cells-requires
+array-cells-requires c =
+    let o = c.args.outcome.now in let a = c.requires.outcome.arrays c.args.term.0 c.requires.output in
+    (a.cells, ap (slot_at o.workspace.now) c.slot.ensures.value ∙ a.live)
