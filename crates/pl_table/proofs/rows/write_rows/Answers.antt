@@ -40,7 +40,7 @@ returns-in_err-write_session-clause-writes g c =
     let o = c.args.outcome.now in let w = world_in o in let pl = pipeline_in o in let s = c.loop-session.session in
     let next = ap (lines w pl o.asked.format) (sessions-next w pl s o.to (omega arith)) ∙ lines-append w pl o.asked.format (session_rows w pl (pos s)) (rows_of_sessions w pl (s + 1) (o.to + 1 - (s + 1))) in
     let p = err_from_is_err_and c.from_residual.result c.from_residual.ensures.1 in
-    rw (p.1, p.2) (writing-stop (lines w pl o.asked.format (session_rows w pl (pos s))) (lines w pl o.asked.format (rows_of_sessions w pl (s + 1) (o.to + 1 - (s + 1)))) (writing-over next c.loop-session.invariant.writing) c.in_err-write_session.ensures.writes)
+    rw (p.1, p.2) (writing-stop _ _ (writing-over next c.loop-session.invariant.writing) c.in_err-write_session.ensures.writes)
 
 pub loop-session-preserved : goal.loop-session-preserved
 loop-session-preserved g c =
@@ -53,7 +53,7 @@ loop-session-preserved g c =
     record {
       start = omega (arith, c.loop-session.invariant.start);
       within = omega arith;
-      writing = writing-more (lines w pl o.asked.format (session_rows w pl (pos s))) (lines w pl o.asked.format rest) (writing-over next c.loop-session.invariant.writing) c.in_ok-write_session.ensures.writes;
+      writing = writing-more _ _ (writing-over next c.loop-session.invariant.writing) c.in_ok-write_session.ensures.writes;
       pieces = written-more c.loop-session.invariant.pieces c.in_ok-write_session.ensures.pieces (omega (arith, c.loop-session.invariant.more, c.in_ok-write_session.ensures.rows));
       more = omega (arith, c.loop-session.invariant.more, c.in_ok-write_session.ensures.rows);
       rows = omega (arith, ap length own, length-append (session_rows w pl (pos s)) rest, c.loop-session.invariant.rows, c.in_ok-write_session.ensures.rows);

@@ -5,7 +5,6 @@ use Rattle.std.proofs.lemmas.Result.{err_from_is_err_and}
 use Rattle.pl_outside.proofs.Pieces.{writing-start, writing-more, writing-end, writing-stop, writing-over, writes-over, written-none, written-more}
 use Rattle.pl_spec.specs.Parts.{sid_at}
 use Rattle.pl_pipeline.specs.Table.{table_row}
-use Rattle.pl_pipeline.specs.Text.{row_line}
 use Rattle.pl_table.specs.declared.totals.Totals.{Totals}
 use Rattle.pl_table.specs.Outcomes.{lines, pipeline_in, sids_in, world_in}
 use Rattle.pl_table.specs.Sums.{rows_sum}
@@ -30,12 +29,10 @@ returns-in_err-write_row-clause-writes g c =
     let o = c.args.table.now.outcome.now in let w = world_in o in let pl = pipeline_in o in
     let inside : c.loop-place.place < length (sids_in o) = omega (arith, length-map o.cols.now (sid_at o.asked.world.assets.now)) in
     let next = rows_with w pl c.args.session (sids_in o) c.loop-place.place inside c.in-Some.ensures.some in
-    let row = row_line w pl o.asked.format (table_row w pl (pos c.args.session) (get_or (sids_in o) c.loop-place.place 0)) in
-    let rest = rows_of w pl c.args.session (drop (c.loop-place.place + 1) (sids_in o)) in
     let p = err_from_is_err_and c.from_residual.result c.from_residual.ensures.1 in
     rw (p.1, p.2)
     (writes-over (ap (lines w pl o.asked.format) (rows_of_session w pl (sids_in o) c.args.session (c.requires.table.outcome.all c.args.session c.requires.session.from c.requires.session.to)))
-    (writing-stop row (lines w pl o.asked.format rest) (writing-over (ap (lines w pl o.asked.format) next) c.loop-place.invariant.writing) c.in_err-write_row.ensures.writes))
+    (writing-stop _ _ (writing-over (ap (lines w pl o.asked.format) next) c.loop-place.invariant.writing) c.in_err-write_row.ensures.writes))
 
 pub loop-place-preserved : goal.loop-place-preserved
 loop-place-preserved g c =
@@ -45,11 +42,10 @@ loop-place-preserved g c =
       | in-Some+in_ok-write_row b ↦
           let next = rows_with w pl c.args.session (sids_in o) i inside b.in-Some.ensures.some in
           let rest = rows_of w pl c.args.session (drop (i + 1) (sids_in o)) in
-          let row = row_line w pl o.asked.format (table_row w pl (pos c.args.session) (get_or (sids_in o) i 0)) in
           let count = ap (λ (t : Totals). t.rows) b.totals-is in
           let total = ap (λ (t : Totals). t.sum) b.totals-is in
           record {
-            writing = rw b.out-is (writing-more row (lines w pl o.asked.format rest) (writing-over (ap (lines w pl o.asked.format) next) c.loop-place.invariant.writing) b.in_ok-write_row.ensures.writes);
+            writing = rw b.out-is (writing-more _ _ (writing-over (ap (lines w pl o.asked.format) next) c.loop-place.invariant.writing) b.in_ok-write_row.ensures.writes);
             pieces = rw b.out-is (written-more c.loop-place.invariant.pieces b.in_ok-write_row.ensures.pieces (omega (arith, count, c.loop-place.invariant.more, b.in_ok-write_row.ensures.rows)));
             more = omega (arith, count, c.loop-place.invariant.more, b.in_ok-write_row.ensures.rows);
             rows = omega (arith, count, ap length next, c.loop-place.invariant.rows, b.in_ok-write_row.ensures.rows);
