@@ -94,12 +94,30 @@ module _ (o : Outcome) (ok : IsOutcome o) (t : ℕ) (output : contains (outputs 
       let at : low + (s - low) ≡ s = omega arith in
       rw (← at) ((ok.arrays t output).holds.cell place (s - low) inside (omega arith))
 
+  held : (cells : List ℤ) → slot_at o.workspace.now (slot_of o.asked.plan.now t) ≡ Live cells → (ok.arrays t output).cells ≡ cells
+  held cells live = let e : Live (ok.arrays t output).cells ≡ Live cells = sym (ok.arrays t output).live ∙ live in cc
+
+  module _ (low : ℕ) (cells : List ℤ) (is : low ≡ low_at o.asked.plan.now t o.from) (live : slot_at o.workspace.now (slot_of o.asked.plan.now t) ≡ Live cells) where
+    -- where the part of the place ends
+    pub part-end : place * (o.to + 1 - low) + (o.to + 1 - low) ≤ length cells
+    part-end =
+        let room : places_of o * (o.to + 1 - low) ≤ length cells = rw (is, ← held cells live) (ok.arrays t output).holds.room in
+        let one : (place + 1) * (o.to + 1 - low) ≡ place * (o.to + 1 - low) + (o.to + 1 - low) = omega arith in
+        let m = mul-le (place + 1) (o.to + 1 - low) (places_of o) (o.to + 1 - low) (omega arith) (omega arith) in
+        omega (arith, room, one, m)
+
+    pub cell-there : (s : ℕ) → o.from ≤ s → s ≤ o.to → get_or cells (place * (o.to + 1 - low) + (s - low)) (pos 0) ≡ cell_of (world_in o) (pipeline_in o) (sids_in o) t place s
+    cell-there s early late =
+        let r = low_within in
+        let at : low_at o.asked.plan.now t o.from + (s - low_at o.asked.plan.now t o.from) ≡ s = omega arith in
+        rw (is, ← held cells live) ((ok.arrays t output).holds.each place (s - low_at o.asked.plan.now t o.from) inside (omega arith) ∙ ap (cell_of (world_in o) (pipeline_in o) (sids_in o) t place) at)
+
   module _ (cells : List ℤ) (live : slot_at o.workspace.now (slot_of o.asked.plan.now t) ≡ Live cells) (first count : ℕ) (early : o.from ≤ first) (late : first + count ≤ o.to + 1) where
     abbrev start : ℕ
     start = place * (o.to + 1 - low_at o.asked.plan.now t o.from) + (first - low_at o.asked.plan.now t o.from)
 
     own : (ok.arrays t output).cells ≡ cells
-    own = let e : Live (ok.arrays t output).cells ≡ Live cells = sym (ok.arrays t output).live ∙ live in cc
+    own = held cells live
 
     pub part-at : (j : ℕ) → j < count → get_or (take count (drop start cells)) j (pos 0) ≡ cell_of (world_in o) (pipeline_in o) (sids_in o) t place (first + j)
     part-at j h =
