@@ -41,6 +41,9 @@ inside low high day t u = grind (arith, ints)
 pub front_length : {X : Type 0} (p : X → Bool) (xs : List X) → length (take_while p xs) ≡ prefix_len p xs
 front_length p xs = omega (arith, length-take (prefix_len p xs) xs, prefix_len-le-length p xs)
 
+pub front_within : {X : Type 0} (p : X → Bool) (xs : List X) (n : ℕ) → n ≡ length (take_while p xs) → n ≡ length (take n xs)
+front_within p xs n is = omega (arith, is, front_length p xs, prefix_len-le-length p xs, length-take n xs)
+
 -- from the first later one on, those up to the other day
 pub between-front : (low high : ℤ) (xs : List Adjust) (from : ℕ) → AllPairs (λ a b. a.day ≤ℤ b.day) xs → IsEnd low xs from → from ≤ length xs
     → take (prefix_len (λ a. int_le a.day high) (drop from xs)) (drop from xs) ≡ filter (is_between low high) xs

@@ -8,6 +8,7 @@ use Rattle.std.proofs.lemmas.List.Elements.{All-filter}
 use Rattle.std.proofs.lemmas.List.Sums.{fold-append, sum_by-append}
 use Rattle.pl_spec.specs.declared.Column.{Column}
 use Rattle.pl_spec.specs.Window.{Effect, effect, effects_in, changed, after_all, step_of, step_count}
+use Rattle.pl_spec.specs.World.{Event}
 use Rattle.pl_adjust.specs.declared.adjust.Adjust.{Adjust}
 use Rattle.pl_adjust.specs.Events.{PutCells, PutsCell, effects_of, event_of}
 use Rattle.pl_adjust.proofs.Between.{is_between}
@@ -51,6 +52,12 @@ pub count_more : (c : Column) (bar : ℤ) (xs : List Adjust) (i : ℕ) (a : Adju
 count_more c bar xs i a within item =
     sym (sum_by-append step_of (option_to_list (effect c bar (event_of a))) (effects_of c bar (drop (i + 1) xs)))
     ∙ ap step_count (effects-more c bar xs i a within item)
+
+pub seen_one : (c : Column) (bar x y : ℤ) (e : Event) (f : Effect) → effect c bar e ≡ Some f → y ≡ changed x f → y ≡ after_all x (option_to_list (effect c bar e))
+seen_one c bar x y e f is value = rw is value
+
+pub seen_none : (c : Column) (bar x : ℤ) (e : Event) → effect c bar e ≡ None → x ≡ after_all x (option_to_list (effect c bar e))
+seen_none c bar x e is = rw is refl
 
 -- those between two days are of the list, and so is what they put
 pub put_at : (xs : List Adjust) (i : ℕ) (a : Adjust) → PutCells (map event_of xs) → i < length xs → a ≡ get_or xs i a → PutsCell (event_of a)

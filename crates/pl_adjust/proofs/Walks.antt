@@ -1,6 +1,6 @@
 -- One more row of a table.
 use Rattle.std.proofs.Common.{◌≡◌, ℕ, suc, ◌+◌, ◌<◌, ◌≤◌, true, false, List, [], ◌∷◌, ◌++◌, map, length, drop, get_or, Option, Some, None, refl, sym, ◌∙◌, ap, arith, unsigned_abs, IfSome, IsErrAnd, Result, pos, append_assoc, add-zero, zero-add, length-append}
-use Rattle.std.proofs.lemmas.List.{at_drop_more, at_drop_all, map-append, length-map}
+use Rattle.std.proofs.lemmas.List.{append-nil, at_drop_more, at_drop_all, map-append, length-map}
 use Rattle.std.specs.Option.{option_or}
 use Rattle.std.proofs.lemmas.Option.{IfSome_then}
 use Rattle.std.proofs.lemmas.Result.{err_from_is_err_and}
@@ -8,6 +8,7 @@ use Rattle.pl_spec.specs.declared.AdjustmentKind.{AdjustmentKind}
 use Rattle.pl_spec.specs.declared.AssetRow.{AssetRow}
 use Rattle.pl_spec.specs.declared.RawAdjust.{RawAdjust}
 use Rattle.pl_spec.specs.Order.{adjustment_in, is_of, of_table}
+use Rattle.pl_spec.specs.Parts.{ColumnAdjustment}
 use Rattle.pl_adjust.specs.declared.adjust.Adjust.{Adjust}
 use Rattle.pl_adjust.specs.declared.columns.Row.{Row}
 use Rattle.pl_outside.specs.declared.keeper.Table.{Table}
@@ -56,6 +57,10 @@ row_known assets kind raw i d rows x within known is =
 pub row_unknown : (assets : List AssetRow) (kind : AdjustmentKind) (raw : List RawAdjust) (i : ℕ) (d : RawAdjust) (rows : List Row) → i < length raw → is_of assets (get_or raw i d) ≡ false
     → map row_of rows ++ map (in_column assets) (of_table assets kind (drop (i + 1) raw)) ≡ map row_of rows ++ map (in_column assets) (of_table assets kind (drop i raw))
 row_unknown assets kind raw i d rows within other = sym (at_drop_more (λ l. map row_of rows ++ of_rows assets kind l) raw i d within ∙ (rw other refl))
+
+pub rows_end : (assets : List AssetRow) (kind : AdjustmentKind) (raw : List RawAdjust) (i : ℕ) (rows all : List ColumnAdjustment) → length raw ≤ i
+    → rows ++ map (in_column assets) (of_table assets kind (drop i raw)) ≡ all → rows ≡ all
+rows_end assets kind raw i rows all past is = sym (append-nil rows) ∙ sym (at_drop_all (λ l. rows ++ of_rows assets kind l) raw i past) ∙ is
 
 -- a row's adjustment by column, from its parts
 pub row_parts : (assets : List AssetRow) (kind : AdjustmentKind) (r : RawAdjust) (col : ℕ) (a : Adjust) → col ≡ col_in assets (unsigned_abs r.sid) → event_of a ≡ (adjustment_in kind r).event

@@ -1,6 +1,7 @@
-use Rattle.std.proofs.Common.{◌∙◌, sym, get_or}
+use Rattle.std.proofs.Common.{◌∙◌, sym, get_or, map, arith}
+use Rattle.pl_adjust.specs.Rows.{row_of}
 use Rattle.pl_adjust.specs.Walk.{kind_of}
-use Rattle.pl_adjust.proofs.Walks.{blank, fault_more, fault_stops, fault_ends, row_known, row_unknown, row_parts, tells_then}
+use Rattle.pl_adjust.proofs.Walks.{blank, fault_more, fault_stops, fault_ends, row_known, row_unknown, row_parts, rows_end, tells_then}
 use Rattle.pl_adjust.proofs.rows.read_table.Goals as goal
 use Rattle.pl_adjust.proofs.rows.read_table.Goals.{in-Some+in_ok-push, in_default}
 
@@ -35,3 +36,10 @@ loop-i-preserved c =
 pub returns-clause-fault : goal.returns-clause-fault
 returns-clause-fault c =
     sym c.loop-i.invariant.fault ∙ fault_ends c.args.before c.loop-i.i c.args.table c.args.raw.now c.loop-i-test.false
+
+pub returns-clause-rows : goal.returns-clause-rows
+returns-clause-rows c =
+    rows_end c.args.assets.now (kind_of c.args.table) c.args.raw.now c.loop-i.i (map row_of c.loop-i.rows.items) _ c.loop-i-test.false c.loop-i.invariant.rows
+
+pub overflow_add-before : goal.overflow_add-before
+overflow_add-before c = omega (arith, c.requires, c.loop-i-test.true)

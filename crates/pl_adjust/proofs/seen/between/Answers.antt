@@ -2,7 +2,7 @@ use Rattle.std.proofs.Common.{◌≡◌, ◌-◌, arith, length, length-drop, ta
 use Rattle.std.specs.Int.RustNames.{int_le}
 use Rattle.std.proofs.lemmas.Int.{to_z-of_z}
 use Rattle.std.proofs.lemmas.List.Sorted.{IsPartitionPoint-from_clause}
-use Rattle.pl_adjust.proofs.Between.{parted, between-front, front_length}
+use Rattle.pl_adjust.proofs.Between.{parted, between-front, front_length, front_within}
 use Rattle.pl_adjust.specs.declared.adjust.Adjust.{Adjust}
 use Rattle.pl_adjust.proofs.seen.between.Goals as goal
 
@@ -19,3 +19,6 @@ returns c =
     ∙ between-front c.args.low c.args.high list from c.requires
     (IsPartitionPoint-from_clause (λ a. int_le a.day c.args.low) _ _ c.partition_point-from.ensures.partitioned (parted c.args.low list c.requires) (λ a r q k. search rules))
     c.partition_point-from.ensures.bound
+
+pub slice_bounds-result-end : goal.slice_bounds-result-end
+slice_bounds-result-end c = front_within _ _ c.count_by.result c.count_by.ensures

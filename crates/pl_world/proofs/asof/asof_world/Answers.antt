@@ -1,13 +1,11 @@
-use Rattle.std.proofs.Common.{◌+◌, ◌<◌, ◌^◌, arith, rules, FitsSigned, w32}
+use Rattle.std.proofs.Common.{arith, rules, FitsSigned, w32}
 use Rattle.std.proofs.lemmas.Int.{to_z-of_z}
 use Rattle.pl_world.specs.declared.owned.OwnedWorld.{OwnedWorld}
 use Rattle.pl_world.proofs.Known.{AreCut, is_known, is_owned, shows_same}
 use Rattle.pl_world.proofs.asof.asof_world.Goals as goal
 
 pub overflow_add-session : goal.overflow_add-session
-overflow_add-session c =
-    let few : c.args.session + 1 < 2 ^ 64 = omega (arith, c.requires.within, c.day-day.ensures.few) in
-    search rules
+overflow_add-session c = omega (arith, c.requires.within, c.day-day.ensures.few)
 
 pub returns : goal.returns
 returns c =
