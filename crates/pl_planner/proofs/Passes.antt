@@ -1,6 +1,7 @@
 -- The pass from the last term to the first over the pipelines of the language.
-use Rattle.std.proofs.Common.{◌≡◌, ℕ, zero, suc, ◌+◌, ◌*◌, ◌-◌, ◌<◌, ◌≤◌, Bool, true, false, ℤ, pos, ◌-ℤ◌, ◌<ℤ◌, AllPairs, List, length, Some, refl, arith, slice_get, replicate}
+use Rattle.std.proofs.Common.{◌≡◌, ℕ, zero, suc, ◌+◌, ◌*◌, ◌-◌, ◌<◌, ◌≤◌, Bool, true, false, ℤ, pos, ◌-ℤ◌, ◌<ℤ◌, AllPairs, List, length, Some, refl, sym, ◌∙◌, ap, inl, inr, arith, slice_get, replicate}
 use Rattle.std.specs.List.{list_any}
+use Rattle.std.proofs.lemmas.Bool.{cases_eq, true≢false}
 use Rattle.std.proofs.lemmas.Int.{ints}
 use Rattle.std.proofs.lemmas.Option.{slice_get_within}
 use Rattle.pl_pipeline.specs.Term.{Node, Graph, MentionsBelow}
@@ -44,6 +45,18 @@ module _ {days : List ℤ} (rise : AllPairs (λ a b. a <ℤ b) days) (s : ℕ) {
       let used = rw less at u in
       let is = rw less at f in
       rw (less, is) (step days rise s g outs ok.graph us k n h at used)
+
+  -- a term that isn't used asks for nothing
+  pub pass_skip : (us : List Use) (k : ℕ) → AreGathered days s g outs k us → (use_at us (k - 1)).used ≡ false → AreGathered days s g outs (k - 1) us
+  pass_skip us k h unused = record {
+    size = h.size;
+    sound = h.sound;
+    outs = h.outs;
+    given = λ u n t r l used e reads. elim (cases_eq u (k - 1)) [
+      | inl p ↦ absurd (true≢false (sym used ∙ ap (λ i. (use_at us i).used) p ∙ unused))
+      | inr p ↦ h.given u n t r (omega arith) used e reads
+    ];
+  }
 
   pub pass_ended : (us : List Use) → AreGathered days s g outs 0 us → AreUses g outs us × HaveExtras days s g outs us
   pass_ended us h = (gathered days rise s g outs ok.graph us h, extras days rise s g outs ok.graph us h)

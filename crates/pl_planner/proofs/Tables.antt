@@ -1,13 +1,16 @@
 -- The extra sessions of a range, row by row.
-use Rattle.std.proofs.Common.{◌≡◌, ℕ, zero, suc, ◌+◌, ◌-◌, ◌*◌, ◌/◌, ◌%◌, ◌<◌, ◌≤◌, true, false, Bool, ℤ, List, ◌++◌, length, map, get_or, refl, sym, ◌∙◌, ap, subst, arith, inl, inr, length-append}
+use Rattle.std.proofs.Common.{◌≡◌, ℕ, zero, suc, ◌+◌, ◌-◌, ◌*◌, ◌/◌, ◌%◌, ◌<◌, ◌≤◌, true, false, Bool, ℤ, List, [], ◌∷◌, ◌++◌, length, map, take, append_assoc, get_or, refl, sym, ◌∙◌, ap, subst, arith, inl, inr, length-append}
 use Rattle.std.proofs.lemmas.Bool.{cases_lt}
+use Rattle.std.proofs.lemmas.Grind.{get_or_default_zero}
 use Rattle.std.proofs.lemmas.Nat.{mul-le, div-add-mod'}
-use Rattle.std.proofs.lemmas.List.{get_or_append_left, get_or-append-add, get_or-map, length-map}
+use Rattle.std.proofs.lemmas.List.{get_or_append_left, get_or-append-add, get_or-map, length-map, map_more}
 use Rattle.pl_pipeline.specs.Term.{Graph}
 use Rattle.pl_spec.proofs.Places.{row-within}
 use Rattle.pl_planner.specs.declared.uses.Use.{Use}
 use Rattle.pl_planner.specs.Uses.{unused, AreUses, HaveExtras}
 use Rattle.pl_planner.specs.Rows.{extra_in, extra_at, AreRows, most_extra}
+use Rattle.pl_planner.specs.Plans.{Planned, KeepsLimits, IsAsked, low_at}
+use Rattle.pl_spec.specs.Limits.{most_extra_rows}
 use Rattle.pl_planner.proofs.Counting.{Reached, most-each, most-reached}
 
 -- ---- places
@@ -47,6 +50,13 @@ module _ (days : List ℤ) (g : Graph) (outs : List ℕ) (from : ℕ) where
       let more : (session - from) + 1 ≡ session + 1 - from = omega arith in
       subst (λ n. AreRows days g outs from n after) more
       (rows-more (session - from) extras after uses rows are (subst (λ d. HaveExtras days d g outs uses) here have) (e ∙ ap (λ us. extras ++ map extra_in us) same))
+
+-- the number of one term more
+pub term-more : (old now after : List ℕ) (uses : List Use) (i x : ℕ) (d : Use) → i < length uses → now ≡ old ++ map extra_in (take i uses) → after ≡ now ++ x ∷ []
+    → x ≡ extra_in (get_or uses i d) → after ≡ old ++ map extra_in (take (i + 1) uses)
+term-more old now after uses i x d l is e f =
+    e ∙ ap (λ xs. xs ++ x ∷ []) is ∙ append_assoc old (map extra_in (take i uses)) (x ∷ []) ∙ ap (λ y. old ++ (map extra_in (take i uses) ++ y ∷ [])) f
+    ∙ ap (λ ys. old ++ ys) (sym (map_more extra_in uses i d l))
 
 -- ---- the greatest number
 
@@ -93,3 +103,28 @@ extra-some u n h e = here u.used refl
     here : (b : Bool) → u.used ≡ b → (u.used ≡ true) × (u.extra ≡ n)
     here true f = (f, rw f at e)
     here false f = let z : 0 ≡ n = rw f at e in absurd (omega arith)
+
+-- ---- of a plan that keeps its limits
+
+module _ (p now : Planned) (is : p ≡ now) (keeps : KeepsLimits p) (t s : ℕ) (asked : IsAsked now t s) where
+  own-asked : IsAsked p t s
+  own-asked = subst (λ q. IsAsked q t s) (sym is) asked
+
+  pub place-within : (n m : ℕ) → n ≡ length p.uses → m ≡ length p.extras → (s - p.from) * n + t < m
+  place-within n m e f =
+      let a = own-asked.1 in
+      rw (e, f, keeps.size) (row-within (s - p.from) (p.to + 1 - p.from) (length p.uses) t (omega (arith, a.0, a.1)) (keeps.among t own-asked.0))
+
+  module _ (n x : ℕ) (e : n ≡ length p.uses) (f : x ≡ get_or p.extras ((s - p.from) * n + t) x) where
+    same : x ≡ extra_at p.extras (length p.uses) (s - p.from) t
+    same = f ∙ get_or_default_zero p.extras ((s - p.from) * n + t) x (place-within n (length p.extras) e refl) ∙ ap (λ m. extra_at p.extras m (s - p.from) t) e
+
+    pub extra-within : x ≤ s
+    extra-within = rw same (keeps.rows t s own-asked).0
+
+    pub extra-few : s - (s - x) ≤ most_extra_rows
+    extra-few = let l = rw (sym same) at (keeps.rows t s own-asked).1 in omega (arith, l)
+
+    pub is-low_at : s - x ≡ low_at now t s
+    unfolding low_at
+    is-low_at = ap (λ y. s - y) same ∙ ap (λ q. s - extra_at q.extras (length q.uses) (s - q.from) t) is

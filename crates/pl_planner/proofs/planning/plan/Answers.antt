@@ -5,13 +5,14 @@ use Rattle.pl_terms.specs.Uses.{outputs}
 use Rattle.pl_planner.specs.declared.uses.Use.{Use}
 use Rattle.pl_planner.specs.Rows.{most_extra}
 use Rattle.pl_planner.specs.Plans.{IsDeepest}
-use Rattle.pl_planner.proofs.Covers.{is-plan, limits, deepest}
+use Rattle.pl_planner.proofs.Covers.{is-plan, limits, deepest, is-early, not-early}
 use Rattle.pl_planner.proofs.planning.plan.Goals as goal
 
 pub returns-then-rows-gt-MOST_ROWS-clause-fault : goal.returns-then-rows-gt-MOST_ROWS-clause-fault
 returns-then-rows-gt-MOST_ROWS-clause-fault c =
     let e : c.most_extra-rows.result ≡ most_extra c.in-Ok-gather_rows.extras.items = c.most_extra-rows.ensures ∙ ap most_extra c.deref-2.ensures.value in
-    let early : pos 0 ≤ℤ c.reach_of-reach.result = search rules in
+    let fit : FitsSigned w64 c.reach_of-reach.result = search rules in
+    let early : pos 0 ≤ℤ c.reach_of-reach.result = not-early c.reach_of-reach.result fit c.if-reach-lt0.false in
     let reached = (rw c.deref.ensures.value at c.reach_of-reach.ensures) (outputs (pipeline_of c.args.checked.now)) in
     let l = rw (reached c.in-Ok.ensures.uses c.in-Ok.ensures.extras) at early in
     let deep : 4096 < c.most_extra-rows.result = c.if-rows-gt-MOST_ROWS.true in
@@ -22,8 +23,8 @@ pub invariant_of-result : goal.invariant_of-result
 invariant_of-result c =
     let e : c.most_extra-rows.result ≡ most_extra c.in-Ok-gather_rows.extras.items = c.most_extra-rows.ensures ∙ ap most_extra c.deref-2.ensures.value in
     let few : most_extra c.in-Ok-gather_rows.extras.items ≤ 4096 = omega (arith, e, c.if-rows-gt-MOST_ROWS.false) in
-    let early : pos 0 ≤ℤ c.reach_of-reach.result = search rules in
     let fit : FitsSigned w64 c.reach_of-reach.result = search rules in
+    let early : pos 0 ≤ℤ c.reach_of-reach.result = not-early c.reach_of-reach.result fit c.if-reach-lt0.false in
     let reached = (rw c.deref.ensures.value at c.reach_of-reach.ensures) (outputs (pipeline_of c.args.checked.now)) in
     let lent = c.deref-4.ensures.value in
     let slotted = rw lent at c.in-Ok-slot_terms.ensures.slotted in
@@ -37,8 +38,8 @@ pub returns-clause-plan : goal.returns-clause-plan
 returns-clause-plan c =
     let e : c.most_extra-rows.result ≡ most_extra c.in-Ok-gather_rows.extras.items = c.most_extra-rows.ensures ∙ ap most_extra c.deref-2.ensures.value in
     let few : most_extra c.in-Ok-gather_rows.extras.items ≤ 4096 = omega (arith, e, c.if-rows-gt-MOST_ROWS.false) in
-    let early : pos 0 ≤ℤ c.reach_of-reach.result = search rules in
     let fit : FitsSigned w64 c.reach_of-reach.result = search rules in
+    let early : pos 0 ≤ℤ c.reach_of-reach.result = not-early c.reach_of-reach.result fit c.if-reach-lt0.false in
     let reached = (rw c.deref.ensures.value at c.reach_of-reach.ensures) (outputs (pipeline_of c.args.checked.now)) in
     let lent = c.deref-4.ensures.value in
     let slotted = rw lent at c.in-Ok-slot_terms.ensures.slotted in
@@ -47,3 +48,24 @@ returns-clause-plan c =
     (is-plan c.args.sessions.now c.are_asked.ensures.days.ascend (pipeline_of c.args.checked.now) c.are_asked.ensures.checked c.in-Ok.uses.items c.in-Ok.ensures.uses c.in-Ok-slot_terms.slots.items slotted long c.args.from c.args.to c.requires.order c.requires.within
     c.in-Ok-gather_rows.extras.items c.in-Ok-gather_rows.ensures
     c.reach_of-reach.result c.bound_of-bound.result (reached c.in-Ok.ensures.uses c.in-Ok.ensures.extras) early c.bound_of-bound.ensures.value few)
+
+pub reach_of-reach-requires : goal.reach_of-reach-requires
+reach_of-reach-requires c = rw c.deref.ensures.value (record {
+  asked = c.are_asked.ensures;
+  uses = record { outputs = outputs (pipeline_of c.args.checked.now); are = c.in-Ok.ensures.uses; have = c.in-Ok.ensures.extras };
+  within = omega (arith, c.requires.order, c.requires.within);
+})
+
+pub bound_of-bound-requires : goal.bound_of-bound-requires
+bound_of-bound-requires c = rw c.deref-3.ensures.value c.in-Ok.ensures.uses
+
+pub slot_terms-requires : goal.slot_terms-requires
+slot_terms-requires c =
+    let long : length c.deref-4.result.now ≡ length c.in-Ok.uses.items = ap (λ (l : List Use). length l) c.deref-4.ensures.value in
+    omega (arith, long, c.in-Ok.ensures.uses.size, c.are_asked.ensures.few)
+
+pub returns-then-reach-lt0-clause-fault : goal.returns-then-reach-lt0-clause-fault
+returns-then-reach-lt0-clause-fault c =
+    let fit : FitsSigned w64 c.reach_of-reach.result = search rules in
+    let reached = (rw c.deref.ensures.value at c.reach_of-reach.ensures) (outputs (pipeline_of c.args.checked.now)) in
+    rw (to_z-of_z w64 c.reach_of-reach.result fit) (reached c.in-Ok.ensures.uses c.in-Ok.ensures.extras, is-early c.reach_of-reach.result fit c.if-reach-lt0.true)

@@ -1,12 +1,21 @@
-use Rattle.std.proofs.Common.{ap, ◌∙◌, ◌≡◌, ◌-◌, arith, option_map}
+use Rattle.std.proofs.Common.{ap, ◌∙◌, ◌≡◌, ◌-◌, arith, List, length, option_map}
+use Rattle.std.proofs.lemmas.List.{length-replicate}
 use Rattle.pl_terms.specs.Checked.{pipeline_of}
 use Rattle.pl_terms.specs.Nodes.{node_of, number_of}
 use Rattle.pl_planner.specs.Asked.{wanted}
-use Rattle.pl_planner.specs.Uses.{all_marked}
+use Rattle.pl_planner.specs.declared.uses.Use.{Use}
+use Rattle.pl_planner.specs.Uses.{unused, all_marked}
 use Rattle.pl_planner.proofs.Pipelines.{window-is}
 use Rattle.pl_planner.proofs.Marks.{wanted-pipeline}
-use Rattle.pl_planner.proofs.Passes.{pass_begun, pass_room, pass_step, pass_lower, pass_ended}
+use Rattle.pl_planner.proofs.Passes.{pass_begun, pass_room, pass_step, pass_skip, pass_lower, pass_ended}
 use Rattle.pl_planner.proofs.uses.ask_down.Goals as goal
+
+pub mark_wanted-requires : goal.mark_wanted-requires
+mark_wanted-requires c = record {
+  checked = c.requires.asked.checked;
+  only = c.requires.only;
+  long = ap (λ (us : List Use). length us) c.requires.unused ∙ length-replicate (length (pipeline_of c.args.checked.now).graph) unused;
+}
 
 pub loop-k-init : goal.loop-k-init
 loop-k-init c =
@@ -37,6 +46,14 @@ loop-k-preserved-then-own c =
     record {
       gathered = pass_step c.requires.asked.days.ascend c.args.session ok c.loop-k.uses c.ask_all.new.uses c.loop-k.k (node_of c.node_at-node.result.now) c.loop-k.invariant.gathered c.loop-k-test.true c.node_at-node.ensures
           c.if-own.true c.ask_all.ensures;
+      within = (let l = c.loop-k.invariant.within in omega arith);
+    }
+
+pub loop-k-preserved : goal.loop-k-preserved
+loop-k-preserved c =
+    let ok = wanted-pipeline c.args.checked.now c.requires.asked.checked c.args.only c.requires.only in
+    record {
+      gathered = pass_skip c.requires.asked.days.ascend c.args.session ok c.loop-k.uses c.loop-k.k c.loop-k.invariant.gathered c.if-own.false;
       within = (let l = c.loop-k.invariant.within in omega arith);
     }
 
