@@ -1,12 +1,17 @@
 -- A bit for each column and session.
-use Rattle.std.proofs.Common.{◌≡◌, ◌≢◌, ℕ, ◌+◌, ◌*◌, ◌/◌, ◌%◌, ◌^◌, ◌<◌, ◌==◌, ◌&&◌, ◌||◌, Bool, true, false, List, length, get_or, bit_or, refl, sym, ◌∙◌, ap, arith, w64, eq-eqb, eqb-true}
+use Rattle.std.proofs.Common.{◌≡◌, ◌≢◌, ℕ, ◌+◌, ◌*◌, ◌/◌, ◌%◌, ◌^◌, ◌<◌, ◌==◌, ◌&&◌, ◌||◌, Bool, true, false, List, [], ◌∷◌, ◌++◌, length, get_or, bit_or, refl, sym, ◌∙◌, ap, arith, w64, eq-eqb, eqb-true}
 use Rattle.std.specs.Int.{bit_at}
+use Rattle.std.specs.List.{list_any}
+use Rattle.std.proofs.lemmas.List.Folds.{list_any-append}
 use Rattle.std.proofs.Math.ListN.{set}
 use Rattle.std.proofs.lemmas.List.{get_or-set_same, get_or-set_other}
 use Rattle.std.proofs.lemmas.Nat.{div-mul-add}
 use Rattle.std.proofs.lemmas.Nat.Bits.{bit_at_set_same, bit_at_set_other}
 use Rattle.std.proofs.Math.Bool.{or-true, or-false}
-use Rattle.pl_bars.specs.BarSet.{bit_in}
+use Rattle.pl_spec.specs.declared.BarRow.{BarRow}
+use Rattle.pl_bars.specs.Bars.{is_at}
+use Rattle.pl_bars.specs.declared.bar_set.BarSet.{BarSet}
+use Rattle.pl_bars.specs.BarSet.{bit_in, has_bar, AreBarsIn}
 
 -- ---- columns and sessions have places of their own
 
@@ -84,3 +89,15 @@ bit_in-with_bit words k j h = here (k == j) refl
     here false t =
         let ne : j ≢ k = λ e. absurd (let bad : true ≡ false = sym (eq-eqb _ _ (sym e)) ∙ t in cc) in
         bit_in-other words k j h ne ∙ sym (or-false (bit_in words j))
+
+-- ---- one bar more
+
+pub AreBarsIn-more : (old new : BarSet) (n m : ℕ) (rows : List BarRow) (b : BarRow) → AreBarsIn old n m rows → new.cols ≡ old.cols → new.sessions ≡ old.sessions
+    → ((c s : ℕ) → s < old.sessions → has_bar new c s ≡ (has_bar old c s || (b.col == c && b.session == s))) → AreBarsIn new n m (rows ++ b ∷ [])
+AreBarsIn-more old new n m rows b h cols sessions more = record {
+  cols = cols ∙ h.cols;
+  sessions = sessions ∙ h.sessions;
+  each = λ c s k l.
+      more c s (rw h.sessions l) ∙ ap (λ x. x || is_at c s b) (h.each c s k l)
+      ∙ ap (λ x. list_any (is_at c s) rows || x) (sym (or-false (is_at c s b))) ∙ sym (list_any-append (is_at c s) rows (b ∷ []));
+}
