@@ -52,9 +52,14 @@ pub cell_read : (vs : List (Bor Word)) (values : Values) (d4 d5 d6 d0 : Bor Word
     → world_in (words vs) values ≡ Some world
     → option_map Explain (explain_in (words vs) values) ≡ Some (Explain (record { pipeline = (slice_index_or vs 0 d0).now; world = world; sid = sid; date = date; column = column }))
 cell_read vs values d4 d5 d6 d0 sid date column world seven sid_is date_is column_is world_is =
-    rw (ap sid_in (word_at vs 4 d4 (omega arith)) ∙ sid_is, ap dated (word_at vs 5 d5 (omega arith)) ∙ date_is,
-    ap column_in (word_at vs 6 d6 (omega arith)) ∙ column_is, world_is, word_at vs 0 d0 (omega arith),
-    word_at vs 6 d6 (omega arith) ∙ column_same _ _ column_is) refl
+    rw (
+      ap sid_in (word_at vs 4 d4 (omega arith)) ∙ sid_is,
+      ap dated (word_at vs 5 d5 (omega arith)) ∙ date_is,
+      ap column_in (word_at vs 6 d6 (omega arith)) ∙ column_is,
+      world_is,
+      word_at vs 0 d0 (omega arith),
+      word_at vs 6 d6 (omega arith) ∙ column_same _ _ column_is,
+    ) refl
 
 pub plan_read : (vs : List (Bor Word)) (d2 d3 d0 d1 : Bor Word) (from to : Dated)
     → length vs ≡ 4 → dated (slice_index_or vs 2 d2).now ≡ Some from → dated (slice_index_or vs 3 d3).now ≡ Some to
