@@ -1,0 +1,10 @@
+use Rattle.std.proofs.Common.{◌∙◌, ap, sym}
+use Rattle.pl_spec.specs.Decimals.{sid_in}
+use Rattle.pl_words.specs.Apps.{values_in}
+use Rattle.pl_words.proofs.Places.{bench_read}
+use Rattle.pl_words.proofs.read.bench_in.Goals as goal
+
+pub returns : goal.returns
+returns c =
+    bench_read c.args.names.now (values_in c.args.matches.now) _ _ _ c.requires
+    (ap sid_in (sym c.as_bytes.ensures.value) ∙ sym c.in_ok-number.ensures.exact) (sym c.in_ok-chunk.ensures)
