@@ -142,7 +142,7 @@ fn trimmed_digits(digits: &[u8]) -> &[u8]
 }
 
 // A number of millionths.
-#[tactic(auto, unfolding(pl_syntax::specs::Numerals::number_text, pl_syntax::specs::Numerals::fraction_of))]
+#[tactic(auto, unfolding(crate::specs::Numerals::number_text, crate::specs::Numerals::fraction_of))]
 fn put_number(value: i64, out: &mut Vec<u8>) -> Result<(), AllocError>
     ensures { OnOk result (out.new.items ≡ out.old.items ++ number_text value) }
 {
