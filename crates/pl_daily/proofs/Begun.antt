@@ -17,7 +17,7 @@ use Rattle.pl_terms.specs.Sorts.{is_downsampled}
 use Rattle.pl_terms.specs.Uses.{is_used}
 use Rattle.pl_values.specs.Arrays.{empty_cell}
 use Rattle.pl_daily.specs.declared.columns.BarRings.{BarRings}
-use Rattle.pl_daily.specs.declared.starts.Capacities.{Capacities}
+use Rattle.pl_daily.specs.declared.ring_starts.Capacities.{Capacities}
 use Rattle.pl_daily.specs.Columns.{AreBarRings, BeginColumns, HasRoom, rings_of}
 use Rattle.pl_daily.specs.Days.{IsStart}
 use Rattle.pl_daily.specs.declared.term_day.TermCells.{TermCells}

@@ -4,7 +4,7 @@ use Rattle.pl_spec.specs.declared.Column.{Column}
 use Rattle.pl_spec.specs.declared.Column.TheVariants.{OpenPrice, High, Low, Close, Volume}
 use Rattle.pl_daily.specs.declared.columns.BarRings.{BarRings}
 use Rattle.pl_daily.specs.declared.rings.Rings.{Rings}
-use Rattle.pl_daily.specs.declared.starts.Capacities.{Capacities}
+use Rattle.pl_daily.specs.declared.ring_starts.Capacities.{Capacities}
 use Rattle.pl_daily.specs.declared.day.DayBar.{DayBar}
 use Rattle.pl_daily.specs.declared.day.DayEvent.{DayEvent}
 use Rattle.pl_daily.specs.Days.{Start, FedDay, IsStart, AreFed, day_window}

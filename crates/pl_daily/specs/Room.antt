@@ -5,7 +5,7 @@ use Rattle.pl_spec.specs.Limits.{most_window}
 use Rattle.pl_pipeline.specs.Table.{Pipeline}
 use Rattle.pl_terms.specs.Uses.{is_used}
 use Rattle.pl_values.specs.Arrays.{empty_cell}
-use Rattle.pl_daily.specs.declared.starts.Capacities.{Capacities}
+use Rattle.pl_daily.specs.declared.ring_starts.Capacities.{Capacities}
 use Rattle.pl_daily.specs.Columns.{capacity_for}
 use Rattle.pl_daily.specs.declared.term_day.TermCells.{TermCells}
 use Rattle.pl_daily.specs.Held.{AreTermCells, BeginsTerm}
