@@ -2,6 +2,7 @@
 # Builds the proved program. Each library is proved in a folder of its own that holds its sources and, as links, all that it stands
 # on: the toolchain locks what lies in a folder, so that in one folder no two libraries could be proved at a time. A library whose
 # own have all been proved starts as soon as a job is free, and first the one that most others wait for. Then the program is proved.
+# A library that is done holds its statements and no proofs (tools/library); one that is interrupted is begun anew.
 
 # shellcheck source=tools/room.sh
 . "$top/tools/room.sh"
@@ -54,7 +55,7 @@ is_copied() {
     done
 }
 
-# Copies the sources of a crate, and keeps what checks of it left.
+# Copies the sources of a crate; of the program, what its check left stays.
 copy_crate() {
     local part to
     to=$(home_of "$1")
@@ -105,7 +106,7 @@ prepare() {
     drop_others
     for crate in "${libraries[@]}"; do
         if ! is_copied "$crate" || ! is_proved "$crate"; then
-            rm -rf "$(home_of "$crate")/out/rlib"
+            rm -rf "${room:?}/$crate"
             copy_crate "$crate"
         fi
     done
@@ -141,7 +142,7 @@ can_start() {
 # Starts the proof of a library, with so many jobs of its own.
 start_proof() {
     link_below "$1"
-    (cd "$(home_of "$1")" && exec rt lib --jobs "$2") > "$room/$1/log" 2>&1 < /dev/null &
+    (cd "$(home_of "$1")" && exec "$top/tools/library" --jobs "$2") > "$room/$1/log" 2>&1 < /dev/null &
     proving[$!]=$1
     children+=($!)
 }

@@ -42,7 +42,7 @@ list_states() {
     done
 }
 
-# About how many minutes a build will still take. A crate costs by its lines and by a fifteenth of those below it. A line takes 0.12
+# About how many minutes a build will still take. A crate costs by its lines and by a thirtieth of those below it. A line takes 0.07
 # seconds until enough crates of this build say otherwise. What is left takes its share of the jobs, or the longest chain of crates
 # that wait for each other; the program comes last, alone, and is compiled too.
 minutes_left() {
@@ -53,7 +53,7 @@ minutes_left() {
                 under[$1, $i]
                 for (k = 1; k < NR; k++) if (($i, crates[k]) in under) under[$1, crates[k]]
             }
-            for (k = 1; k < NR; k++) if (($1, crates[k]) in under) weight += own[crates[k]] / 15
+            for (k = 1; k < NR; k++) if (($1, crates[k]) in under) weight += own[crates[k]] / 30
             crates[NR] = $1; cost[NR] = weight; state[NR] = $3; seconds[NR] = $4
             if ($3 == "ready" && $4 > 0) { taken += $4; done += weight }
         }
@@ -63,8 +63,8 @@ minutes_left() {
             return cost[k] * unit > spent + 5 ? cost[k] * unit - spent : 5
         }
         END {
-            unit = (5000 * 0.12 + taken) / (5000 + done)
-            cost[NR] *= 2
+            unit = (5000 * 0.07 + taken) / (5000 + done)
+            cost[NR] *= 3
             for (k = 1; k < NR; k++) {
                 before = 0
                 for (i = 1; i < k; i++) if ((crates[k], crates[i]) in under && chain[i] > before) before = chain[i]
