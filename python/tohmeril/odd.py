@@ -1,7 +1,6 @@
 """What looks odd in data though it is lawful: most of it shows later as an empty or a wrong column, and the program is silent."""
 from __future__ import annotations
 
-import re
 import sqlite3
 from contextlib import closing
 from typing import Iterator, NamedTuple, Optional, Sequence
@@ -13,7 +12,7 @@ from . import program
 from .data import SECONDS, TABLES, Data, read_only
 from .faults import LimitFault, StoreFault
 from .pipeline.script import BARS
-from .plans import Piped, Source, opened, scripted
+from .plans import Piped, Source, named_in, opened, scripted
 
 NEAR = 1e10  # a tenth of the greatest cell
 PROBE = "pipeline 1;\ncolumn one = 1;\nscreen 1 > 2;\n"
@@ -273,7 +272,7 @@ def _acting(data: Data, assets: pd.DataFrame, adjustments: pd.DataFrame) -> Iter
 
 def _dated(data: Data, pipelines: Sequence[Piped], part: str) -> Iterator[str]:
     """Labels or numbers that no pipeline names, names without any, and days that are none of publication."""
-    named = {name for pipeline in pipelines for name in names(scripted(pipeline).text, part)}
+    named = {name for pipeline in pipelines for name in named_in(scripted(pipeline).text, part)}
     rows = pd.DataFrame({"name": [], SINCE[part]: []}, dtype=str)
     if part in data.files:
         blocks = pd.read_csv(data.files[part], usecols=["name", SINCE[part]], dtype="category", na_filter=False, chunksize=BLOCK)
@@ -292,15 +291,6 @@ def _dated(data: Data, pipelines: Sequence[Piped], part: str) -> Iterator[str]:
             yield f"{part}: {name!r} has days of 1970 alone: whole numbers as 20240202 may have been read as seconds"
         elif (days > sessions.max()).all():
             yield f"{part}: {name!r} begins after the last session, so that none sees it"
-
-
-def names(text: str, part: str) -> set[str]:
-    """The names of labels or numbers in the text of a pipeline.
-
-    >>> names('pipeline 1; column x = label("sector") == "Energy";', "labels")
-    {'sector'}
-    """
-    return set(re.findall(rf'#.*|\b{part[:-1]}\(\s*(?:name\s*=\s*)?"(\w+)"|"[^"]*"', text)) - {""}
 
 
 def _columns(table: Optional[pd.DataFrame]) -> Iterator[str]:

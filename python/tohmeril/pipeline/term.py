@@ -162,7 +162,8 @@ class Term:
             if ufunc.__name__ in OPERATORS:
                 return OPERATORS[ufunc.__name__](*given)
             if len(given) == 1:
-                return getattr(self, ufunc.__name__, Absent(f"numpy.{ufunc.__name__}", "the methods and operators of a factor"))()
+                absent = Absent(f"numpy.{ufunc.__name__}", "the methods and operators of a factor")
+                return (getattr(self, ufunc.__name__, absent) if isinstance(self, Factor) else getattr(self, ufunc.__name__))()
         raise TypeError(f"numpy's {ufunc.__name__} takes no {self!r}: a pipeline is computed later, so that it has no values yet")
 
     def __reduce__(self):
