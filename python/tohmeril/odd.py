@@ -16,7 +16,7 @@ from .plans import Piped, Source, named_in, opened, scripted
 
 NEAR = 1e10  # a tenth of the greatest cell
 PROBE = "pipeline 1;\ncolumn one = 1;\nscreen 1 > 2;\n"
-BLOCK = 1_000_000  # records at a time
+BLOCK = 250_000  # records at a time
 SINCE = {"labels": "start", "numbers": "known"}  # the column with the day from which on a record holds
 GREAT = 1.8  # a factor between two closes that few days have
 LIKE = 0.05  # how near to a half, a third, .. a fall by a split is: the price moves on that day, too
@@ -135,7 +135,7 @@ def _asset(data: Data, sid: int) -> str:
 def _blocks(data: Data) -> Iterator[pd.DataFrame]:
     """The bars, some records at a time."""
     types = {"sid": "int64", "session": "category", **dict.fromkeys(BARS, "float64")}
-    with pd.read_csv(data.files["bars"], dtype=types, chunksize=BLOCK) as blocks:
+    with pd.read_csv(data.files["bars"], dtype=types, chunksize=BLOCK, low_memory=False) as blocks:
         yield from blocks
 
 
@@ -162,7 +162,7 @@ class _Bars:
         self.keys, self.logs = keys[order], np.append(0, np.cumsum(np.log(acting.ratio.to_numpy())[order]))
         plain = (acting.table == "splits").to_numpy() & (np.abs(np.log(acting.ratio.to_numpy())) > np.log(PLAIN))
         self.splits, self.split_keys = acting[plain], keys[plain]
-        self.seen, self.flat = 0, []  # how many splits were seen, and those without a fall or a rise
+        self.seen, self.flat, self.first_flat = 0, 0, ""  # how many splits were seen, and how many without a fall or a rise
 
     def add(self, block: pd.DataFrame) -> None:
         """Look at some bars."""
@@ -208,7 +208,9 @@ class _Bars:
         for row, pair in zip(self.splits[here].itertuples(), at[here]):
             self.seen += 1
             if abs(np.log(change[pair])) < abs(np.log(change[pair] / row.ratio)):
-                self.flat.append(f"{self._told(_Change(asset[pair], place[pair], before[pair], close[pair]))}, with {row.den}:{row.num}")
+                self.flat += 1
+                self.first_flat = self.first_flat or \
+                    f"{self._told(_Change(asset[pair], place[pair], before[pair], close[pair]))}, with {row.den}:{row.num}"
 
     def _told(self, change: _Change) -> str:
         return f"{_asset(self.data, self.sids[change.asset])} on {self.sessions[change.session]} from {change.before:.12g} to " \
@@ -228,9 +230,9 @@ class _Bars:
             yield f"bars: {self.steps} closes fall to about a half, a third, .. or rise to the double, the triple, .. without a split, " \
                   f"as that of {self.step}: give the splits, or see whether the bar is of another asset"
         if self.flat:
-            yield f"splits: {len(self.flat)} of {self.seen} show no fall or rise on their day, as {self.flat[0]}: " \
+            yield f"splits: {self.flat} of {self.seen} show no fall or rise on their day, as {self.first_flat}: " \
                   + ("these prices are adjusted already, so that each split counts twice: give the raw close (in Sharadar closeunadj, in "
-                     "CRSP PRC), or leave out the splits" if len(self.flat) > self.seen / 2 else
+                     "CRSP PRC), or leave out the splits" if self.flat > self.seen / 2 else
                      "is the day another, are these prices adjusted already, or is the ratio turned?")
 
 
