@@ -6,17 +6,19 @@ assets at a time are read from all batches, and are written in the order of thei
 from __future__ import annotations
 
 import os
+from contextlib import contextmanager, nullcontext
 from pathlib import Path
-from typing import Any, BinaryIO, Callable, Iterator, NamedTuple, Optional
+from typing import BinaryIO, Callable, ContextManager, Iterable, Iterator, Mapping, NamedTuple, Optional, Union
 
 import numpy as np
 import pandas as pd
 
-from .data import HEADERS
 from .faults import DataFault
+from .frames import Frame, long_bars
 from .pipeline.script import BARS
 from .pipeline.term import GREATEST
 
+AnyBars = Union[Frame, Mapping[str, Frame], Iterable[Frame]]
 RECORD = np.dtype([("asset", "i4"), ("day", "i4"), ("row", "i4"), ("cells", "i8", len(BARS))])
 MISSING = np.iinfo("i8").min  # of a cell, which is in millionths
 BATCH = 1 << 22  # records in memory
@@ -40,8 +42,6 @@ class Bars:
     ----------
     folder : Path
         Where the batches are laid until `close`.
-    bar : Callable
-        It moves a bar of progress by so many bars.
 
     Attributes
     ----------
@@ -53,8 +53,8 @@ class Bars:
         The days of the first and the last bar with a value of each asset; where it has none the last one is before the first.
     """
 
-    def __init__(self, folder: Path, moved: Callable[[int], Any] = lambda bars: None):
-        self.path, self.moved = folder / "bars.part", moved
+    def __init__(self, folder: Path):
+        self.path = folder / "bars.part"
         self.file: Optional[BinaryIO] = None
         self.numbers: dict = {}
         self.days: set[int] = set()
@@ -70,58 +70,66 @@ class Bars:
 
     def begin(self, index: Optional[pd.Index]) -> None:
         """Begin a frame, whose index tells the places of faults; None where its rows are none of the user's."""
+        if index is not None and (self.frames or any(name is not None for name in index.names)) and not isinstance(index, pd.RangeIndex):
+            index = pd.RangeIndex(len(index))  # an index of each frame would take memory
         self.frames.append((self.rows, index))
 
-    def add(self, rows: pd.DataFrame) -> None:
-        """Take in the next bars of the frame: sid, session (as YYYY-MM-DD) and the five columns, of any type."""
+    def add(self, rows: Frame, kept: Optional[np.ndarray] = None) -> None:
+        """Take in the next bars of the frame: sid, session (as YYYY-MM-DD) and the five columns, of any type.
+
+        Of the rows those that are kept, or all.
+        """
+        places = np.arange(self.rows, self.rows + len(rows))
+        self.rows += len(rows)
+        if kept is not None:
+            rows, places = rows[kept], places[kept]
         local, found = pd.factorize(rows.sid)
-        self._refuse(rows, local < 0, "an asset is missing")
+        self._refuse(rows, places, local < 0, "an asset is missing: {}")
         numbers = np.array([self.numbers.setdefault(asset, len(self.numbers)) for asset in found.tolist()], "i4")[local]
         codes, days = pd.factorize(rows.session)
         days = np.array(list(days), "datetime64[D]").astype("i4")[codes]
-        columns = [self._values(rows, name) for name in BARS]
+        columns = [self._values(rows, places, name) for name in BARS]
         for start in range(0, len(rows), BLOCK):
             if self.filled + BLOCK > BATCH:
                 self._flush()
             part = self.records[self.filled:self.filled + min(BLOCK, len(rows) - start)]
             step = slice(start, start + len(part))
             part["asset"], part["day"] = numbers[step], days[step]
-            part["row"] = np.arange(self.rows + start, self.rows + start + len(part))
+            part["row"] = places[step]
             for at, values in enumerate(columns):
                 part["cells"][:, at] = millionths(values[step])
             self.filled += len(part)
-        self.rows += len(rows)
-        self.moved(len(rows))
 
-    def _values(self, rows: pd.DataFrame, name: str) -> np.ndarray:
+    def _values(self, rows: Frame, places: np.ndarray, name: str) -> np.ndarray:
         """A column as floats, which has no value that a bar can't have."""
         try:
             values = pd.to_numeric(rows[name]).to_numpy("float64", na_value=np.nan)
         except (TypeError, ValueError):
             wrong = (pd.to_numeric(rows[name], errors="coerce").isna() & rows[name].notna()).to_numpy()
             told = f"the {name} of {{}} is {rows[name].to_numpy()[wrong][:1].tolist()}, which is no number"
-            self._refuse(rows, wrong, told)
+            self._refuse(rows, places, wrong, told)
             raise
         sizes = np.abs(values)
-        self._refuse(rows, np.isinf(values), "the bar of {} is infinite")
+        self._refuse(rows, places, np.isinf(values), "the bar of {} is infinite")
         if (large := sizes > float(GREATEST)).any():
-            self._refuse(rows, large, f"the {name} of {{}} is {values[large][0]:.12g}; the greatest is {GREATEST}: give volumes in "
+            self._refuse(rows, places, large, f"the {name} of {{}} is {values[large][0]:.12g}; the greatest is {GREATEST}: give volumes in "
                          "thousands, or prices in a greater unit")
         return values
 
-    def _refuse(self, rows: pd.DataFrame, wrong: np.ndarray, told: str) -> None:
+    def _refuse(self, rows: Frame, places: np.ndarray, wrong: np.ndarray, told: str) -> None:
         """Raise the fault of the first wrong row, where there is one."""
         if wrong.any():
-            at, count = int(wrong.argmax()), int(wrong.sum()) - 1
-            more = f", and so {'is 1 other' if count == 1 else f'are {count} others'}" if count else ""
-            raise DataFault("bars: " + told.format(f"{rows.sid.iloc[at]} on {rows.session.iloc[at]}"), f"{self._place(self.rows + at)}{more}")
+            at = int(wrong.argmax())
+            place, told = self._place(places[at]), told.format(f"{rows.sid.iloc[at]} on {rows.session.iloc[at]}")
+            raise DataFault("bars: " + _and_more(told, int(wrong.sum())), place and f"row {place}")
 
     def _place(self, row: int) -> str:
-        """A row as the user counts it."""
+        """A row as the user counts it; empty where bars are no rows."""
         at = int(np.searchsorted([first for first, _ in self.frames], row, side="right")) - 1
         first, index = self.frames[at]
-        named = index is None or any(name is not None for name in index.names)
-        return f"row {row - first if named else index[row - first]}" + (f" of frame {at}" if len(self.frames) > 1 else "")
+        if index is None:
+            return ""
+        return str(index[row - first]) + (f" of frame {at}" if len(self.frames) > 1 else "")
 
     def _flush(self) -> None:
         """Lay the sorted batch into the file."""
@@ -168,7 +176,7 @@ class Bars:
             self.batches.append(self._sorted())
         self.batches = [Batch(read, np.append(starts, np.full(len(self.numbers) + 1 - len(starts), starts[-1]))) for read, starts in self.batches]
 
-    def write(self, out: BinaryIO, sids: np.ndarray) -> None:
+    def write(self, out: BinaryIO, sids: np.ndarray, progress: bool = False) -> None:
         """Write the lines of the bars that have a value, by sid and session.
 
         Parameters
@@ -176,25 +184,26 @@ class Bars:
         out : file
         sids : ndarray of int
             The sids of `assets`.
+        progress : bool
         """
-        doubled, first = 0, None
-        for records in self._groups(sids):
-            same = (np.diff(sids[records["asset"]]) == 0) & (np.diff(records["day"]) == 0)
-            begins = np.flatnonzero(same & ~np.append(False, same[:-1]))
-            doubled += len(begins)
-            if doubled and first is None:
-                first = records[begins[0]:begins[0] + 1 + int(np.append(same[begins[0]:], False).argmin())]
-            if not doubled:
+        doubled, first = 0, np.empty(0, RECORD)
+        with progress_bar(progress, "bars written", self.rows) as bar:
+            for records in self._groups(sids):
+                same = (np.diff(sids[records["asset"]]) == 0) & (np.diff(records["day"]) == 0)
+                begins = np.flatnonzero(same & ~np.append(False, same[:-1]))
+                if len(begins) and not doubled:
+                    first = records[begins[0]:begins[0] + 1 + int(np.append(same[begins[0]:], False).argmin())]
+                doubled += len(begins)
                 kept = records[(records["cells"] != MISSING).any(axis=1)]
-                for start in range(0, len(kept), BLOCK):
+                for start in range(0, 0 if doubled else len(kept), BLOCK):
                     part = kept[start:start + BLOCK]
                     out.write(lines(sids[part["asset"]], part["day"], part["cells"]))
-            self.moved(len(records))
-        if first is not None:
-            places = ", ".join(self._place(row) for row in sorted(first["row"].tolist()))
-            more = f", and so {'is 1 other' if doubled == 2 else f'are {doubled - 1} others'}" if doubled > 1 else ""
-            day = np.datetime64(int(first["day"][0]), "D")
-            raise DataFault(f"bars: {self.assets[first['asset'][0]]} {day} is there twice{more}", places)
+                if bar is not None:
+                    bar.update(len(records))
+        if doubled:
+            places = list(filter(None, map(self._place, sorted(first["row"].tolist()))))
+            told = f"{self.assets[first['asset'][0]]} {as_text(first['day'][0])} is there twice"
+            raise DataFault("bars: " + _and_more(told + (f", in the rows [{', '.join(places)}]" if places else ""), doubled))
 
     def _groups(self, sids: np.ndarray) -> Iterator[np.ndarray]:
         """All bars by sid and day, those of some assets at a time."""
@@ -217,9 +226,70 @@ class Bars:
             self.path.unlink()
 
 
-def header() -> bytes:
-    """The first line of a bars file."""
-    return ",".join(HEADERS["bars"]).encode() + b"\n"
+@contextmanager
+def gathered(folder: Path, bars: AnyBars, progress: bool = False, kept: Optional[Callable[[Frame], np.ndarray]] = None) -> Iterator[Bars]:
+    """Bars of any form, whose batches are in the folder within the block; of the rows of frames those that `kept` says, or all."""
+    found = Bars(folder)
+    try:
+        with progress_bar(progress, "bars read") as bar:
+            for index, parts in _frames(bars):
+                found.begin(index)
+                for part in parts:
+                    rows = long_bars(part)
+                    found.add(rows, None if kept is None else kept(rows))
+                    if bar is not None:
+                        bar.update(len(rows))
+        found.end()
+        yield found
+    finally:
+        found.close()
+
+
+def _frames(bars: AnyBars) -> Iterator[tuple[Optional[pd.Index], Iterable[Union[Frame, Mapping[str, Frame]]]]]:
+    """Each frame in slices, so that no copy of a whole one is made, with its index where its rows are the bars."""
+    if isinstance(bars, Mapping):
+        first, *others = bars.values()
+        if all(frame.index.equals(first.index) for frame in others):
+            yield None, ({name: frame.iloc[step] for name, frame in bars.items()} for step in _steps(len(first), first.shape[1]))
+        else:
+            yield None, [bars]
+        return
+    for frame in [bars] if isinstance(bars, Frame) else bars:
+        if not isinstance(frame, Frame):
+            raise DataFault(f"bars: {type(frame).__name__} is no frame", "one takes a frame, frames by name, or long frames one after the other")
+        wide = frame.columns.nlevels == 2
+        yield None if wide else frame.index, (frame.iloc[step] for step in _steps(len(frame), max(1, frame.shape[1] // 5) if wide else 1))
+
+
+def _steps(length: int, width: int) -> Iterator[slice]:
+    """Slices of all rows, at least one, by how many bars a row has."""
+    size = max(1, GROUP // max(1, width))
+    return (slice(start, start + size) for start in range(0, max(1, length), size))
+
+
+def progress_bar(wanted: bool, told: str, total: Optional[int] = None) -> ContextManager:
+    """A bar of progress, where it is wanted and tqdm is there."""
+    if wanted:
+        try:
+            from tqdm import tqdm
+            return tqdm(total=total, desc=told, unit="", unit_scale=True)
+        except ImportError:
+            pass
+    return nullcontext()
+
+
+def _and_more(first: str, count: int) -> str:
+    """The first of what is wrong, and how many there are beside it."""
+    return first + ("" if count == 1 else ", and so is 1 other" if count == 2 else f", and so are {count - 1} others")
+
+
+def as_text(day: int) -> str:
+    """A day by its number since 1970-01-01.
+
+    >>> as_text(19_724)
+    '2024-01-02'
+    """
+    return str(np.datetime64(int(day), "D"))
 
 
 def millionths(values: np.ndarray) -> np.ndarray:

@@ -17,7 +17,7 @@ import shutil
 import sqlite3
 from contextlib import closing, contextmanager
 from pathlib import Path
-from typing import Iterator, Optional, Sequence
+from typing import Iterator, Mapping, Optional, Sequence
 
 KEPT = 2  # versions that stay though nobody holds them: the current one and the one before
 
@@ -75,6 +75,32 @@ def is_link(path: Path) -> bool:
 def is_plain(path: Path) -> bool:
     """Whether a file is of no version, but was put into the folder by hand."""
     return path.exists() and not is_link(path)
+
+
+def look(folder: Path, names: Mapping[str, str], needed: Sequence[str]) -> tuple[Optional[Held], dict[str, Path]]:
+    """The version that counts, and the files of parts by their names, all of it or of the folder itself.
+
+    Of the parts that are not needed those are left out that are not there.
+    """
+    while True:
+        before, held, files = current(folder), hold(folder), {}
+        for part, name in names.items():
+            path = held.path / name if held is not None and is_link(folder / name) else folder / name
+            if part in needed or path.exists():
+                files[part] = path
+        if before == current(folder):  # else a name may have been of the version that came meanwhile
+            return held, files
+
+
+def held_again(folder: Path, files: Mapping[str, Path]) -> Optional[Held]:
+    """The version of files that were looked up before, perhaps by another process, which holds it meanwhile."""
+    for path in files.values():
+        if path.parent.parent == folder / "versions":
+            try:
+                return Held(path.parent)
+            except OSError:
+                return None  # the folder is not seen here, which its readers then say
+    return None
 
 
 @contextmanager
