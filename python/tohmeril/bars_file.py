@@ -176,8 +176,8 @@ class Bars:
             self.batches.append(self._sorted())
         self.batches = [Batch(read, np.append(starts, np.full(len(self.numbers) + 1 - len(starts), starts[-1]))) for read, starts in self.batches]
 
-    def write(self, out: BinaryIO, sids: np.ndarray, progress: bool = False) -> None:
-        """Write the lines of the bars that have a value, by sid and session.
+    def write(self, out: BinaryIO, sids: np.ndarray, progress: bool = False) -> int:
+        """Write the lines of the bars that have a value, by sid and session; their count.
 
         Parameters
         ----------
@@ -186,7 +186,7 @@ class Bars:
             The sids of `assets`.
         progress : bool
         """
-        doubled, first = 0, np.empty(0, RECORD)
+        written, doubled, first = 0, 0, np.empty(0, RECORD)
         with progress_bar(progress, "bars written", self.rows) as bar:
             for records in self._groups(sids):
                 same = (np.diff(sids[records["asset"]]) == 0) & (np.diff(records["day"]) == 0)
@@ -195,6 +195,7 @@ class Bars:
                     first = records[begins[0]:begins[0] + 1 + int(np.append(same[begins[0]:], False).argmin())]
                 doubled += len(begins)
                 kept = records[(records["cells"] != MISSING).any(axis=1)]
+                written += len(kept)
                 for start in range(0, 0 if doubled else len(kept), BLOCK):
                     part = kept[start:start + BLOCK]
                     out.write(lines(sids[part["asset"]], part["day"], part["cells"]))
@@ -204,9 +205,12 @@ class Bars:
             places = list(filter(None, map(self._place, sorted(first["row"].tolist()))))
             told = f"{self.assets[first['asset'][0]]} {as_text(first['day'][0])} is there twice"
             raise DataFault("bars: " + _and_more(told + (f", in the rows [{', '.join(places)}]" if places else ""), doubled))
+        return written
 
     def _groups(self, sids: np.ndarray) -> Iterator[np.ndarray]:
         """All bars by sid and day, those of some assets at a time."""
+        if not len(sids):
+            return
         assets = np.argsort(sids, kind="stable")
         counts = sum(np.diff(batch.starts) for batch in self.batches)[assets]
         new = np.append(True, np.diff(sids[assets]) > 0)  # two symbols of one sid stay together
@@ -281,6 +285,15 @@ def progress_bar(wanted: bool, told: str, total: Optional[int] = None) -> Contex
 def _and_more(first: str, count: int) -> str:
     """The first of what is wrong, and how many there are beside it."""
     return first + ("" if count == 1 else ", and so is 1 other" if count == 2 else f", and so are {count - 1} others")
+
+
+def as_number(day: str) -> int:
+    """The number of a day since 1970-01-01.
+
+    >>> as_number("2024-01-02")
+    19724
+    """
+    return int(np.datetime64(day, "D").astype("int64"))
 
 
 def as_text(day: int) -> str:
