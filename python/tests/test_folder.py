@@ -25,7 +25,7 @@ KILLS = int(os.environ.get("TOHMERIL_KILLS", 40))  # how many writers are killed
 SECONDS = float(os.environ.get("TOHMERIL_SECONDS", 4))  # how long one writes beside readers
 DAYS = pd.bdate_range("2024-01-01", periods=60)
 CLOSE = pd.DataFrame({sid: range(100 + sid, 160 + sid) for sid in range(40)}, index=DAYS, dtype=float)
-HALVED = CLOSE.where(CLOSE.index < DAYS[30], CLOSE / 2)
+HALVED = pd.concat([CLOSE[:30], CLOSE[30:] / 2])
 SPLITS = pd.DataFrame({"sid": range(40), "effective_date": DAYS[30], "ratio": 0.5})
 OLD = {"bars": {"close": HALVED, "volume": HALVED}, "splits": SPLITS, "labels": {"sector": dict.fromkeys(range(40), "Tech")}}
 NEW = {"bars": {"close": CLOSE * 3, "volume": CLOSE}, "numbers": {"score": CLOSE.iloc[:3]}}
@@ -51,6 +51,10 @@ def tables(tmp_path_factory):
     return found
 
 
+def write_once(folder, parts):
+    Data.write(folder, **parts)
+
+
 def started(work, *args):
     child = forks.Process(target=work, args=args)
     child.start()
@@ -60,13 +64,13 @@ def started(work, *args):
 def test_a_writer_that_is_killed(tables, tmp_path):
     Data.write(tmp_path, **OLD)
     begun = time.monotonic()
-    Data.write(tmp_path, **NEW)
-    length, seen = time.monotonic() - begun, []
+    started(write_once, tmp_path, NEW).join()
+    length, seen = time.monotonic() - begun, [1]
     whole = [files(Data.write(tmp_path / str(at), **parts).folder) for at, parts in enumerate((OLD, NEW))]
     chance = random.Random(1)
-    for at in range(KILLS):
-        writer = started(lambda parts: Data.write(tmp_path, **parts), (OLD, NEW)[at % 2])
-        time.sleep(chance.uniform(0, 1.2 * length))
+    for _ in range(KILLS):
+        writer = started(write_once, tmp_path, (NEW, OLD)[seen[-1]])
+        time.sleep(chance.uniform(0, 1.3 * length))
         os.kill(writer.pid, signal.SIGKILL)
         writer.join()
         seen.append(tables.index(table(tmp_path)))
@@ -141,7 +145,7 @@ def test_an_interrupted_writer(tables, tmp_path):
 def test_nothing_is_left_of_a_first_write_with_a_fault(tmp_path):
     for folder in (tmp_path / "new", tmp_path):
         with pytest.raises(Exception, match="is no frame"):
-            Data.write(folder, [CLOSE, "x"])
+            Data.write(folder, [CLOSE.assign(close=1.0, sid=1).rename_axis("session"), "x"])
     assert list(tmp_path.iterdir()) == []
 
 
@@ -159,7 +163,7 @@ def test_a_version_stays_while_it_is_held(tables, tmp_path):
     assert held.exists() and again.files["bars"] == held
     with ProcessPoolExecutor(1) as pool:
         assert run_text(pipe, DAYS[45], DAYS[59], again, executor=pool, pieces=2) == tables[0]
-    del again
+    del again, newest
     Data.write(tmp_path, **NEW)
     assert not held.exists() and len(list((tmp_path / "versions").glob("[0-9]*"))) == 2
     assert (tmp_path / "p.pl").exists() and not (tmp_path / "labels.csv").is_symlink() and (tmp_path / "numbers.csv").exists()

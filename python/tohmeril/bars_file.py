@@ -83,10 +83,10 @@ class Bars:
         self.rows += len(rows)
         if kept is not None:
             rows, places = rows[kept], places[kept]
-        local, found = pd.factorize(rows.sid)
+        local, found = pd.factorize(rows.sid.to_numpy())
         self._refuse(rows, places, local < 0, "an asset is missing")
         numbers = np.array([self.numbers.setdefault(asset, len(self.numbers)) for asset in found.tolist()], "i4")[local]
-        codes, days = pd.factorize(rows.session)
+        codes, days = pd.factorize(rows.session.to_numpy())
         days = np.array(list(days), "datetime64[D]").astype("i4")[codes]
         columns = [self._values(rows, places, name) for name in BARS]
         for start in range(0, len(rows), BLOCK):

@@ -20,7 +20,7 @@ from .days import Day, read_day
 from .faults import DataFault, LimitFault, ReadFault, StoreFault
 from .folder import writing
 from .frames import FOREVER, Frame, Sids, late_parts, require_unique, select_columns
-from .ingest import add_adjustments, adjustments, beside_bars, calendar, write_records
+from .ingest import add_adjustments, adjustments, beside_bars, calendar, of_parts, write_records
 from .odd import PROBE
 from .pipeline.script import BARS
 
@@ -282,16 +282,13 @@ def _add_adjustments(store: Store, new: Path, given: Mapping[str, Optional[Frame
 
 
 def _judge(new: Path) -> None:
-    """Let the program judge all files; what it says is of a part, since the folder has no name yet."""
+    """Let the program judge all files."""
     data = Data(new)
     try:
-        with program.file(PROBE) as name:
+        with of_parts(new), program.file(PROBE) as name:
             program.call("run", name, *data.names, data.sessions[-1], data.sessions[-1], *data.options)
     except LimitFault:  # the files are past one run, and are run in pieces
         pass
-    except DataFault as fault:
-        part = next((part for part, path in data.files.items() if str(path) == fault.path), fault.path)
-        raise DataFault(f"{fault.table or part}: data {fault.rule}", fault.note) from None
 
 
 def _warn(store: Store, lives: Frame, found: Bars, sids: np.ndarray, days: list[str]) -> None:
