@@ -59,7 +59,7 @@ def check(data: Source, pipelines: Sequence[Piped] = (), table: Optional[pd.Data
     failed: Optional[Exception] = None
     last = data.sessions[-1] if data.sessions else "1970-01-01"
     try:
-        with program.file(PROBE) as name, program.stream(["run", name, *data.names, last, last, *data.options]) as judged:
+        with data.steady(), program.file(PROBE) as name, program.stream(["run", name, *data.names, last, last, *data.options]) as judged:
             try:
                 found += _looked(data, pipelines)
             except Exception as error:  # the program says better what is wrong in a file
