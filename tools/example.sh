@@ -16,12 +16,12 @@ show_example() {
     "$1"
     make_databases
     [ "$at" = "$program" ] || call="./tohmeril --unproved"
-    say "in examples/first, $(basename "$call") ${table[*]}:"
+    say "in examples/first, ../../${call#./} ${table[*]}:"
     (cd "$top/examples/first" && "$at" "${table[@]}")
-    say "the latest close of an asset and the mean of three: on 2024-01-04 it was split, one into two, and the bars before count as halves"
+    say "the latest close of an asset and the mean of three: it was split, one into two, and the bars before count as halves from then on"
     say "next, in $top:"
-    say "  $call --path            the program; export TOHMERIL as this path, and the Python package takes it"
-    say "  tools/setup python      import tohmeril, in an environment of the checkout (python/README.md)"
-    say "  README.md               \"Your own data\": from CSV files or frames to a table of your own"
-    say "  .ci/run                 proves all and runs all tests"
+    say "  tools/setup python   an environment in which import tohmeril works (python/README.md)"
+    [ "$at" = "$program" ] || say "  export TOHMERIL=\$(./tohmeril --unproved --path)   this program, for the Python package"
+    say "  README.md, \"Your own data\", from files or frames of your own to a table"
+    say "  .ci/run              proves all, and runs all tests"
 }
