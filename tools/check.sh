@@ -33,6 +33,13 @@ ends() {
     fi
 }
 
+# concludes STATUS LINE COMMAND..: the command ends with this status, and prints this last line.
+concludes() {
+    ends "$1" "" "${@:3}"
+    tail -n 1 "$work/out" > "$work/line"
+    ends 0 "" test "$(cat "$work/line")" = "$2"
+}
+
 # is_silent COMMAND..: the command ends with 0 and says nothing.
 is_silent() {
     ends 0 "" "$@"
@@ -99,20 +106,19 @@ gate() {
     part "$at" bin/rt 0 "7 passed, 0 failed" && part "$at" tools/streams.sh 0 "1 passed, 0 failed"
     part "$at" python/check.sh 0 "python: 20 passed, 0 failed" && part "$at" examples/check.sh 0 "examples: 300 passed, 0 failed"
     part "$at" tools/check.sh 0 "scripts: 4000 passed, 0 failed"
-    ends 0 "4328 passed, 0 failed" "${run[@]}"
+    concludes 0 "4328 passed, 0 failed" "${run[@]}"
     ends 0 "record" cat "$at/crates/pl_main/out/gate"
     part "$at" python/check.sh 3 "python: not tested"
-    ends 3 "4308 passed, 1 failed" "${run[@]}"
+    concludes 3 "4308 passed, 1 failed" "${run[@]}"
     part "$at" python/check.sh 1 "python: 18 passed, 2 failed"
-    ends 1 "4326 passed, 2 failed" "${run[@]}"
+    concludes 1 "4326 passed, 2 failed" "${run[@]}"
     part "$at" tools/setup 3 "setup: as root"
-    ends 3 "4326 passed, 3 failed" "${run[@]}"
+    concludes 3 "4326 passed, 3 failed" "${run[@]}"
     part "$at" bin/rt 4 "6 passed, 1 failed"
-    ends 4 "6 passed, 1 failed" "${run[@]}"
+    concludes 4 "6 passed, 1 failed" "${run[@]}"
     ends 1 "" test -e "$at/crates/pl_main/out/gate"
     part "$at" bin/rt 5 "killed"
-    ends 5 "0 passed, 1 failed" "${run[@]}"
-    ends 0 "0 passed, 1 failed" tail -n 1 "$work/out"
+    concludes 5 "0 passed, 1 failed" "${run[@]}"
 }
 
 # A clone whose gate has passed, as far as its record says.
