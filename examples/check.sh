@@ -309,6 +309,7 @@ done
 copy
 language
 same_words
+try tools/pages "$top/tools/pages"
 try examples/terms/check.sh examples/terms/check.sh
 try examples/market/run.sh examples/market/run.sh
 if [ -n "$python" ]; then
