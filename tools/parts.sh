@@ -36,11 +36,17 @@ refuse_unknown() {
     done
 }
 
-# lacking_modules PYTHON MODULE..: those that this Python does not have; all, where it is older than 3.9 or does not run.
+# lacking_modules PYTHON MODULE..: those that this Python does not have; all, where it is older than 3.9 or does not run. A pandas
+# that is older than 1.5 does not count.
 lacking_modules() {
-    "$1" -c 'import importlib.util, sys
-old = sys.version_info < (3, 9)
-print(*[name for name in sys.argv[1:] if old or importlib.util.find_spec(name) is None])' "${@:2}" 2> /dev/null || echo "${@:2}"
+    "$1" -c 'import importlib.metadata, importlib.util, sys
+
+def is_here(name):
+    if sys.version_info < (3, 9) or importlib.util.find_spec(name) is None:
+        return False
+    return name != "pandas" or tuple(map(int, importlib.metadata.version(name).split(".")[:2])) >= (1, 5)
+
+print(*[name for name in sys.argv[1:] if not is_here(name)])' "${@:2}" 2> /dev/null || echo "${@:2}"
 }
 
 # choose_python MODULE..: sets python, and lacking, the modules that it does not have.

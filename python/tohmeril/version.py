@@ -11,7 +11,7 @@ __version__ = "0.2.0"
 PROVED = Path(__file__).with_name("PROVED")  # a release puts it here
 
 
-def read_proved(path: Path = PROVED) -> dict[str, str]:
+def read_proved(path: Path) -> dict[str, str]:
     """Read what a release says of itself.
 
     Parameters
@@ -48,7 +48,7 @@ def describe() -> tuple[str, bool]:
     """
     found = program.find()
     total = hashlib.sha256(Path(found).read_bytes()).hexdigest()
-    named = read_proved()
+    named = read_proved(PROVED)
     if not named:
         verdict = "none: this package is no release, so that no sum is named"
     elif named.get("program") != total:
