@@ -14,7 +14,7 @@ import numpy as np
 import pandas as pd
 
 from .faults import DataFault
-from .frames import Frame, long_bars
+from .frames import NEGATIVE, Frame, and_others, long_bars, to_numbers
 from .pipeline.script import BARS
 from .pipeline.term import GREATEST
 
@@ -83,10 +83,10 @@ class Bars:
         self.rows += len(rows)
         if kept is not None:
             rows, places = rows[kept], places[kept]
-        local, found = pd.factorize(rows.sid)
-        self._refuse(rows, places, local < 0, "an asset is missing: {}")
+        local, found = pd.factorize(rows.sid.to_numpy())
+        self._refuse(rows, places, local < 0, "an asset is missing")
         numbers = np.array([self.numbers.setdefault(asset, len(self.numbers)) for asset in found.tolist()], "i4")[local]
-        codes, days = pd.factorize(rows.session)
+        codes, days = pd.factorize(rows.session.to_numpy())
         days = np.array(list(days), "datetime64[D]").astype("i4")[codes]
         columns = [self._values(rows, places, name) for name in BARS]
         for start in range(0, len(rows), BLOCK):
@@ -102,26 +102,20 @@ class Bars:
 
     def _values(self, rows: Frame, places: np.ndarray, name: str) -> np.ndarray:
         """A column as floats, which has no value that a bar can't have."""
-        try:
-            values = pd.to_numeric(rows[name]).to_numpy("float64", na_value=np.nan)
-        except (TypeError, ValueError):
-            wrong = (pd.to_numeric(rows[name], errors="coerce").isna() & rows[name].notna()).to_numpy()
-            told = f"the {name} of {{}} is {rows[name].to_numpy()[wrong][:1].tolist()}, which is no number"
-            self._refuse(rows, places, wrong, told)
-            raise
-        sizes = np.abs(values)
-        self._refuse(rows, places, np.isinf(values), "the bar of {} is infinite")
-        if (large := sizes > float(GREATEST)).any():
-            self._refuse(rows, places, large, f"the {name} of {{}} is {values[large][0]:.12g}; the greatest is {GREATEST}: give volumes in "
-                         "thousands, or prices in a greater unit")
+        values = to_numbers(rows[name], "bars").to_numpy("float64")
+        for wrong, hint in ((np.isinf(values), "give NaN for a missing value"), (values < 0, NEGATIVE[name == "volume"]),
+                            (values > float(GREATEST), f"the greatest is {GREATEST}: give volumes in thousands, or prices in a greater unit")):
+            if wrong.any():
+                self._refuse(rows, places, wrong, f"the {name} of {{}} is {values[wrong.argmax()]:.12g}", hint)
         return values
 
-    def _refuse(self, rows: Frame, places: np.ndarray, wrong: np.ndarray, told: str) -> None:
+    def _refuse(self, rows: Frame, places: np.ndarray, wrong: np.ndarray, told: str, hint: str = "") -> None:
         """Raise the fault of the first wrong row, where there is one."""
         if wrong.any():
             at = int(wrong.argmax())
-            place, told = self._place(places[at]), told.format(f"{rows.sid.iloc[at]} on {rows.session.iloc[at]}")
-            raise DataFault("bars: " + _and_more(told, int(wrong.sum())), place and f"row {place}")
+            place = self._place(places[at])
+            place = place and f"row {place}{and_others(int(wrong.sum()) - 1)}"
+            raise DataFault("bars: " + told.format(f"{rows.sid.iloc[at]} on {rows.session.iloc[at]}"), "; ".join(filter(None, (place, hint))))
 
     def _place(self, row: int) -> str:
         """A row as the user counts it; empty where bars are no rows."""
@@ -204,7 +198,8 @@ class Bars:
         if doubled:
             places = list(filter(None, map(self._place, sorted(first["row"].tolist()))))
             told = f"{self.assets[first['asset'][0]]} {as_text(first['day'][0])} is there twice"
-            raise DataFault("bars: " + _and_more(told + (f", in the rows [{', '.join(places)}]" if places else ""), doubled))
+            rows = f", in the rows [{', '.join(places)}]" if places else ""
+            raise DataFault(f"bars: {told}{rows}{and_others(doubled - 1, verb=True)}")
         return written
 
     def _groups(self, sids: np.ndarray) -> Iterator[np.ndarray]:
@@ -252,8 +247,8 @@ def gathered(folder: Path, bars: AnyBars, progress: bool = False, kept: Optional
 def _frames(bars: AnyBars) -> Iterator[tuple[Optional[pd.Index], Iterable[Union[Frame, Mapping[str, Frame]]]]]:
     """Each frame in slices, so that no copy of a whole one is made, with its index where its rows are the bars."""
     if isinstance(bars, Mapping):
-        first, *others = bars.values()
-        if all(frame.index.equals(first.index) for frame in others):
+        first = next(iter(bars.values()), None)
+        if bars and all(isinstance(frame, Frame) and frame.index.equals(first.index) for frame in bars.values()):
             yield None, ({name: frame.iloc[step] for name, frame in bars.items()} for step in _steps(len(first), first.shape[1]))
         else:
             yield None, [bars]
@@ -266,9 +261,9 @@ def _frames(bars: AnyBars) -> Iterator[tuple[Optional[pd.Index], Iterable[Union[
 
 
 def _steps(length: int, width: int) -> Iterator[slice]:
-    """Slices of all rows, at least one, by how many bars a row has."""
+    """Slices of all rows, by how many bars a row has."""
     size = max(1, GROUP // max(1, width))
-    return (slice(start, start + size) for start in range(0, max(1, length), size))
+    return (slice(start, start + size) for start in range(0, length, size))
 
 
 def progress_bar(wanted: bool, told: str, total: Optional[int] = None) -> ContextManager:
@@ -280,11 +275,6 @@ def progress_bar(wanted: bool, told: str, total: Optional[int] = None) -> Contex
         except ImportError:
             pass
     return nullcontext()
-
-
-def _and_more(first: str, count: int) -> str:
-    """The first of what is wrong, and how many there are beside it."""
-    return first + ("" if count == 1 else ", and so is 1 other" if count == 2 else f", and so are {count - 1} others")
 
 
 def as_number(day: str) -> int:

@@ -8,7 +8,7 @@ import sqlite3
 import warnings
 from contextlib import closing
 from pathlib import Path
-from typing import Iterable, Mapping, NamedTuple, Optional, Sequence, Union
+from typing import Container, Iterable, Mapping, NamedTuple, Optional, Sequence, Union
 
 import numpy as np
 import pandas as pd
@@ -19,8 +19,8 @@ from .data import FILES, HEADERS, NEEDED, SECONDS, TABLES, Data, read_only
 from .days import Day, read_day
 from .faults import DataFault, LimitFault, ReadFault, StoreFault
 from .folder import writing
-from .frames import FOREVER, Frame, Sids, require_unique, select_columns
-from .ingest import add_adjustments, adjustments, beside_bars, write_records
+from .frames import FOREVER, Frame, Sids, late_parts, require_unique, select_columns
+from .ingest import add_adjustments, adjustments, beside_bars, calendar, of_parts, write_records
 from .odd import PROBE
 from .pipeline.script import BARS
 
@@ -38,7 +38,7 @@ class Store(NamedTuple):
 def append(folder: Union[str, Path], bars: Optional[AnyBars] = None, *, sessions: Optional[Iterable] = None, assets: Optional[Frame] = None,
            splits: Optional[Frame] = None, mergers: Optional[Frame] = None, dividends: Optional[Frame] = None,
            labels: Union[Frame, Mapping, None] = None, revisions: Optional[Frame] = None, numbers: Union[Frame, Mapping, None] = None,
-           symbols: Optional[Mapping[str, int]] = None, late: Optional[Day] = None) -> Data:
+           symbols: Optional[Mapping[str, int]] = None, after_close: Union[bool, str, Iterable[str]] = (), late: Optional[Day] = None) -> Data:
     """Add what came since the last session of a folder, at once, and as seen from then on alone.
 
     The table of a session is computed as of its morning. So the rows of all sessions up to the last one stay as they are where bars
@@ -61,6 +61,8 @@ def append(folder: Union[str, Path], bars: Optional[AnyBars] = None, *, sessions
         As of `tohmeril.ingest.write`: what is new alone.
     symbols : mapping of str to int, optional
         Sids of new symbols; without it the next ones after the greatest sid, in alphabetic order.
+    after_close : str or iterable of str, optional
+        As of `tohmeril.ingest.write`.
     late : day, optional
         Bars of sessions before the last one are taken as revisions that are known on this day; without it they are refused.
 
@@ -85,7 +87,7 @@ def append(folder: Union[str, Path], bars: Optional[AnyBars] = None, *, sessions
             _refuse_bars(store, found, own)
             days = _next_sessions(store, found, sessions)
             lives = _lives(store, found, own, early, sids, lives)
-            parts = {"assets": lives, **_beside(store, sids, days, labels, revisions, numbers, early, late)}
+            parts = {"assets": lives, **_beside(store, sids, days, labels, revisions, numbers, late_parts(after_close), early, late)}
             added = {"sessions": len(days), "bars": _write_bars(store, new, found, own)}
         for part in ("sessions", *HEADERS):
             if part != "bars":
@@ -129,7 +131,7 @@ def _sids(store: Store, assets: Sequence, symbols: Optional[Mapping[str, int]]) 
     if store.data.symbols is None:
         if fresh:
             raise DataFault(f"bars: the data have no symbols, so no {fresh[0]!r}", "give sids, as the folder was written with them")
-        return Sids(np.array(assets, dtype=object), None)
+        return Sids([*store.lives.index, *assets], None)
     known = dict(zip(store.data.symbols, map(int, store.data.symbols.index)))
     fresh = [symbol for symbol in fresh if symbol not in known]
     after = max([*known.values(), *store.lives.index], default=-1) + 1
@@ -138,7 +140,7 @@ def _sids(store: Store, assets: Sequence, symbols: Optional[Mapping[str, int]]) 
         if sid is None or sid in known.values():
             raise DataFault(f"symbols: there is no sid of {symbol!r}" if sid is None else f"symbols: the sid {sid} of {symbol!r} is of another")
         known[symbol] = int(sid)
-    return Sids(np.array(list(known), dtype=object), known)
+    return Sids([*known, *store.lives.index], known)
 
 
 def _refuse_bars(store: Store, found: Bars, sids: np.ndarray) -> None:
@@ -168,7 +170,7 @@ def _next_sessions(store: Store, found: Bars, sessions: Optional[Iterable]) -> l
     bars = [each for each in map(as_text, sorted(found.days)) if each > store.last]
     if sessions is None:
         return bars
-    days = sorted(set(map(read_day, sessions)))
+    days = sorted(calendar(sessions))
     if days and days[0] <= store.last:
         raise DataFault(f"sessions: {days[0]} is not later than {store.last}, the last one")
     unknown = sorted({*bars} - {*days})
@@ -197,10 +199,11 @@ def _lives(store: Store, found: Bars, own: np.ndarray, early: list[Frame], sids:
     return Frame([(sid, *days) for sid, days in sorted(lives.items())], columns=HEADERS["assets"])
 
 
-def _beside(store: Store, sids: Sids, days: list[str], labels, revisions, numbers, early: list[Frame], late) -> dict[str, Frame]:
+def _beside(store: Store, sids: Sids, days: list[str], labels, revisions, numbers, after_close: Container[str], early: list[Frame],
+            late: Optional[Day]) -> dict[str, Frame]:
     """The new records of the other files, which are seen after the last session alone."""
     first = days[0] if days else as_text(as_number(store.last) + 1)
-    files = beside_bars(sids, first, labels, revisions, numbers)
+    files = beside_bars(sids, first, labels, revisions, numbers, after_close)
     if early:
         cells = pd.concat(early).melt(["sid", "session"], list(BARS), "column", "value").dropna(subset=["value"])
         cells = sids.records(cells.assign(known=read_day(late), value=pd.to_numeric(cells.value).astype("float64")), "bars")
@@ -279,16 +282,13 @@ def _add_adjustments(store: Store, new: Path, given: Mapping[str, Optional[Frame
 
 
 def _judge(new: Path) -> None:
-    """Let the program judge all files; what it says is of a part, since the folder has no name yet."""
+    """Let the program judge all files."""
     data = Data(new)
     try:
-        with program.file(PROBE) as name:
+        with of_parts(new), program.file(PROBE) as name:
             program.call("run", name, *data.names, data.sessions[-1], data.sessions[-1], *data.options)
     except LimitFault:  # the files are past one run, and are run in pieces
         pass
-    except DataFault as fault:
-        part = next((part for part, path in data.files.items() if str(path) == fault.path), fault.path)
-        raise DataFault(f"{fault.table or part}: data {fault.rule}", fault.note) from None
 
 
 def _warn(store: Store, lives: Frame, found: Bars, sids: np.ndarray, days: list[str]) -> None:
