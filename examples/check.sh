@@ -319,6 +319,7 @@ recipes() {
     [ -n "$python" ] || return
     printf 'day,AAA,BBB\n2024-01-02,10,20\n2024-01-03,11,\n' > close.csv
     try bars.py "$python" "$recipes/bars.py" made close.csv
+    sqlite3 examples/market/adjustments.db < examples/market/adjustments.sql
     try table.py "$python" "$recipes/table.py" examples/market/liquidity.pl examples/market 2023-12-01 2023-12-08
     is_left_out matplotlib || try picture.py "$python" "$recipes/picture.py" examples/market 2023-10-02 2023-11-30 5 .
 }
