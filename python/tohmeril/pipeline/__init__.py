@@ -22,8 +22,11 @@ class Pipeline:
     Parameters
     ----------
     columns : mapping of str to Term, optional
+        The columns of the frame by their names.
     screen : Filter, optional
-    domain : ignored, since the calendar is that of the sessions file
+        Assets for which it is false have no row.
+    domain : object, optional
+        Zipline's, which is ignored, since the calendar is that of the sessions file.
 
     Examples
     --------
@@ -53,7 +56,22 @@ class Pipeline:
         return self._screen
 
     def add(self, term: Term, name: str, overwrite: bool = False) -> None:
-        """Add a column."""
+        """Add a column.
+
+        Parameters
+        ----------
+        term : Factor, Filter or Classifier
+        name : str
+        overwrite : bool
+            Whether the name may be that of a column that is there.
+
+        Raises
+        ------
+        TypeError
+            Where the term is none, as a column of bars is.
+        KeyError
+            Where there is a column of the name.
+        """
         if not isinstance(name, str):
             raise TypeError(f"the name of a column is a text, not {name!r}")
         if isinstance(term, BoundColumn) or not isinstance(term, Term):
@@ -67,7 +85,14 @@ class Pipeline:
         return self._columns.pop(name)
 
     def set_screen(self, screen: Filter, overwrite: bool = False) -> None:
-        """Set the filter that says which assets are shown."""
+        """Set the filter that says which assets are shown.
+
+        Parameters
+        ----------
+        screen : Filter
+        overwrite : bool
+            Whether there may be a screen already.
+        """
         if not isinstance(screen, Filter):
             equal = ": == says whether two terms are one; write .eq(..)" if isinstance(screen, bool) else ""
             raise TypeError(f"a screen is a filter, not {screen!r}{equal}")
