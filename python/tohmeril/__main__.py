@@ -1,6 +1,7 @@
-"""The job of each morning: ``python3 -m tohmeril append STORE NEWS TODAY``.
+"""Two commands: the job of each morning, ``python3 -m tohmeril append STORE NEWS TODAY``, and ``python3 -m tohmeril version``.
 
-It adds the CSV files of the folder NEWS to the folder STORE and makes TODAY its last session, by the rules of `tohmeril.news.append`.
+The first adds the CSV files of the folder NEWS to the folder STORE and makes TODAY its last session, by the rules of
+`tohmeril.news.append`. The second prints which version this is, and whether the program is the one that its release names.
 """
 from __future__ import annotations
 
@@ -8,10 +9,11 @@ import argparse
 import sys
 import warnings
 from pathlib import Path
-from typing import Optional, Sequence
+from typing import Any, Callable, Optional, Sequence
 
 import pandas as pd
 
+from . import version
 from .data import Data
 from .days import NoDay, read_day
 from .faults import DataFault, Fault
@@ -21,9 +23,12 @@ PARTS = ("bars", "assets", "labels", "numbers", "revisions", "splits", "mergers"
 
 
 def parser() -> argparse.ArgumentParser:
-    """The words of the command."""
+    """The words of the commands."""
     parser = argparse.ArgumentParser(prog="python3 -m tohmeril")
-    append = parser.add_subparsers(required=True, metavar="append").add_parser(
+    commands = parser.add_subparsers(required=True, metavar="COMMAND")
+    told = commands.add_parser("version", help="print the version, the program with its sum, and whether the release names it")
+    told.set_defaults(call=tell_version)
+    append = commands.add_parser(
         "append", help="add what came since the last session", description="Adds the files of NEWS to STORE and makes TODAY its last "
         "session: bars.csv (those of the session before), assets.csv, labels.csv, numbers.csv, revisions.csv, splits.csv, mergers.csv, "
         "dividends.csv, as far as they are there. Where something is wrong, STORE stays as it was. A second call adds nothing.")
@@ -33,7 +38,15 @@ def parser() -> argparse.ArgumentParser:
     append.add_argument("--without-bars", action="store_true", help="go on though no bars of the session before have come")
     append.add_argument("--late", action="store_true", help="take bars of earlier sessions as revisions that are known TODAY")
     append.add_argument("--weekend", action="store_true", help="TODAY is a session though no other one falls on its day of the week")
+    append.set_defaults(call=add_news)
     return parser
+
+
+def tell_version() -> int:
+    """Print the version; the status is 1 where the program is another than the release names."""
+    text, agrees = version.describe()
+    print(text)
+    return 0 if agrees else 1
 
 
 def read(path: Path) -> Frame:
@@ -67,17 +80,24 @@ def append(store: Path, news: Path, today: str, without_bars: bool, late: bool, 
     return data.append(**frames, sessions=[today], late=today if late else None)
 
 
-def main(words: Optional[Sequence[str]] = None) -> int:
-    """Run the command; its status is that of the fault, with which the program would end."""
+def add_news(**options: Any) -> int:
+    """Run `append`; the status is that of the fault, with which the program would end."""
     warnings.showwarning = lambda message, *place: print(f"append: {message}", file=sys.stderr)
     try:
-        data = append(**vars(parser().parse_args(words)))
+        data = append(**options)
     except Fault as fault:
         print(fault, file=sys.stderr)
         return fault.status
     if data is not None:
         print("append: " + ", ".join(f"{count} {part}" for part, count in data.added.items()), file=sys.stderr)
     return 0
+
+
+def main(words: Optional[Sequence[str]] = None) -> int:
+    """Run the command of these words, by default those of the process, and return its status."""
+    options = vars(parser().parse_args(words))
+    call: Callable[..., int] = options.pop("call")
+    return call(**options)
 
 
 if __name__ == "__main__":
