@@ -54,7 +54,7 @@ class Sids:
         self.there = frozenset(self._sid(asset, "bars") for asset in assets)
 
     def __call__(self, assets: pd.Series, what: str) -> pd.Series:
-        codes, distinct = pd.factorize(assets)
+        codes, distinct = pd.factorize(assets.to_numpy())  # of objects, too, without a guess at their type
         if (codes < 0).any():
             raise DataFault(f"{what}: an asset is missing", rows_of(assets, codes < 0))
         sids = np.empty(len(distinct), dtype="int64")
