@@ -121,6 +121,12 @@ def test_blocks_are_the_whole(size, tmp_path, monkeypatch):
     assert Data(tmp_path).check() == wanted
 
 
+def test_columns_that_may_be_empty(tmp_path):
+    data = made(tmp_path, lines=[f"1,{day},,,,{close},9" for day, close in zip(DAYS, UP)], splits=())
+    assert odd.check(data) == [f"bars: the column {name} is empty" for name in ("open", "high", "low")]
+    assert odd.check(data, lacking=["open", "low"]) == ["bars: the column high is empty"]
+
+
 def test_columns_without_a_value(tmp_path):
     data = made(tmp_path)
     pipe = Pipeline({"price": price, "none": price / 0, "sector": sector, "never": price > 1e9, "bin": (price / 0).quartiles()})

@@ -3,7 +3,7 @@ from __future__ import annotations
 
 import sqlite3
 from contextlib import closing
-from typing import TYPE_CHECKING, Any, Iterator, NamedTuple, Optional, Sequence
+from typing import TYPE_CHECKING, Any, Container, Iterator, NamedTuple, Optional, Sequence
 
 import numpy as np
 import pandas as pd
@@ -27,7 +27,7 @@ PLAIN = 1.2  # the least factor of a split that a usual day does not hide
 NO_NAMES = {"", "nan", "NaN", "NaT", "None", "<NA>"}  # what a missing symbol becomes as a text
 
 
-def check(data: Source, pipelines: Sequence[Piped] = (), table: Optional[pd.DataFrame] = None) -> list[str]:
+def check(data: Source, pipelines: Sequence[Piped] = (), table: Optional[pd.DataFrame] = None, lacking: Container[str] = ()) -> list[str]:
     """Let the program judge all files, whose fault is raised, and list what looks odd.
 
     It reads the bars in blocks, while the program does, and keeps of each asset the newest close.
@@ -41,6 +41,8 @@ def check(data: Source, pipelines: Sequence[Piped] = (), table: Optional[pd.Data
         or numbers, are listed.
     table : DataFrame, optional
         A frame of `run_pipeline`: its columns without any value are listed.
+    lacking : sequence of str
+        The columns of bars that may be empty, as those are that were not given.
 
     Returns
     -------
@@ -61,7 +63,7 @@ def check(data: Source, pipelines: Sequence[Piped] = (), table: Optional[pd.Data
     try:
         with data.steady(), program.file(PROBE) as name, program.stream(["run", name, *data.names, last, last, *data.options]) as judged:
             try:
-                found += _looked(data, pipelines)
+                found += _looked(data, pipelines, lacking)
             except Exception as error:  # the program says better what is wrong in a file
                 failed = error
             judged.read()
@@ -72,7 +74,7 @@ def check(data: Source, pipelines: Sequence[Piped] = (), table: Optional[pd.Data
     return [*found, *_columns(table)]
 
 
-def _looked(data: Data, pipelines: Sequence[Piped]) -> Iterator[str]:
+def _looked(data: Data, pipelines: Sequence[Piped], lacking: Container[str]) -> Iterator[str]:
     """What looks odd in the files."""
     if not data.sessions:
         return
@@ -84,7 +86,7 @@ def _looked(data: Data, pipelines: Sequence[Piped]) -> Iterator[str]:
     yield from _sessions(data)
     yield from _lives(data, assets)
     yield from _symbols(data)
-    yield from bars.oddities()
+    yield from bars.oddities(lacking)
     yield from _acting(data, assets, adjustments)
     for part in SINCE:
         yield from _dated(data, pipelines, part)
@@ -219,10 +221,10 @@ class _Bars:
         return f"{_asset(self.data, self.sids[change.asset])} on {self.sessions[change.session]} from {change.before:.12g} to " \
                f"{change.after:.12g}"
 
-    def oddities(self) -> Iterator[str]:
+    def oddities(self, lacking: Container[str]) -> Iterator[str]:
         """What was seen."""
         for name, greatest in pd.DataFrame(self.greatest).max().items():
-            if pd.isna(greatest) and name != "close * volume":
+            if pd.isna(greatest) and name != "close * volume" and name not in lacking:
                 yield f"bars: the column {name} is empty"
             elif greatest > NEAR:
                 yield f"bars: {name} goes up to {greatest:.0f}, and what passes 100000000000 is missing: give the volume in thousands, " \
