@@ -12,7 +12,7 @@ from . import program
 from .data import SECONDS, TABLES, Data, read_only
 from .faults import LimitFault, StoreFault
 from .pipeline.script import BARS
-from .plans import Piped, Source, named_in, opened, scripted
+from .plans import Piped, Source, as_data, as_script, named_in
 
 if TYPE_CHECKING:
     Array = np.ndarray[Any, Any]
@@ -56,7 +56,7 @@ def check(data: Source, pipelines: Sequence[Piped] = (), table: Optional[pd.Data
     StoreFault
         Where the tables of the adjustments can't be read.
     """
-    data = opened(data)
+    data = as_data(data)
     found: list[str] = []
     failed: Optional[Exception] = None
     last = data.sessions[-1] if data.sessions else "1970-01-01"
@@ -279,7 +279,7 @@ def _acting(data: Data, assets: pd.DataFrame, adjustments: pd.DataFrame) -> Iter
 
 def _dated(data: Data, pipelines: Sequence[Piped], part: str) -> Iterator[str]:
     """Labels or numbers that no pipeline names, names without any, and days that are none of publication."""
-    named = {name for pipeline in pipelines for name in named_in(scripted(pipeline).text, part)}
+    named = {name for pipeline in pipelines for name in named_in(as_script(pipeline).text, part)}
     rows = pd.DataFrame({"name": [], SINCE[part]: []}, dtype=str)
     if part in data.files:
         blocks = pd.read_csv(data.files[part], usecols=["name", SINCE[part]], dtype="category", na_filter=False, chunksize=BLOCK)

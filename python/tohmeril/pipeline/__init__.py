@@ -6,7 +6,7 @@ from typing import TYPE_CHECKING, Mapping, Optional
 from .classifiers import CustomClassifier
 from .factors import CustomFactor
 from .filters import CustomFilter
-from .script import Script, script
+from .script import Script, make_script
 from .term import BoundColumn, Classifier, Factor, Filter, Inexpressible, Term
 
 if TYPE_CHECKING:
@@ -102,7 +102,7 @@ class Pipeline:
 
     def script(self) -> Script:
         """The text of the pipeline, with what leads back from it."""
-        return script(self._columns, self._screen)
+        return make_script(self._columns, self._screen)
 
     def show_graph(self, format: str = "svg") -> Graph:
         """The graph of its terms, which a notebook draws; see `tohmeril.show_graph`."""

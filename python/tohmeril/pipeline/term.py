@@ -92,10 +92,10 @@ class Elsewhere(Absent):
         return f"<no {self.name} here: {self.nearest}>"
 
 
-def number(value: Number) -> Decimal:
+def as_decimal(value: Number) -> Decimal:
     """A number as the program reads it: whole millionths, rounded once, ties away from zero.
 
-    >>> number(0.1), number(1.0000005), number(-3)
+    >>> as_decimal(0.1), as_decimal(1.0000005), as_decimal(-3)
     (Decimal('0.1'), Decimal('1.000001'), Decimal('-3'))
     """
     if isinstance(value, bool) or not isinstance(value, (Real, Decimal)):
@@ -106,15 +106,15 @@ def number(value: Number) -> Decimal:
     return Decimal(f"{exact.quantize(Decimal('0.000001'), ROUND_HALF_UP):f}".rstrip("0").rstrip("."))
 
 
-def factor(value: Value) -> Factor:
+def as_factor(value: Value) -> Factor:
     """A factor, or a number in place of one; a NaN becomes a division by zero, which is missing."""
     if isinstance(value, Factor):
         return value
     if isinstance(value, BoundColumn):
         raise TypeError(f"{value!r} is a column of {value.holds} and no factor: write .latest for its newest value")
     if isinstance(value, float) and math.isnan(value):
-        return Factor(INFIX, "/", factor(1), factor(0))
-    return Factor(WORD, f"{number(value):f}")
+        return Factor(INFIX, "/", as_factor(1), as_factor(0))
+    return Factor(WORD, f"{as_decimal(value):f}")
 
 
 class Term:
@@ -135,7 +135,7 @@ class Term:
             if not isinstance(value, wanted):
                 column = f": write {value!r}.latest" if getattr(value, "holds", "") == "labels" else ""
                 raise TypeError(f"{key} of {name} has to be a {wanted.__name__.lower()}, and is {value!r}{column}")
-        parts = form, name, tuple(arg if isinstance(arg, (Term, str)) else number(arg) for arg in args), given
+        parts = form, name, tuple(arg if isinstance(arg, (Term, str)) else as_decimal(arg) for arg in args), given
         known: Optional[Same] = Term._known.get((cls, *parts))
         if known is not None:
             return known
@@ -200,7 +200,7 @@ def _infix(sign: str, doc: str, result: Optional[type[Term]] = None, turned: boo
         if not isinstance(other, (Factor, Real, Decimal)):
             return NotImplemented
         left, right = (other, self) if turned else (self, other)
-        return (result or Factor)(INFIX, sign, factor(left), factor(right))
+        return (result or Factor)(INFIX, sign, as_factor(left), as_factor(right))
     infix.__doc__ = doc
     return infix
 
@@ -270,7 +270,7 @@ class Filter(Term):
         """`if_true` where the filter is true, else `if_false`. Zipline's, for factors and numbers alone. Exact."""
         if isinstance(if_true, Classifier) or isinstance(if_false, Classifier):
             Absent("if_else of classifiers", "if_else of factors, or labels of another name in the labels file")()
-        return Factor(MEMBER, "if_else", self, factor(if_true), factor(if_false))
+        return Factor(MEMBER, "if_else", self, as_factor(if_true), as_factor(if_false))
 
 
 class Factor(Term):
@@ -289,7 +289,7 @@ class Factor(Term):
 
     def eq(self, other: Value) -> Filter:
         """True where both are present and equal, to the millionth: floats are seldom equal, whole millionths often."""
-        return Filter(INFIX, "==", self, factor(other))
+        return Filter(INFIX, "==", self, as_factor(other))
 
     def __neg__(self) -> Factor:
         """-x. Exact."""
@@ -326,7 +326,7 @@ class Factor(Term):
 
     def fillna(self, fill_value: Value) -> Factor:
         """x, and `fill_value` where x is missing. Exact."""
-        return Factor(MEMBER, "fillna", self, factor(fill_value))
+        return Factor(MEMBER, "fillna", self, as_factor(fill_value))
 
     def rank(self, method: str = "ordinal", ascending: bool = True, mask: Mask = None, groupby: Group = None) -> Factor:
         """Place from 1 among the session's values, of the asset's own label with `groupby`. Units: places. Exact.
@@ -420,7 +420,7 @@ class Text(Classifier):
 
     def element_of(self, choices: Iterable[str]) -> Filter:
         """True where the label is one of `choices`."""
-        return either(lambda some: Filter(MEMBER, "element_of", self, *some), choices, 100)
+        return joined_by_or(lambda some: Filter(MEMBER, "element_of", self, *some), choices, 100)
 
 
 class Bins(Classifier):
@@ -431,10 +431,10 @@ class Bins(Classifier):
 
     def element_of(self, choices: Iterable[int]) -> Filter:
         """True where the bin is one of `choices`."""
-        return either(lambda one: self.eq(one[0]), choices, 1)
+        return joined_by_or(lambda one: self.eq(one[0]), choices, 1)
 
 
-def either(make: Callable[[list[Item]], Filter], items: Iterable[Item], size: int) -> Filter:
+def joined_by_or(make: Callable[[list[Item]], Filter], items: Iterable[Item], size: int) -> Filter:
     """A filter of a list of any length, as filters of at most `size` items joined by |."""
     listed = list(dict.fromkeys(items))
     if not listed:

@@ -4,7 +4,7 @@ from __future__ import annotations
 from typing import Sequence
 
 from ..data import LabelColumn, Labels
-from ..term import Absent, Bins, Classifier, Factor, Mask, Text, factor  # noqa: F401
+from ..term import Absent, Bins, Classifier, Factor, Mask, Text, as_factor  # noqa: F401
 
 
 def Label(name: str) -> Text:
@@ -29,7 +29,7 @@ def Quantiles(inputs: Sequence[Factor], bins: int, mask: Mask = None) -> Bins:
 
 def Everything() -> Bins:
     """One class for all assets, 0: the bin of equal values."""
-    return factor(1).quantiles(2)
+    return as_factor(1).quantiles(2)
 
 
 CustomClassifier = Absent("CustomClassifier", "quantiles of a factor, or labels of the labels file")

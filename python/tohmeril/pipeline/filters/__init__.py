@@ -11,7 +11,7 @@ from numbers import Integral
 from typing import Iterable
 
 from ..factors import windowed
-from ..term import CALL, Absent, Filter, either
+from ..term import CALL, Absent, Filter, joined_by_or
 
 _FILTER: dict[str, typing.Any] = {"units": "true or false", "rounding": "none", "sort": Filter, "module": __name__}
 All = windowed("All", "true on each of the W sessions up to today", takes=(Filter,), **_FILTER)
@@ -32,7 +32,7 @@ def StaticSids(sids: Iterable[int]) -> Filter:
             raise TypeError(f"StaticSids: {sid!r} is a symbol: write StaticSids(data.sids({[each for each in listed if isinstance(each, str)]!r}))")
         if isinstance(sid, bool) or not isinstance(sid, Integral):
             raise TypeError(f"StaticSids: {sid!r} is no sid, which is a whole number")
-    return either(lambda some: Filter(CALL, "StaticSids", *some), sorted(map(int, listed)), 500)
+    return joined_by_or(lambda some: Filter(CALL, "StaticSids", *some), sorted(map(int, listed)), 500)
 
 
 def StaticAssets(assets: Iterable[object]) -> Filter:
