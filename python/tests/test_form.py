@@ -53,8 +53,8 @@ def test_keywords_are_written_out():
         assert inspect.Parameter.VAR_KEYWORD not in kinds, function
     for method, function in ((tohmeril.Data.run_pipeline, tohmeril.run_pipeline), (tohmeril.Data.run_chunked_pipeline, tohmeril.run_chunked_pipeline)):
         own, wanted = (inspect.signature(each).parameters for each in (method, function))
-        assert {name: each.default for name, each in own.items() if name != "self"} == \
-            {name: each.default for name, each in wanted.items() if name != "data"}
+        defaults = {name: each.default for name, each in wanted.items() if name != "data"}
+        assert {name: each.default for name, each in own.items() if name != "self"} == defaults
 
 
 def test_all_is_typed():

@@ -98,8 +98,10 @@ def _sessions(data: Data) -> Iterator[str]:
     for name, other in (("Saturday", "Sunday"), ("Sunday", "Saturday")):
         free = days[names == name]
         if len(free) and (names == other).mean() < 0.1:  # else it is a market that trades on all days
-            yield f"sessions: {len(free)} of {len(days)} are a {name}, as {free[0]:%Y-%m-%d}: a day in UTC is another one east of it, " \
-                  "so give days of the exchange's own clock"
+            yield (
+                f"sessions: {len(free)} of {len(days)} are a {name}, as {free[0]:%Y-%m-%d}: a day in UTC is another one "
+                "east of it, so give days of the exchange's own clock"
+            )
 
 
 def _lives(data: Data, assets: pd.DataFrame) -> Iterator[str]:
@@ -107,15 +109,23 @@ def _lives(data: Data, assets: pd.DataFrame) -> Iterator[str]:
     never = assets[(assets.end < data.sessions[0]) | (assets.start >= last)]
     if len(never):
         first = never.iloc[0]
-        yield f"assets: {len(never)} of {len(assets)} exist on no session, as {_asset(data, first.sid)} after {first.start} up to {first.end}"
+        yield (
+            f"assets: {len(never)} of {len(assets)} exist on no session, as {_asset(data, first.sid)} after {first.start} "
+            f"up to {first.end}"
+        )
     ending = (assets["end"] == last).sum()
     if ending:
-        yield f"assets: {ending} of {len(assets)} end on the last session, {last}: they have no row on the next one; if they " \
-              "still trade, give an end far ahead"
+        yield (
+            f"assets: {ending} of {len(assets)} end on the last session, {last}: they have no row on the next one; "
+            "if they still trade, give an end far ahead"
+        )
     halted = assets[(assets.end < last) & (assets.end >= data.sessions[-6:][0]) & (assets.end >= data.sessions[0])]
     if len(halted):
-        yield f"assets: {len(halted)} of {len(assets)} end within the five sessions before the last one, as " \
-              f"{_asset(data, halted.sid.iloc[0])} on {halted.end.iloc[0]}: if trading was halted alone, give an end far ahead"
+        yield (
+            f"assets: {len(halted)} of {len(assets)} end within the five sessions before the last one, as "
+            f"{_asset(data, halted.sid.iloc[0])} on {halted.end.iloc[0]}: if trading was halted alone, give an end far "
+            "ahead"
+        )
 
 
 def _symbols(data: Data) -> Iterator[str]:
@@ -208,18 +218,18 @@ class _Bars:
                 self.steps += 1
                 self.step = self.step or self._told(_Change(asset[at], place[at], before[at], close[at]))
         at = np.minimum(np.searchsorted(keys, self.split_keys), len(keys) - 1)
-        here = (asset[at] == self.split_keys // self.width) & (keys[at] >= self.split_keys) & \
-            (since[at] < self.split_keys % self.width) & ~np.isnan(before[at])
+        own = (asset[at] == self.split_keys // self.width) & (keys[at] >= self.split_keys)
+        here = own & (since[at] < self.split_keys % self.width) & ~np.isnan(before[at])
         for row, pair in zip(self.splits[here].itertuples(), at[here]):
             self.seen += 1
             if abs(np.log(change[pair])) < abs(np.log(change[pair] / row.ratio)):
                 self.flat += 1
-                self.first_flat = self.first_flat or \
-                    f"{self._told(_Change(asset[pair], place[pair], before[pair], close[pair]))}, with {row.den}:{row.num}"
+                told = self._told(_Change(asset[pair], place[pair], before[pair], close[pair]))
+                self.first_flat = self.first_flat or f"{told}, with {row.den}:{row.num}"
 
     def _told(self, change: _Change) -> str:
-        return f"{_asset(self.data, self.sids[change.asset])} on {self.sessions[change.session]} from {change.before:.12g} to " \
-               f"{change.after:.12g}"
+        asset = _asset(self.data, self.sids[change.asset])
+        return f"{asset} on {self.sessions[change.session]} from {change.before:.12g} to {change.after:.12g}"
 
     def oddities(self, lacking: Container[str]) -> Iterator[str]:
         """What was seen."""
@@ -227,18 +237,24 @@ class _Bars:
             if pd.isna(greatest) and name != "close * volume" and name not in lacking:
                 yield f"bars: the column {name} is empty"
             elif greatest > NEAR:
-                yield f"bars: {name} goes up to {greatest:.0f}, and what passes 100000000000 is missing: give the volume in thousands, " \
-                      "or prices in a greater unit"
+                yield (
+                    f"bars: {name} goes up to {greatest:.0f}, and what passes 100000000000 is missing: give the volume in "
+                    "thousands, or prices in a greater unit"
+                )
         if self.zeros:
             yield f"bars: {self.zeros} have a price of 0, as that of {self.zero}: leave a missing one empty"
         if self.steps:
-            yield f"bars: {self.steps} closes fall to about a half, a third, .. or rise to the double, the triple, .. without a split, " \
-                  f"as that of {self.step}: give the splits, or see whether the bar is of another asset"
+            yield (
+                f"bars: {self.steps} closes fall to about a half, a third, .. or rise to the double, the triple, .. without "
+                f"a split, as that of {self.step}: give the splits, or see whether the bar is of another asset"
+            )
         if self.flat:
-            yield f"splits: {self.flat} of {self.seen} show no fall or rise on their day, as {self.first_flat}: " \
-                  + ("these prices are adjusted already, so that each split counts twice: give the raw close (in Sharadar closeunadj, in "
-                     "CRSP PRC), or leave out the splits" if self.flat > self.seen / 2 else
-                     "is the day another, are these prices adjusted already, or is the ratio turned?")
+            yield f"splits: {self.flat} of {self.seen} show no fall or rise on their day, as {self.first_flat}: " + (
+                "these prices are adjusted already, so that each split counts twice: give the raw close (in Sharadar "
+                "closeunadj, in CRSP PRC), or leave out the splits"
+                if self.flat > self.seen / 2
+                else "is the day another, are these prices adjusted already, or is the ratio turned?"
+            )
 
 
 def _adjustments(data: Data, sids: pd.Series) -> pd.DataFrame:
@@ -273,8 +289,10 @@ def _acting(data: Data, assets: pd.DataFrame, adjustments: pd.DataFrame) -> Iter
             yield f"{name}: none of {len(rows)} falls within the bars, so that none does anything"
         twice = rows[rows.duplicated(["sid", "day"] if name == "splits" else ["sid", "day", "num", "den"])]
         if len(twice):
-            yield f"{name}: {len(twice)} of {len(rows)} are there twice, as that of {_asset(data, twice.sid.iloc[0])} on {twice.day.iloc[0]}, " \
-                  "so that it acts twice"
+            yield (
+                f"{name}: {len(twice)} of {len(rows)} are there twice, as that of {_asset(data, twice.sid.iloc[0])} on "
+                f"{twice.day.iloc[0]}, so that it acts twice"
+            )
 
 
 def _dated(data: Data, pipelines: Sequence[Piped], part: str) -> Iterator[str]:

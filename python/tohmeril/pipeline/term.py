@@ -162,9 +162,10 @@ class Term:
         return type(self)(MEMBER, "downsample", self, frequency)
 
     def __setattr__(self, name: str, value: object) -> NoReturn:
-        safe = ", and window_safe does not either: a window can be over Returns, ranks, zscores and what docs/LANGUAGE.md, " \
-               "\"Windows over terms\", lists" if name == "window_safe" else ""
-        raise AttributeError(f"terms do not change{safe}")
+        if name == "window_safe":
+            raise AttributeError("terms do not change, nor does what may be in a window: a window can be over Returns, ranks, "
+                                 "zscores and what docs/LANGUAGE.md, \"Windows over terms\", lists")
+        raise AttributeError("terms do not change")
 
     def __array_ufunc__(self, ufunc: np.ufunc, method: str, *inputs: object, **options: object) -> Any:
         """A function of numpy is the operator or the method of its name: ``np.log(y)`` is ``y.log()``."""
