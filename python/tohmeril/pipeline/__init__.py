@@ -12,8 +12,18 @@ from .term import BoundColumn, Classifier, Factor, Filter, Inexpressible, Term
 if TYPE_CHECKING:
     from ..plans import Graph
 
-__all__ = ["Pipeline", "Term", "Factor", "Filter", "Classifier", "BoundColumn", "Inexpressible",
-           "CustomFactor", "CustomFilter", "CustomClassifier"]
+__all__ = [
+    "Pipeline",
+    "Term",
+    "Factor",
+    "Filter",
+    "Classifier",
+    "BoundColumn",
+    "Inexpressible",
+    "CustomFactor",
+    "CustomFilter",
+    "CustomClassifier",
+]
 
 
 class Pipeline:
@@ -39,7 +49,9 @@ class Pipeline:
     screen AverageDollarVolume(30).top(15);
     """
 
-    def __init__(self, columns: Optional[Mapping[str, Term]] = None, screen: Optional[Filter] = None, domain: object = None):
+    def __init__(
+        self, columns: Optional[Mapping[str, Term]] = None, screen: Optional[Filter] = None, domain: object = None
+    ):
         self._columns: dict[str, Term] = {}
         self._screen: Optional[Filter] = None
         for name, term in (columns or {}).items():
@@ -75,7 +87,10 @@ class Pipeline:
         if not isinstance(name, str):
             raise TypeError(f"the name of a column is a text, not {name!r}")
         if isinstance(term, BoundColumn) or not isinstance(term, Term):
-            raise TypeError(f"column {name!r} is {term!r} and no factor, filter or classifier; .latest is the newest value of a column")
+            raise TypeError(
+                f"column {name!r} is {term!r} and no factor, filter or classifier; .latest is the newest value of a "
+                "column"
+            )
         if name in self._columns and not overwrite:
             raise KeyError(f"Column {name!r} already exists.")
         self._columns[name] = term
@@ -107,6 +122,7 @@ class Pipeline:
     def show_graph(self, format: str = "svg") -> Graph:
         """The graph of its terms, which a notebook draws; see `tohmeril.show_graph`."""
         from ..plans import show_graph
+
         return show_graph(self, format)
 
     def __repr__(self) -> str:

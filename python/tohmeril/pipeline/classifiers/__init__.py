@@ -8,7 +8,8 @@ from ..term import Absent, Bins, Classifier, Factor, Mask, Text, as_factor  # no
 
 
 def Label(name: str) -> Text:
-    """Text that each asset has under a name of the labels file, by the newest record up to today; `Labels.NAME.latest`. Ours.
+    """Text that each asset has under a name of the labels file, by the newest record up to today; `Labels.NAME.latest`.
+    Ours.
 
     >>> Label("sector").peer_count()
     label("sector").peer_count()
