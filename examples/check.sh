@@ -6,28 +6,35 @@
 # a page leaves its files. Blocks ```python are run too, and the tables of docs/LANGUAGE.md and docs/TERMS.md.
 # The examples of python/README.md and docs/ZIPLINE.md are run by python/check.sh.
 #
-# The program is crates/pl_main/out/pl_main, or the one that TOHMERIL names; without one this says so and ends
-# with 0. What needs a tool that is not there is left out, and the tool is named.
+# The program is crates/pl_main/out/pl_main, or the one that TOHMERIL names. Without a program, or a part that is
+# needed and that TOHMERIL_WITHOUT does not leave out (tools/parts.sh), this says so and ends with 3. The last line
+# is `examples: N passed, M failed`.
 set -u
 top=$(cd "$(dirname "${BASH_SOURCE[0]}")/.." && pwd)
+# shellcheck source=tools/parts.sh
+. "$top/tools/parts.sh"
 program=$(realpath -m "${TOHMERIL:-$top/crates/pl_main/out/pl_main}")
-[ -x "$program" ] || { echo "examples: not run, there is no program $program"; exit 0; }
-command -v sqlite3 > /dev/null || { echo "examples: not run, there is no sqlite3"; exit 0; }
+parts=(distributed git man matplotlib pandas parallel sqlite3)
+need_program examples "$program"
+need examples "${parts[@]}"
+if is_left_out sqlite3; then
+    tell_left_out examples sqlite3
+    echo "examples: 0 passed, 0 failed"
+    exit 0
+fi
 work=$(mktemp -d)
 trap 'rm -rf "$work"' EXIT
 mkdir "$work/bin" "$work/copy" "$work/home"
-passed=0 failed=0 lacking=()
+passed=0 failed=0
 
-# The tools as the pages call them: the program, and a Python that has pandas.
+# The tools as the pages call them: the program, and the Python that has pandas.
 ln -s "$program" "$work/bin/tohmeril"
-python=
-for each in python3 /usr/bin/python3; do
-    if [ -z "$python" ] && "$each" -c 'import pandas' 2> /dev/null; then
-        python=$(command -v "$each")
-        printf '#!/bin/sh\nexec %s "$@"\n' "$python" > "$work/bin/python3"
-        chmod +x "$work/bin/python3"
-    fi
-done
+python=$(realpath -s "$(command -v "$python")")
+! is_left_out pandas || python=
+if [ -n "$python" ]; then
+    printf '#!/bin/sh\nexec %q "$@"\n' "$python" > "$work/bin/python3"
+    chmod +x "$work/bin/python3"
+fi
 export PYTHONUSERBASE=${PYTHONUSERBASE:-${HOME:-/nowhere}/.local} HOME=$work/home
 export PATH=$work/bin:$PATH TOHMERIL=$program PYTHONDONTWRITEBYTECODE=1 PYTHONPATH=$work/copy/python TMPDIR=$work
 export MPLCONFIGDIR=$work DASK_CONFIG=$work DASK_TEMPORARY_DIRECTORY=$work
@@ -35,13 +42,11 @@ git_folder=$(git -C "$top" rev-parse --absolute-git-dir 2> /dev/null) && export 
 
 pass() { passed=$((passed + 1)); }
 fail() { failed=$((failed + 1)); echo "differs: $*"; }
-lack() { lacking+=("$1"); }
 holds() { # WHAT COMMAND..
     local what=$1
     shift
     if "$@" > /dev/null 2>&1; then pass; else fail "$what"; fi
 }
-has() { [ -n "$python" ] && "$python" -c "import $1" 2> /dev/null; }
 
 # A fresh copy of what the pages speak of, in which ./tohmeril is the built program.
 copy() {
@@ -84,16 +89,17 @@ same() {
     if cmp -s "$file" "$work/out"; then pass; else fail "$what" && diff "$file" "$work/out" | head -n 20; fi
 }
 
-# Runs a command of a page and compares what it prints. Where a tool is lacking, the rest of its block is left
-# out.
+# Runs a command of a page and compares what it prints. Where a part is left out, so is the rest of its block.
 run_command() {
     local status=0
     case $2 in
-        "cd "*) where=$(cd "$where" && eval "$2" && pwd) && return ;;
         python3*) [ -n "$python" ] || skipped=yes ;;
-        git*) [ -n "$git_folder" ] || return 0 ;;
+        git*) ! is_left_out git || return 0 ;;
     esac
     [ "$skipped" = no ] || return 0
+    case $2 in
+        "cd "*) where=$(cd "$where" && eval "$2" && pwd) && return ;;
+    esac
     (cd "$where" && eval "$2") > "$work/got" 2>&1 < /dev/null || status=$?
     if matches "$work/wanted" "$work/got" && { [ "$status" = 0 ] || [ -s "$work/wanted" ]; }; then
         pass
@@ -136,6 +142,7 @@ answers() {
     if [ "$(cat "$work/out")" = "$2" ]; then pass; else fail "docs/LANGUAGE.md: $2" && head -n 5 "$work/out"; fi
 }
 
+# shellcheck disable=SC2016  # backquotes of the pages
 # The tables of docs/LANGUAGE.md: texts with the place of their fault, and texts with their printed form.
 language() {
     local text answer line column fault
@@ -172,11 +179,8 @@ same_words() {
     holds "the options of docs/tohmeril.1" cmp "$work/options" "$work/got"
     sed -n 's/.*options="\(.*\)".*/\1/p' docs/tohmeril.bash | tr ' ' '\n' | sort -u > "$work/got"
     holds "the options of docs/tohmeril.bash" cmp "$work/options" "$work/got"
-    if command -v man > /dev/null; then
+    is_left_out man ||
         holds "the manual page has warnings" test -z "$(LC_ALL=C.UTF-8 man -l --warnings docs/tohmeril.1 2>&1 > /dev/null)"
-    else
-        lack man
-    fi
 }
 
 # Each file of a folder is the one beside it.
@@ -265,25 +269,23 @@ on_one_machine() {
 on_many_machines() {
     local recipes=$PWD/examples/recipes words
     make_range
-    if command -v parallel > /dev/null; then
+    if ! is_left_out parallel; then
         parallel -k -j4 --colsep ' ' tohmeril run p.pl sessions.csv assets.csv bars.csv '{1}' '{2}' < pieces 2> "$work/err" |
             awk 'NR == 1 { header = $0 } NR == 1 || $0 != header' > out.csv
         holds "parallel over the list of pieces" cmp plain.csv out.csv
-    else
-        lack parallel
     fi
+    # where no Slurm runs, its jobs are called one after the other, as it would call them
     if command -v sbatch > /dev/null && [ -n "$(sinfo -h -t idle,mix 2> /dev/null)" ]; then
         sbatch --wait --array=1-4 "$recipes/slurm.sh" > "$work/out" 2>&1 || fail "slurm.sh: $(cat "$work/out" piece-*.log)"
-        awk 'NR == 1 || FNR > 1' piece-{1..4}.csv > out.csv
-        holds "slurm.sh" cmp plain.csv out.csv
     else
-        lack "slurm (a running one)"
+        for job in 1 2 3 4; do
+            SLURM_ARRAY_TASK_ID=$job "$recipes/slurm.sh" || fail "slurm.sh: piece $job"
+        done
     fi
-    if has distributed; then
+    awk 'NR == 1 || FNR > 1' piece-{1..4}.csv > out.csv
+    holds "slurm.sh" cmp plain.csv out.csv
+    [ -z "$python" ] || is_left_out distributed ||
         same cluster.py whole.csv timeout 120 "$python" "$recipes/cluster.py" p.pl data 2023-01-03 2023-12-29
-    else
-        lack "python3-distributed"
-    fi
 }
 
 recipes() {
@@ -298,11 +300,7 @@ recipes() {
     printf 'day,AAA,BBB\n2024-01-02,10,20\n2024-01-03,11,\n' > close.csv
     try bars.py "$python" "$recipes/bars.py" made close.csv
     try table.py "$python" "$recipes/table.py" examples/market/liquidity.pl examples/market 2023-12-01 2023-12-08
-    if has matplotlib; then
-        try picture.py "$python" "$recipes/picture.py" examples/market 2023-10-02 2023-11-30 5 .
-    else
-        lack python3-matplotlib
-    fi
+    is_left_out matplotlib || try picture.py "$python" "$recipes/picture.py" examples/market 2023-10-02 2023-11-30 5 .
 }
 
 for page in README.md $(cd "$top" && ls docs/*.md) examples/README.md; do
@@ -311,6 +309,7 @@ done
 copy
 language
 same_words
+try tools/pages "$top/tools/pages"
 try examples/terms/check.sh examples/terms/check.sh
 try examples/market/run.sh examples/market/run.sh
 if [ -n "$python" ]; then
@@ -319,13 +318,11 @@ if [ -n "$python" ]; then
     mkdir market vendor
     "$python" examples/market/make.py market && same_files market examples/market
     "$python" examples/vendor/make.py vendor && same_files vendor examples/vendor
-else
-    lack python3-pandas
 fi
 for part in recipes mornings on_one_machine on_many_machines; do
     copy
     $part
 done
-[ ${#lacking[@]} -eq 0 ] || printf 'examples: without %s, whose examples are left out\n' "${lacking[@]}"
+tell_left_out examples "${parts[@]}"
 echo "examples: $passed passed, $failed failed"
 [ "$failed" -eq 0 ]

@@ -16,13 +16,17 @@ F_SETPIPE_SZ = 1031  # of Linux; the module fcntl names it from Python 3.10 on
 
 
 def find() -> str:
-    """Path of the program: what TOHMERIL names, else `tohmeril` on the path, else the one built in this checkout.
+    """Path of the program: what TOHMERIL names, else the one inside the package, else `tohmeril` on the path, else the one
+    built in this checkout.
 
-    A worker of an executor finds its own, by its own environment.
+    A release has the program inside the package (tools/release). It goes before the path, since it was tried with this
+    package, and a program on the path may be of another version. A worker of an executor finds its own, by its own
+    environment.
     """
+    inside = Path(__file__).with_name("bin") / "tohmeril"
     built = Path(__file__).resolve().parents[2] / "crates/pl_main/out/pl_main"
     named = os.environ.get("TOHMERIL")
-    for program in [named] if named else [shutil.which("tohmeril"), str(built)]:
+    for program in [named] if named else [str(inside), shutil.which("tohmeril"), str(built)]:
         if program and os.access(program, os.X_OK):
             return program
     raise FileNotFoundError(f"there is no program {named or 'tohmeril'} on {platform.node()}: set TOHMERIL to its path, put it "
