@@ -193,14 +193,13 @@ same_files() {
 
 # A job of each morning over the files of examples/first: its rows are those of one run.
 mornings() {
-    local day recipe=$PWD/examples/recipes first=$PWD/examples/first
+    local day recipe=$PWD/examples/recipes/morning.sh first=$PWD/examples/first
+    [ -n "$python" ] || return
     mkdir store news
     (sed 's/^pipeline 1/pipeline 3/' "$first/averages.pl"; echo 'column score = number("score");') > store/p.pl
     sqlite3 store/adjustments.db < examples/first/adjustments.sql
-    sqlite3 store/adjustments.db 'DELETE FROM splits'
     head -n 3 "$first/sessions.csv" > store/sessions.csv
-    head -n 1 "$first/bars.csv" > store/bars.csv
-    sed -n 2,3p "$first/bars.csv" >> store/bars.csv
+    printf '%s' "$(head -n 3 "$first/bars.csv")" > store/bars.csv # without the last line's end
     head -n 1 "$first/revisions.csv" > store/revisions.csv
     printf 'sid,start,end\n1,2024-01-02,2024-01-05\n' > store/assets.csv
     printf 'session,sid,latest,mean_3,score\n' > rows
@@ -209,29 +208,50 @@ mornings() {
         rm -rf news
         mkdir news
         (head -n 1 "$first/bars.csv"; grep ",$(tail -n 1 store/sessions.csv)," "$first/bars.csv") > news/bars.csv
-        if [ "$day" = 2024-01-05 ]; then
-            cp "$first/revisions.csv" news
-            head -n 2 numbers.csv > news/numbers.csv
-            printf 'date,num,den,sid\n2024-01-04,1,2,1\n' > news/splits.csv
-        fi
-        if [ "$day" = 2024-01-08 ]; then
-            cp "$first/assets.csv" news
-            sed 2d numbers.csv > news/numbers.csv
-        fi
-        "$recipe/morning.sh" store news "$day" 2>> said | tail -n +2 >> rows
-        "$recipe/morning.sh" store news "$day" > /dev/null 2>> said || fail "morning.sh: $day once more"
+        case $day in
+            2024-01-05)
+                cp "$first/revisions.csv" news
+                head -n 2 numbers.csv > news/numbers.csv
+                ;;
+            2024-01-08)
+                cp "$first/assets.csv" news
+                sed 2d numbers.csv > news/numbers.csv
+                printf 'date,num,den,sid\n2024-01-08,9,10,1\n' > news/mergers.csv
+                ;;
+            *) awk -F, -v OFS=, '{ print $7, $2, $1, $6, $3, $5, $4 }' news/bars.csv > other && mv other news/bars.csv ;;
+        esac
+        # two at once, one of which is ended wherever it is, and then once more
+        "$recipe" store news "$day" > /dev/null 2>> said &
+        (timeout -s KILL 0.7 "$recipe" store news "$day" > /dev/null) 2>> said
+        wait
+        "$recipe" store news "$day" 2>> said | tail -n +2 >> rows
     done
     same "morning.sh" rows "$program" run store/p.pl "$first/sessions.csv" "$first/assets.csv" "$first/bars.csv" 2024-01-05 2024-01-09 \
         --adjustments store/adjustments.db --revisions "$first/revisions.csv" --numbers numbers.csv
-    printf 'sid,start,end\n1,2024-01-02,2024-01-09\n' > news/assets.csv
-    rm -f news/bars.csv
-    "$recipe/morning.sh" store news 2024-01-10 2> said > /dev/null || fail "morning.sh: a day more"
-    holds "morning.sh: an end that is reached" grep 'no row from 2024-01-10 on: 1;' said
-    printf 'sid,session,open,high,low,close,volume\n7,2024-01-10,1,1,1,1,1\n' > news/bars.csv
-    cp store/bars.csv before.csv
-    holds "morning.sh: news with a fault" bash -c '! "$@"' - "$recipe/morning.sh" store news 2024-01-11
-    holds "morning.sh: news with a fault leave the store" cmp before.csv store/bars.csv
-    holds "morning.sh: a day before the last session" bash -c '! "$@"' - "$recipe/morning.sh" store news 2024-01-09
+    rm news/*
+    refused "no bars of 2024-01-09, the last session" store news 2024-01-10
+    "$recipe" store news 2024-01-10 --without-bars 2> said > /dev/null || fail "morning.sh: a day more"
+    holds "morning.sh: an end that is reached" grep 'no row on 2024-01-10: 1;' said
+    cp "$first/bars.csv" news
+    refused "no bars of 2024-01-10, the last session; there are those of 2024-01-09" store news 2024-01-11
+    printf 'sid,session,open,high,low,close,volume\n7,2024-01-10,1,1,1,1\n' > news/bars.csv
+    printf 'sid,start,end\n7,2024-01-09,2199-12-31\n' > news/assets.csv
+    refused "assets: 7 starts on 2024-01-09" store news 2024-01-11
+    rm news/assets.csv
+    refused "2024-01-13 is a Saturday" store news 2024-01-13
+    refused "2024-01-09 is no day after 2024-01-10" store news 2024-01-09
+    printf 'sid,open,high,low,close,volume\n7,1,1,1,1,1\n' > news/bars.csv
+    refused "bars: there is no column session" store news 2024-01-11
+}
+
+# refused SENTENCE WORD..: morning.sh with these words says so, ends with 4, and leaves the store as it was.
+refused() {
+    local sentence=$1 status=0 before
+    before=$(cd store && cat ./*.csv | cksum)
+    shift
+    examples/recipes/morning.sh "$@" > "$work/out" 2> "$work/err" || status=$?
+    holds "morning.sh: $sentence, status $status" test "$status" = 4 -a ! -s "$work/out" -a "$before" = "$(cd store && cat ./*.csv | cksum)"
+    holds "morning.sh: $sentence: $(cat "$work/err")" grep -q "$sentence" "$work/err"
 }
 
 # A range of the market, and what each way of running it in pieces has to give: whole.csv, or plain.csv without adjustments.
@@ -283,7 +303,7 @@ on_many_machines() {
         done
     fi
     awk 'NR == 1 || FNR > 1' piece-{1..4}.csv > out.csv
-    holds "slurm.sh" cmp plain.csv out.csv
+    holds "slurm.sh" cmp whole.csv out.csv
     [ -z "$python" ] || is_left_out distributed ||
         same cluster.py whole.csv timeout 120 "$python" "$recipes/cluster.py" p.pl data 2023-01-03 2023-12-29
 }
@@ -299,6 +319,7 @@ recipes() {
     [ -n "$python" ] || return
     printf 'day,AAA,BBB\n2024-01-02,10,20\n2024-01-03,11,\n' > close.csv
     try bars.py "$python" "$recipes/bars.py" made close.csv
+    sqlite3 examples/market/adjustments.db < examples/market/adjustments.sql
     try table.py "$python" "$recipes/table.py" examples/market/liquidity.pl examples/market 2023-12-01 2023-12-08
     is_left_out matplotlib || try picture.py "$python" "$recipes/picture.py" examples/market 2023-10-02 2023-11-30 5 .
 }

@@ -27,8 +27,9 @@ cd "$here"
 export TMPDIR=$folder MPLCONFIGDIR=$folder DASK_CONFIG=$folder DASK_TEMPORARY_DIRECTORY=$folder
 status=0
 timeout 900 "$python" -m pytest -q -rs -p no:cacheprovider --basetemp "$folder/pytest" "$@" > "$folder/log" 2>&1 || status=$?
-[ $status = 0 ] || tail -n 200 "$folder/log"
-tail -n 1 "$folder/log"
+lines=1
+[ $status = 0 ] || lines=200
+tail -n $lines "$folder/log"
 
 # count WORD: how many tests the last line of pytest gives that word.
 count() {

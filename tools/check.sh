@@ -121,10 +121,18 @@ gate() {
     concludes 5 "0 passed, 1 failed" "${run[@]}"
 }
 
-# A clone whose gate has passed, as far as its record says.
+# A clone in which the program is built, as it seems.
 clone() {
     git clone -q "$top" "$1"
     install -D "$program" "$1/crates/pl_main/out/pl_main"
+}
+
+# The first table, from a clone.
+example() {
+    clone "$work/first"
+    ends 0 "2024-01-09,1,53.000000,52.000000" "$work/first/tohmeril" example
+    ends 0 "" test -s "$work/first/examples/market/adjustments.db"
+    concludes 0 "$work/first/crates/pl_main/out/pl_main" "$work/first/tohmeril" --path
 }
 
 release() {
@@ -185,6 +193,7 @@ tell_left_out scripts "${parts[@]}" > "$work/left_out"
 if [ -s "$work/left_out" ]; then
     cat "$work/left_out"
 else
+    example
     release
     installed
 fi

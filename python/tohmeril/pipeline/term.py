@@ -17,15 +17,24 @@ True
 from __future__ import annotations
 
 import math
+import operator
+import warnings
 from decimal import ROUND_HALF_UP, Decimal
 from functools import partial, reduce
 from numbers import Real
-from typing import Callable, Iterable, Optional, Union
+from typing import Callable, Iterable, NoReturn, Optional, Union
 from weakref import WeakValueDictionary
 
 import numpy as np
 
 CALL, MEMBER, PROPERTY, INFIX, PREFIX, WORD, TEXT, ALIAS = "call", "member", "property", "infix", "prefix", "word", "text", "alias"
+OPERATORS = {  # Python's operators by numpy's names
+    "add": operator.add, "subtract": operator.sub, "multiply": operator.mul, "divide": operator.truediv, "true_divide": operator.truediv,
+    "negative": operator.neg, "absolute": operator.abs, "power": operator.pow, "remainder": operator.mod,
+    "floor_divide": operator.floordiv, "less": operator.lt, "less_equal": operator.le, "greater": operator.gt,
+    "greater_equal": operator.ge, "equal": operator.eq, "not_equal": operator.ne, "bitwise_and": operator.and_,
+    "logical_and": operator.and_, "bitwise_or": operator.or_, "logical_or": operator.or_, "invert": operator.invert,
+    "logical_not": operator.invert}
 GREATEST = Decimal(10) ** 11  # no cell has a greater magnitude
 Value = Union["Factor", float]
 Mask, Group = Optional["Filter"], Optional["Classifier"]
@@ -46,6 +55,11 @@ class Absent:
     def __init__(self, name: str, nearest: str):
         self.name, self.nearest = name, nearest
 
+    @classmethod
+    def each(cls, names: str, nearest: str) -> list[Absent]:
+        """One for each of some names, which have one nearest thing."""
+        return [cls(name, nearest) for name in names.split()]
+
     def __call__(self, *args, **kwargs):
         raise Inexpressible(f"the language has no {self.name}; nearest: {self.nearest}")
 
@@ -58,6 +72,18 @@ class Absent:
         if name.startswith("_"):
             raise AttributeError(name)
         return self
+
+
+class Elsewhere(Absent):
+    """A name of Zipline's for what is done in another way here."""
+
+    def __call__(self, *args, **kwargs):
+        raise Inexpressible(f"there is no {self.name} here: {self.nearest}")
+
+    __mro_entries__ = __call__
+
+    def __repr__(self) -> str:
+        return f"<no {self.name} here: {self.nearest}>"
 
 
 def number(value: Real) -> Decimal:
@@ -89,7 +115,6 @@ class Term:
     """What a pipeline is made of. `args` are terms, numbers and texts in the language's order, `options` its named arguments."""
 
     __slots__ = ("form", "name", "args", "options", "__weakref__")
-    __array_ufunc__ = None  # numbers of numpy leave the operators to the term
     sort = ""
     _known: WeakValueDictionary = WeakValueDictionary()
 
@@ -98,7 +123,8 @@ class Term:
         for key, value in given:
             wanted = {"mask": Filter, "groupby": Classifier}.get(key, object)
             if not isinstance(value, wanted):
-                raise TypeError(f"{key} of {name} has to be a {wanted.__name__.lower()}, and is {value!r}")
+                column = f": write {value!r}.latest" if getattr(value, "holds", "") == "labels" else ""
+                raise TypeError(f"{key} of {name} has to be a {wanted.__name__.lower()}, and is {value!r}{column}")
         parts = form, name, tuple(arg if isinstance(arg, (Term, str)) else number(arg) for arg in args), given
         term = Term._known.get((cls, *parts))
         if term is None:
@@ -124,8 +150,21 @@ class Term:
         """
         return type(self)(MEMBER, "downsample", self, frequency)
 
-    def __setattr__(self, name, value):
-        raise AttributeError("terms do not change")
+    def __setattr__(self, name: str, value: object) -> NoReturn:
+        safe = ", and window_safe does not either: a window can be over Returns, ranks, zscores and what docs/LANGUAGE.md, " \
+               "\"Windows over terms\", lists" if name == "window_safe" else ""
+        raise AttributeError(f"terms do not change{safe}")
+
+    def __array_ufunc__(self, ufunc: np.ufunc, method: str, *inputs: object, **options: object) -> Term:
+        """A function of numpy is the operator or the method of its name: ``np.log(y)`` is ``y.log()``."""
+        given = [each.item() if isinstance(each, (np.generic, np.ndarray)) and not each.ndim else each for each in inputs]
+        if method == "__call__" and not options and not any(isinstance(each, np.ndarray) for each in given):
+            if ufunc.__name__ in OPERATORS:
+                return OPERATORS[ufunc.__name__](*given)
+            if len(given) == 1:
+                absent = Absent(f"numpy.{ufunc.__name__}", "the methods and operators of a factor")
+                return (getattr(self, ufunc.__name__, absent) if isinstance(self, Factor) else getattr(self, ufunc.__name__))()
+        raise TypeError(f"numpy's {ufunc.__name__} takes no {self!r}: a pipeline is computed later, so that it has no values yet")
 
     def __reduce__(self):
         return partial(type(self), self.form, self.name, *self.args, **dict(self.options)), ()
@@ -146,13 +185,13 @@ class Term:
 
 
 def _infix(sign: str, doc: str, result: Optional[type] = None, turned: bool = False) -> Callable:
-    def operator(self, other):
+    def infix(self, other):
         if not isinstance(other, (Factor, Real, Decimal)):
             return NotImplemented
         left, right = (other, self) if turned else (self, other)
         return (result or Factor)(INFIX, sign, factor(left), factor(right))
-    operator.__doc__ = doc
-    return operator
+    infix.__doc__ = doc
+    return infix
 
 
 def _arithmetic(sign: str, doc: str) -> tuple[Callable, Callable]:
@@ -324,6 +363,9 @@ class Factor(Term):
 
         Percentiles are whole hundredths from 0 to 100. Edges are exact, where Zipline's are floats.
         """
+        if isinstance(max_percentile, Real) and max_percentile <= 1:
+            warnings.warn(f"percentile_between({min_percentile!r}, {max_percentile!r}) is the part of a hundredth of the values or less, since "
+                          f"percentiles are from 0 to 100: was ({100 * min_percentile:g}, {100 * max_percentile:g}) meant?", stacklevel=2)
         return Filter(MEMBER, "percentile_between", self, min_percentile, max_percentile, mask=mask)
 
 
@@ -402,7 +444,8 @@ _ABSENT = {
     Text: {"matches has_substring": "startswith, endswith, element_of"},
     Term: {"__getitem__": "StaticSids(sids) as a mask, and the asset's rows of the table"},
 }
+_SIGNS = {"__getitem__": "y[asset]", "__mod__": "y % z", "__floordiv__": "y // z"}
 for _sort, _names in _ABSENT.items():
     for _each, _nearest in _names.items():
         for _name in _each.split():
-            setattr(_sort, _name, Absent(_name.strip("_"), _nearest))
+            setattr(_sort, _name, Absent(_SIGNS.get(_name, _name), _nearest))

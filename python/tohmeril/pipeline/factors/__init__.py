@@ -19,14 +19,17 @@ from __future__ import annotations
 import math
 from collections import namedtuple
 from functools import reduce
-from typing import Optional, Sequence
+from typing import Any, Mapping, Optional, Sequence, Union
 
 import numpy as np
 
-from .data import EquityPricing
-from .term import CALL, Absent, BoundColumn, Classifier, Factor, Filter, Mask, NumberColumn, Term
+from ..data import EquityPricing
+from ..term import CALL, Absent, BoundColumn, Classifier, Factor, Filter, Mask, NumberColumn, Term
 
 _HIGH, _LOW, _CLOSE, _VOLUME = (getattr(EquityPricing, name) for name in ("high", "low", "close", "volume"))
+
+
+_ASKED = object()  # in place of a default
 
 
 class Windowed:
@@ -34,7 +37,7 @@ class Windowed:
 
     inputs: Sequence[Term] = ()
     window_length: Optional[int] = None
-    params: Sequence[str] = ()  # what it takes beside these and `mask`, as in Zipline
+    params: Union[Sequence[str], Mapping[str, Any]] = ()  # what it takes beside these and `mask`, with defaults in a mapping, as in Zipline
     function = ""  # its name in the language
     sort: type = Factor
     takes: tuple = (BoundColumn, Factor)
@@ -48,25 +51,29 @@ class Windowed:
             CustomFactor()
 
     def __new__(cls, inputs=None, *, window_length: Optional[int] = None, mask: Mask = None, **params):
+        defaults = dict(cls.params if isinstance(cls.params, Mapping) else dict.fromkeys(cls.params, _ASKED))
+        takes = f"it takes {', '.join(['inputs', 'window_length', 'mask', *defaults])}"
+        for name in params.keys() - defaults.keys():
+            raise TypeError(f"{cls.__name__}: {name} is none of its parameters; {takes}")
         inputs = tuple(cls.inputs if inputs is None else inputs if isinstance(inputs, (list, tuple)) else [inputs])
         window_length = cls.window_length if window_length is None else window_length
-        if not inputs or window_length is None:
-            raise TypeError(f"{cls.__name__}: {'window_length is' if inputs else 'inputs are'} missing")
+        given = {"inputs": inputs or _ASKED, "window_length": _ASKED if window_length is None else window_length, **defaults, **params}
+        for name, value in given.items():
+            if value is _ASKED:
+                raise TypeError(f"{cls.__name__}: {name} {'are' if name == 'inputs' else 'is'} missing; {takes}")
         for term in inputs:
             if not isinstance(term, cls.takes):
-                raise TypeError(f"{cls.__name__}: {term!r} can't be its input")
+                latest = f": write {term!r}.latest" if getattr(term, "holds", "") == "labels" else ""
+                raise TypeError(f"{cls.__name__}: {term!r} can't be its input{latest}")
         if cls.fixed and inputs != tuple(cls.inputs):
             Absent(f"{cls.__name__} of {', '.join(map(repr, inputs))}", f"that of {', '.join(map(repr, cls.inputs))}")()
         inputs = tuple(term.latest if isinstance(term, NumberColumn) else term for term in inputs)
-        return cls.term(() if cls.fixed else inputs, window_length, mask, **params)
+        return cls.term(() if cls.fixed else inputs, window_length, mask, *(given[name] for name in defaults))
 
     @classmethod
-    def term(cls, inputs, window, mask, /, **params):
-        for name in params.keys() ^ set(cls.params):
-            raise TypeError(f"{cls.__name__}: {name} is {'none of its parameters' if name in params else 'missing'}; it takes "
-                            f"{', '.join(['inputs', 'window_length', 'mask', *cls.params])}")
-        window = () if cls.windowless else (window,)
-        return cls.sort(CALL, cls.function, *inputs, *window, *(params[name] for name in cls.params), mask=mask)
+    def term(cls, inputs, window, mask, /, *params):
+        """The term of these, in the language's order."""
+        return cls.sort(CALL, cls.function, *inputs, *(() if cls.windowless else (window,)), *params, mask=mask)
 
 
 def windowed(name: str, formula: str, units: str = "those of the input", source: str = "Zipline",
@@ -149,6 +156,7 @@ class BollingerBands(Windowed):
     BollingerUpper(close, 20, 2)
     """
     inputs = (_CLOSE,)
+    params = ("k",)
     outputs = namedtuple("BollingerBands", "lower middle upper")
 
     @classmethod
@@ -186,9 +194,10 @@ class AnnualizedVolatility(Windowed):
     """
     inputs = (DailyReturns(),)
     window_length = 252
+    params = {"annualization_factor": 252.0}
 
     @classmethod
-    def term(cls, inputs, window, mask, annualization_factor=252.0):
+    def term(cls, inputs, window, mask, annualization_factor):
         return WindowStd(inputs, window_length=window, mask=mask) * math.sqrt(annualization_factor)
 
 
@@ -201,9 +210,10 @@ class MovingAverageConvergenceDivergenceSignal(Windowed):
     """
     inputs = (_CLOSE,)
     window_length = 0  # set by the periods
+    params = {"fast_period": 12, "slow_period": 26, "signal_period": 9}
 
     @classmethod
-    def term(cls, inputs, window, mask, fast_period=12, slow_period=26, signal_period=9):
+    def term(cls, inputs, window, mask, fast_period, slow_period, signal_period):
         def means(period):  # the weights of an exponential mean, newest first
             weights = (1 - 2 / (1 + period)) ** np.arange(period)
             return weights / weights.sum()
@@ -232,10 +242,12 @@ def PeerCount(inputs: Sequence[Classifier], mask: Mask = None) -> Factor:
 
 _REGRESSION = "Returns as a column, and the regression over the table in pandas"
 CustomFactor = Absent("CustomFactor", "WindowSum, WindowMax, WindowMin, WindowStd and arithmetic; or their table, and pandas")
-EWMSTD = ExponentialWeightedMovingStdDev = Absent("ExponentialWeightedMovingStdDev", "WindowStd, with equal weights")
+EWMSTD, ExponentialWeightedMovingStdDev = Absent.each("EWMSTD ExponentialWeightedMovingStdDev", "WindowStd, with equal weights")
 MaxDrawdown = Absent("MaxDrawdown", "close.latest / WindowMax([close], window_length=W) - 1, the distance from the greatest close")
 IchimokuKinkoHyo = Absent("IchimokuKinkoHyo", "(WindowMax([high], window_length=W) + WindowMin([low], window_length=W)) / 2")
-SimpleBeta = RollingLinearRegressionOfReturns = Absent("RollingLinearRegressionOfReturns", _REGRESSION)
-RollingLinearRegression = RollingPearson = RollingSpearman = Absent("RollingLinearRegression", _REGRESSION)
-RollingPearsonOfReturns = RollingSpearmanOfReturns = Absent("RollingPearsonOfReturns", _REGRESSION)
-BusinessDaysSincePreviousEvent = BusinessDaysUntilNextEvent = Absent("BusinessDays..Event", "a label that changes on the day of the event")
+SimpleBeta, RollingLinearRegression, RollingLinearRegressionOfReturns = Absent.each(
+    "SimpleBeta RollingLinearRegression RollingLinearRegressionOfReturns", _REGRESSION)
+RollingPearson, RollingSpearman, RollingPearsonOfReturns, RollingSpearmanOfReturns = Absent.each(
+    "RollingPearson RollingSpearman RollingPearsonOfReturns RollingSpearmanOfReturns", _REGRESSION)
+BusinessDaysSincePreviousEvent, BusinessDaysUntilNextEvent = Absent.each(
+    "BusinessDaysSincePreviousEvent BusinessDaysUntilNextEvent", "a label that changes on the day of the event")

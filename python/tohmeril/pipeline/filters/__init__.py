@@ -6,10 +6,11 @@ AtLeastN(volume.latest > 0, 20, 15)
 """
 from __future__ import annotations
 
+from numbers import Integral
 from typing import Iterable
 
-from .factors import windowed
-from .term import CALL, Absent, Filter, either
+from ..factors import windowed
+from ..term import CALL, Absent, Filter, either
 
 _FILTER = {"units": "true or false", "rounding": "none", "sort": Filter, "module": __name__}
 All = windowed("All", "true on each of the W sessions up to today", takes=(Filter,), **_FILTER)
@@ -24,7 +25,13 @@ def StaticSids(sids: Iterable[int]) -> Filter:
     >>> StaticSids([24, 5])
     StaticSids(5, 24)
     """
-    return either(lambda some: Filter(CALL, "StaticSids", *some), sorted(map(int, sids)), 500)
+    listed = [sids] if isinstance(sids, str) else list(sids)
+    for sid in listed:
+        if isinstance(sid, str):
+            raise TypeError(f"StaticSids: {sid!r} is a symbol: write StaticSids(data.sids({[each for each in listed if isinstance(each, str)]!r}))")
+        if isinstance(sid, bool) or not isinstance(sid, Integral):
+            raise TypeError(f"StaticSids: {sid!r} is no sid, which is a whole number")
+    return either(lambda some: Filter(CALL, "StaticSids", *some), sorted(map(int, listed)), 500)
 
 
 def StaticAssets(assets: Iterable) -> Filter:
@@ -38,6 +45,7 @@ def SingleAsset(asset) -> Filter:
 
 
 CustomFilter = Absent("CustomFilter", "comparisons of factors, and & | ~")
-ArrayPredicate = NullFilter = NotNullFilter = Absent("ArrayPredicate", "isnull(), notnull(), comparisons")
+ArrayPredicate, NullFilter, NotNullFilter = Absent.each("ArrayPredicate NullFilter NotNullFilter", "isnull(), notnull(), comparisons")
 PercentileFilter = Absent("PercentileFilter", "percentile_between(low, high)")
 MaximumFilter = Absent("MaximumFilter", "top(1, groupby=classifier)")
+Latest = Absent("Latest of a filter", "a column of floats that are 1 and 0, and .latest.eq(1)")

@@ -3,8 +3,8 @@ from __future__ import annotations
 
 from typing import Sequence
 
-from .data import Labels
-from .term import Absent, Bins, Classifier, Factor, Mask, Text, factor  # noqa: F401
+from ..data import LabelColumn, Labels
+from ..term import Absent, Bins, Classifier, Factor, Mask, Text, factor  # noqa: F401
 
 
 def Label(name: str) -> Text:
@@ -14,6 +14,11 @@ def Label(name: str) -> Text:
     label("sector").peer_count()
     """
     return getattr(Labels, name).latest
+
+
+def Latest(inputs: Sequence[LabelColumn]) -> Text:
+    """`inputs[0].latest`."""
+    return inputs[0].latest
 
 
 def Quantiles(inputs: Sequence[Factor], bins: int, mask: Mask = None) -> Bins:
