@@ -22,7 +22,8 @@ def made(folder, closes=(UP, HALVED), days=DAYS, assets=None, lines=None, volume
          numbers=(), symbols=()):
     """A folder; the closes of the assets 1, 2, .. by session are all their prices, and an adjustment is sid, day, num and den."""
     assets = assets or [(sid, days[0], FOREVER) for sid in range(1, len(closes) + 1)]
-    lines = lines or [f"{sid},{day},{close},{close},{close},{close},{volume}" for sid, row in enumerate(closes, 1) for day, close in zip(days, row)]
+    lines = lines or [f"{sid},{day},{close},{close},{close},{close},{volume}".replace("nan", "")
+                      for sid, row in enumerate(closes, 1) for day, close in zip(days, row)]
     files = {"sessions": days, "assets": ["sid,start,end", *(",".join(map(str, row)) for row in assets)],
              "bars": ["sid,session,open,high,low,close,volume", *lines], "symbols": ["sid,symbol", *symbols] if symbols else None,
              "labels": ["name,sid,start,label", *labels] if labels else None,

@@ -9,9 +9,13 @@ import sqlite3
 from contextlib import closing
 from itertools import islice
 from pathlib import Path
-from typing import Optional, Sequence
+from typing import TYPE_CHECKING, Callable, Optional, Sequence
 
 from .data import TABLES, read_only, records
+
+if TYPE_CHECKING:
+    from .pipeline.script import Script
+    from .pipeline.term import Term
 
 CUT = "; run in pieces, or in more of them, with cut=True"
 HINTS = {  # by the last word of the line; docs/FILES.md and docs/LANGUAGE.md in short
@@ -129,20 +133,23 @@ class PipelineError(Fault, status=3):
     word : str
         The word of the text there, as the name of a function.
     """
-    term = None
+    term: Optional[Term] = None
     word = ""
 
     @property
     def place(self) -> tuple[int, int]:
-        return tuple(map(int, re.search(r":(\d+):(\d+): (?:syntax|check) ", self.line).groups()))
+        found = re.search(r":(\d+):(\d+): (?:syntax|check) ", self.line)
+        assert found is not None, self.line  # the form of status 3
+        return int(found[1]), int(found[2])
 
-    def within(self, script) -> PipelineError:
+    def within(self, script: Script) -> PipelineError:
         """The same fault with its line of the text, a caret under the place, and the term."""
         line, column = self.place
         self.term = script.term_at(line, column)
         self.line = re.sub(r"^.*?(?=:\d+:\d+: )", "pipeline", self.line)
         text = dict(enumerate(script.text.splitlines(), 1)).get(line, "")
-        self.word = re.match(r"\w*", text[column - 1:])[0]
+        word = re.match(r"\w+", text[column - 1:])
+        self.word = word[0] if word else ""
         self.note = f"    {text}\n    {'^':>{column}}" + (f"\nin the term {self.term!r}" if self.term is not None else "")
         return self
 
@@ -163,7 +170,10 @@ class DataFault(Fault, status=4):
     table : str or None
         The table of the row.
     """
-    path = rule = record = table = None
+    path: Optional[str] = None
+    rule: Optional[str] = None
+    record: Optional[int] = None
+    table: Optional[str] = None
 
     def __init__(self, line: str, note: str = ""):
         place = re.fullmatch(r"(.*?)(?::(splits|mergers|dividends))?:(\d+): data (\w+)", line)
@@ -179,31 +189,35 @@ class DataFault(Fault, status=4):
 
     def _shown(self) -> str:
         """The record or the row as it is, with a caret under the field that breaks the rule."""
+        assert self.path is not None and self.record is not None and self.rule is not None
         try:
-            names, fields = self._row() if self.table else self._record()
+            names, fields = _row(self.path, self.table, self.record) if self.table else _record(self.path, self.record)
         except (OSError, csv.Error, sqlite3.Error, StopIteration):
             return ""
-        breaks = {"BadField": lambda name, field: not re.fullmatch(FORMS.get(name, ".*"), field),
-                  "Negative": lambda name, field: field.startswith("-"),
-                  "BadRatio": lambda name, field: name in ("num", "den") and not 1 <= int(field) <= 10**9,
-                  }.get(self.rule, lambda name, field: name in WRONG.get(self.rule, "").split())
+        rules: dict[str, Callable[[str, str], object]] = {
+            "BadField": lambda name, field: not re.fullmatch(FORMS.get(name, ".*"), field),
+            "Negative": lambda name, field: field.startswith("-"),
+            "BadRatio": lambda name, field: name in ("num", "den") and not 1 <= int(field) <= 10**9}
+        breaks = rules.get(self.rule, lambda name, field: name in WRONG.get(self.rule or "", "").split())
         shown = f"    {'row' if self.table else 'record'} {self.record}: {','.join(fields)}"
         for at, (name, field) in enumerate(zip(names, fields)):
             if breaks(name, field):
                 return f"{shown}\n{'':{len(shown) - len(','.join(fields[at:]))}}{'^' * max(len(field), 1)} {name}"
         return shown
 
-    def _record(self) -> tuple[Sequence[str], Sequence[str]]:
-        """The header of a CSV file and one of its records."""
-        rows = records(self.path)
-        first = next(rows)
-        return first, first if self.record == 1 else next(islice(rows, self.record - 2, None))
 
-    def _row(self) -> tuple[Sequence[str], Sequence[str]]:
-        """The names and the fields of a row of the adjustments."""
-        with closing(sqlite3.connect(read_only(self.path), uri=True)) as store:
-            row = store.execute(f"SELECT {', '.join(COLUMNS)} FROM {self.table} WHERE id = ?", (self.record,)).fetchone()
-            return COLUMNS, [str(field) for field in row or ()]
+def _record(path: str, number: int) -> tuple[Sequence[str], Sequence[str]]:
+    """The header of a CSV file and one of its records."""
+    rows = records(path)
+    first = next(rows)
+    return first, first if number == 1 else next(islice(rows, number - 2, None))
+
+
+def _row(path: str, table: str, number: int) -> tuple[Sequence[str], Sequence[str]]:
+    """The names and the fields of a row of the adjustments."""
+    with closing(sqlite3.connect(read_only(path), uri=True)) as store:
+        row = store.execute(f"SELECT {', '.join(COLUMNS)} FROM {table} WHERE id = ?", (number,)).fetchone()
+        return COLUMNS, [str(field) for field in row or ()]
 
 
 class RangeFault(Fault, status=5):

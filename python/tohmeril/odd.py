@@ -3,7 +3,7 @@ from __future__ import annotations
 
 import sqlite3
 from contextlib import closing
-from typing import Iterator, NamedTuple, Optional, Sequence
+from typing import TYPE_CHECKING, Any, Iterator, NamedTuple, Optional, Sequence
 
 import numpy as np
 import pandas as pd
@@ -13,6 +13,9 @@ from .data import SECONDS, TABLES, Data, read_only
 from .faults import LimitFault, StoreFault
 from .pipeline.script import BARS
 from .plans import Piped, Source, named_in, opened, scripted
+
+if TYPE_CHECKING:
+    Array = np.ndarray[Any, Any]
 
 NEAR = 1e10  # a tenth of the greatest cell
 PROBE = "pipeline 1;\ncolumn one = 1;\nscreen 1 > 2;\n"
@@ -185,7 +188,7 @@ class _Bars:
             asset, place, close, keys = asset[order], place[order], close[order], keys[order]
         self._compare(asset, place, close, keys)
 
-    def _compare(self, asset: np.ndarray, place: np.ndarray, close: np.ndarray, keys: np.ndarray) -> None:
+    def _compare(self, asset: Array, place: Array, close: Array, keys: Array) -> None:
         """Compare each close with the one before it, by asset and session."""
         first = np.flatnonzero(np.append(True, asset[1:] != asset[:-1]))
         before, since = np.append(np.nan, close[:-1]), np.append(-1, place[:-1])
@@ -296,7 +299,6 @@ def _dated(data: Data, pipelines: Sequence[Piped], part: str) -> Iterator[str]:
 
 
 def _columns(table: Optional[pd.DataFrame]) -> Iterator[str]:
-    for name in [] if table is None else table:
-        cells = table[name]
+    for name, cells in {} if table is None else table.items():
         if (cells == -1).all() if cells.dtype == "int64" else not cells.notna().any() if cells.dtype != bool else not cells.any():
             yield f"table: the column {name!r} has no value"

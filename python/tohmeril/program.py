@@ -9,7 +9,7 @@ import subprocess
 import tempfile
 from contextlib import contextmanager
 from pathlib import Path
-from typing import BinaryIO, Iterator, Optional, Sequence
+from typing import IO, Iterator, Optional, Sequence
 
 from .faults import Fault, fault
 
@@ -30,14 +30,15 @@ def find() -> str:
     inside = Path(__file__).with_name("bin") / "tohmeril"
     built = Path(__file__).resolve().parents[2] / "crates/pl_main/out/pl_main"
     named = os.environ.get("TOHMERIL")
-    for program in [named] if named else [str(inside), shutil.which("tohmeril"), str(built)]:
+    places: list[Optional[str]] = [named] if named else [str(inside), shutil.which("tohmeril"), str(built)]
+    for program in places:
         if program and os.access(program, os.X_OK):
             return program
     raise FileNotFoundError(f"there is no program {named or 'tohmeril'} on {platform.node()}: set TOHMERIL to its path, put it "
                             "on the path as tohmeril, or build it with ./tohmeril in the checkout")
 
 
-def _widen(pipe: BinaryIO) -> None:
+def _widen(pipe: IO[bytes]) -> None:
     """Make a pipe of 64 KB one of 1 MB, without which the program and pandas' parser take turns."""
     try:
         import fcntl
@@ -62,7 +63,7 @@ class Unreadable(ValueError):
 
 
 @contextmanager
-def stream(words: Sequence[str]) -> Iterator[BinaryIO]:
+def stream(words: Sequence[str]) -> Iterator[IO[bytes]]:
     """Output of a command while it is written; its fault is raised once all of it is read.
 
     Where the reader can't read it, that fault comes first; without one an `Unreadable` is the fault of a foreign program.

@@ -36,7 +36,7 @@ class Pipeline:
     screen AverageDollarVolume(30).top(15);
     """
 
-    def __init__(self, columns: Optional[Mapping[str, Term]] = None, screen: Optional[Filter] = None, domain=None):
+    def __init__(self, columns: Optional[Mapping[str, Term]] = None, screen: Optional[Filter] = None, domain: object = None):
         self._columns: dict[str, Term] = {}
         self._screen: Optional[Filter] = None
         for name, term in (columns or {}).items():

@@ -13,7 +13,8 @@ def Label(name: str) -> Text:
     >>> Label("sector").peer_count()
     label("sector").peer_count()
     """
-    return getattr(Labels, name).latest
+    label: Text = getattr(Labels, name).latest
+    return label
 
 
 def Latest(inputs: Sequence[LabelColumn]) -> Text:

@@ -17,9 +17,8 @@ Units: those of the input. Source: ours. Rounding: none.
 from __future__ import annotations
 
 import math
-from collections import namedtuple
 from functools import reduce
-from typing import Any, Mapping, Optional, Sequence, Union
+from typing import Any, Mapping, NamedTuple, Optional, Sequence, Union
 
 import numpy as np
 
@@ -29,6 +28,7 @@ from ..term import CALL, Absent, BoundColumn, Classifier, Factor, Filter, Mask, 
 _HIGH, _LOW, _CLOSE, _VOLUME = (getattr(EquityPricing, name) for name in ("high", "low", "close", "volume"))
 
 
+Inputs = Sequence[Term]
 _ASKED = object()  # in place of a default
 
 
@@ -39,51 +39,53 @@ class Windowed:
     window_length: Optional[int] = None
     params: Union[Sequence[str], Mapping[str, Any]] = ()  # what it takes beside these and `mask`, with defaults in a mapping, as in Zipline
     function = ""  # its name in the language
-    sort: type = Factor
-    takes: tuple = (BoundColumn, Factor)
+    sort: type[Term] = Factor
+    takes: tuple[type[Term], ...] = (BoundColumn, Factor)
     fixed = False  # whether the function is of its own inputs alone
     windowless = False  # whether it is of its own window, too
 
-    def __init_subclass__(cls):
+    def __init_subclass__(cls) -> None:
         if Windowed in cls.__bases__:
             cls.function = cls.__name__
         if "compute" in cls.__dict__:
             CustomFactor()
 
-    def __new__(cls, inputs=None, *, window_length: Optional[int] = None, mask: Mask = None, **params):
+    def __new__(cls, inputs: Union[Term, Sequence[Term], None] = None, *, window_length: Optional[int] = None, mask: Mask = None,
+                **params: Any) -> Any:
         defaults = dict(cls.params if isinstance(cls.params, Mapping) else dict.fromkeys(cls.params, _ASKED))
         takes = f"it takes {', '.join(['inputs', 'window_length', 'mask', *defaults])}"
         for name in params.keys() - defaults.keys():
             raise TypeError(f"{cls.__name__}: {name} is none of its parameters; {takes}")
-        inputs = tuple(cls.inputs if inputs is None else inputs if isinstance(inputs, (list, tuple)) else [inputs])
+        listed = cls.inputs if inputs is None else (inputs,) if isinstance(inputs, Term) else inputs
+        terms: tuple[Any, ...] = tuple(listed) if isinstance(listed, (list, tuple)) else (listed,)
         window_length = cls.window_length if window_length is None else window_length
-        given = {"inputs": inputs or _ASKED, "window_length": _ASKED if window_length is None else window_length, **defaults, **params}
+        given: dict[str, Any] = {"inputs": terms or _ASKED, "window_length": _ASKED if window_length is None else window_length, **defaults, **params}
         for name, value in given.items():
             if value is _ASKED:
                 raise TypeError(f"{cls.__name__}: {name} {'are' if name == 'inputs' else 'is'} missing; {takes}")
-        for term in inputs:
+        for term in terms:
             if not isinstance(term, cls.takes):
                 latest = f": write {term!r}.latest" if getattr(term, "holds", "") == "labels" else ""
                 raise TypeError(f"{cls.__name__}: {term!r} can't be its input{latest}")
-        if cls.fixed and inputs != tuple(cls.inputs):
-            Absent(f"{cls.__name__} of {', '.join(map(repr, inputs))}", f"that of {', '.join(map(repr, cls.inputs))}")()
-        inputs = tuple(term.latest if isinstance(term, NumberColumn) else term for term in inputs)
-        return cls.term(() if cls.fixed else inputs, window_length, mask, *(given[name] for name in defaults))
+        if cls.fixed and terms != tuple(cls.inputs):
+            Absent(f"{cls.__name__} of {', '.join(map(repr, terms))}", f"that of {', '.join(map(repr, cls.inputs))}")()
+        terms = tuple(term.latest if isinstance(term, NumberColumn) else term for term in terms)
+        return cls.term(() if cls.fixed else terms, given["window_length"], mask, *(given[name] for name in defaults))
 
     @classmethod
-    def term(cls, inputs, window, mask, /, *params):
+    def term(cls, inputs: Inputs, window: int, mask: Mask, /, *params: Any) -> Any:
         """The term of these, in the language's order."""
         return cls.sort(CALL, cls.function, *inputs, *(() if cls.windowless else (window,)), *params, mask=mask)
 
 
 def windowed(name: str, formula: str, units: str = "those of the input", source: str = "Zipline",
-             rounding: str = "once, to the nearest millionth", base: type = Windowed, **defaults) -> type[Windowed]:
+             rounding: str = "once, to the nearest millionth", base: type = Windowed, **defaults: Any) -> Any:
     """A class of the language's function of this name."""
     doc = f"{formula}\n\nUnits: {units}. Source: {source}. Rounding: {rounding}."
     return type(name, (base,), {"__doc__": doc, "__module__": defaults.pop("module", __name__), **defaults})
 
 
-_OURS = {"source": "ours", "rounding": "none"}
+_OURS: dict[str, Any] = {"source": "ours", "rounding": "none"}
 SimpleMovingAverage = windowed("SimpleMovingAverage", "sum of the present x_k / n; missing where n is 0")
 LinearWeightedMovingAverage = windowed("LinearWeightedMovingAverage", "(1 x_1 + .. + W x_W) / (W (W + 1) / 2), missing values counting 0")
 WeightedAverageValue = windowed("WeightedAverageValue", "sum of x_k w_k where both are present / sum of the present w_k",
@@ -115,7 +117,7 @@ class VWAP(Windowed):
     inputs = (_CLOSE, _VOLUME)
 
     @classmethod
-    def term(cls, inputs, window, mask):
+    def term(cls, inputs: Inputs, window: int, mask: Mask) -> Any:  # type: ignore[override]
         return super().term((), window, mask) if inputs == (_CLOSE, _VOLUME) else WeightedAverageValue.term(inputs, window, mask)
 
 
@@ -131,19 +133,26 @@ class ExponentialWeightedMovingAverage(Windowed):
     params = ("decay_rate",)
 
     @classmethod
-    def from_span(cls, inputs, window_length, span, **kwargs):
+    def from_span(cls, inputs: Inputs, window_length: int, span: float, mask: Mask = None) -> Any:
         """With `decay_rate` 1 - 2 / (1 + span)."""
-        return cls(inputs, window_length=window_length, decay_rate=1 - 2 / (1 + span), **kwargs)
+        return cls(inputs, window_length=window_length, decay_rate=1 - 2 / (1 + span), mask=mask)
 
     @classmethod
-    def from_halflife(cls, inputs, window_length, halflife, **kwargs):
+    def from_halflife(cls, inputs: Inputs, window_length: int, halflife: float, mask: Mask = None) -> Any:
         """With `decay_rate` 0.5 ** (1 / halflife)."""
-        return cls(inputs, window_length=window_length, decay_rate=0.5 ** (1 / halflife), **kwargs)
+        return cls(inputs, window_length=window_length, decay_rate=0.5 ** (1 / halflife), mask=mask)
 
     @classmethod
-    def from_center_of_mass(cls, inputs, window_length, center_of_mass, **kwargs):
+    def from_center_of_mass(cls, inputs: Inputs, window_length: int, center_of_mass: float, mask: Mask = None) -> Any:
         """With `decay_rate` 1 - 1 / (1 + center_of_mass)."""
-        return cls(inputs, window_length=window_length, decay_rate=1 - 1 / (1 + center_of_mass), **kwargs)
+        return cls(inputs, window_length=window_length, decay_rate=1 - 1 / (1 + center_of_mass), mask=mask)
+
+
+class Bands(NamedTuple):
+    """The outputs of `BollingerBands`."""
+    lower: Factor
+    middle: Factor
+    upper: Factor
 
 
 class BollingerBands(Windowed):
@@ -157,13 +166,18 @@ class BollingerBands(Windowed):
     """
     inputs = (_CLOSE,)
     params = ("k",)
-    outputs = namedtuple("BollingerBands", "lower middle upper")
 
     @classmethod
-    def term(cls, inputs, window, mask, k):
-        return cls.outputs(Factor(CALL, "BollingerLower", *inputs, window, k, mask=mask),
+    def term(cls, inputs: Inputs, window: int, mask: Mask, k: float) -> Bands:  # type: ignore[override]
+        return Bands(Factor(CALL, "BollingerLower", *inputs, window, k, mask=mask),
                            Factor(CALL, "BollingerMiddle", *inputs, window, mask=mask),
                            Factor(CALL, "BollingerUpper", *inputs, window, k, mask=mask))
+
+
+class DownUp(NamedTuple):
+    """The outputs of `Aroon`."""
+    down: Factor
+    up: Factor
 
 
 class Aroon(Windowed):
@@ -176,11 +190,10 @@ class Aroon(Windowed):
     """
     inputs = (_LOW, _HIGH)
     fixed = True
-    outputs = namedtuple("Aroon", "down up")
 
     @classmethod
-    def term(cls, inputs, window, mask):
-        return cls.outputs(Factor(CALL, "AroonDown", window, mask=mask), Factor(CALL, "AroonUp", window, mask=mask))
+    def term(cls, inputs: Inputs, window: int, mask: Mask) -> DownUp:  # type: ignore[override]
+        return DownUp(Factor(CALL, "AroonDown", window, mask=mask), Factor(CALL, "AroonUp", window, mask=mask))
 
 
 class AnnualizedVolatility(Windowed):
@@ -197,7 +210,7 @@ class AnnualizedVolatility(Windowed):
     params = {"annualization_factor": 252.0}
 
     @classmethod
-    def term(cls, inputs, window, mask, annualization_factor):
+    def term(cls, inputs: Inputs, window: int, mask: Mask, annualization_factor: float) -> Any:  # type: ignore[override]
         return WindowStd(inputs, window_length=window, mask=mask) * math.sqrt(annualization_factor)
 
 
@@ -213,8 +226,9 @@ class MovingAverageConvergenceDivergenceSignal(Windowed):
     params = {"fast_period": 12, "slow_period": 26, "signal_period": 9}
 
     @classmethod
-    def term(cls, inputs, window, mask, fast_period, slow_period, signal_period):
-        def means(period):  # the weights of an exponential mean, newest first
+    def term(cls, inputs: Inputs, window: int, mask: Mask, fast_period: int, slow_period: int,  # type: ignore[override]
+             signal_period: int) -> Any:
+        def means(period: int) -> Any:  # the weights of an exponential mean, newest first
             weights = (1 - 2 / (1 + period)) ** np.arange(period)
             return weights / weights.sum()
         if slow_period <= fast_period:

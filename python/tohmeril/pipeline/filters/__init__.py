@@ -6,13 +6,14 @@ AtLeastN(volume.latest > 0, 20, 15)
 """
 from __future__ import annotations
 
+import typing
 from numbers import Integral
 from typing import Iterable
 
 from ..factors import windowed
 from ..term import CALL, Absent, Filter, either
 
-_FILTER = {"units": "true or false", "rounding": "none", "sort": Filter, "module": __name__}
+_FILTER: dict[str, typing.Any] = {"units": "true or false", "rounding": "none", "sort": Filter, "module": __name__}
 All = windowed("All", "true on each of the W sessions up to today", takes=(Filter,), **_FILTER)
 Any = windowed("Any", "true on one of the W sessions up to today", takes=(Filter,), **_FILTER)
 AllPresent = windowed("AllPresent", "each x_k is present", **_FILTER)
@@ -25,7 +26,7 @@ def StaticSids(sids: Iterable[int]) -> Filter:
     >>> StaticSids([24, 5])
     StaticSids(5, 24)
     """
-    listed = [sids] if isinstance(sids, str) else list(sids)
+    listed: list[typing.Any] = [sids] if isinstance(sids, str) else list(sids)
     for sid in listed:
         if isinstance(sid, str):
             raise TypeError(f"StaticSids: {sid!r} is a symbol: write StaticSids(data.sids({[each for each in listed if isinstance(each, str)]!r}))")
@@ -34,12 +35,13 @@ def StaticSids(sids: Iterable[int]) -> Filter:
     return either(lambda some: Filter(CALL, "StaticSids", *some), sorted(map(int, listed)), 500)
 
 
-def StaticAssets(assets: Iterable) -> Filter:
+def StaticAssets(assets: Iterable[object]) -> Filter:
     """True of exactly these assets, given by their sids or as objects with a `sid`."""
-    return StaticSids(getattr(asset, "sid", asset) for asset in assets)
+    sids: list[typing.Any] = [getattr(asset, "sid", asset) for asset in assets]
+    return StaticSids(sids)
 
 
-def SingleAsset(asset) -> Filter:
+def SingleAsset(asset: object) -> Filter:
     """True of exactly this asset."""
     return StaticAssets([asset])
 
