@@ -1,10 +1,12 @@
 """Frames of vendors' forms, made small. The values are worked out by hand; Apple's of 2020 are those of its exchange."""
+import doctest
 import sqlite3
 import warnings
 
 import numpy as np
 import pandas as pd
 import pytest
+from conftest import CHECKOUT
 
 from tohmeril import Data, DataFault, run_pipeline
 from tohmeril.pipeline import Pipeline
@@ -202,3 +204,8 @@ def test_csvdir(tmp_path):
     (tmp_path / "source/daily/BBB.csv").write_text("date,open,high,low,close,volume\n02/05/2024,1,1,1,10,7\n")
     with pytest.raises(DataFault, match="BBB.csv: '02/05/2024' may be a day of May or of February"):
         csvdir(tmp_path / "source/daily")
+
+
+def test_page(tmp_path):
+    found = doctest.testfile(str(CHECKOUT / "docs/VENDORS.md"), module_relative=False, globs={"folder": tmp_path}, optionflags=doctest.NORMALIZE_WHITESPACE)
+    assert found.attempted > 20 and not found.failed

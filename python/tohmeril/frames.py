@@ -295,11 +295,10 @@ def bar_values(rows: Frame) -> Frame:
                 at = wrong.to_numpy().argmax()
                 raise DataFault(f"bars: the {name} of {rows.sid.iloc[at]} on {rows.session.iloc[at]} is {values.iloc[at]:.12g}",
                                 f"{rows_of(rows, wrong.to_numpy())}; {hint}")
-    rows = rows.assign(**cells)
-    rows = rows[rows[list(BARS)].notna().any(axis=1)]
-    if rows.empty:
+    rows, there = rows.assign(**cells), pd.concat(cells, axis=1).notna().any(axis=1)
+    if not there.any():
         raise DataFault("bars: there is none", "each value is missing")
-    return rows
+    return rows if there.all() else rows[there]
 
 
 def long_labels(labels: Union[Frame, Mapping], first: str, late: bool = False) -> Frame:
