@@ -26,7 +26,7 @@ cd "$here"
 # all that the tests write, and what matplotlib and dask keep of their own, goes into the folder
 export TMPDIR=$folder MPLCONFIGDIR=$folder DASK_CONFIG=$folder DASK_TEMPORARY_DIRECTORY=$folder
 status=0
-timeout 900 "$python" -m pytest -q -rsfE -p no:cacheprovider --basetemp "$folder/pytest" "$@" > "$folder/log" 2>&1 || status=$?
+timeout 1800 "$python" -m pytest -q -rsfE -p no:cacheprovider --basetemp "$folder/pytest" "$@" > "$folder/log" 2>&1 || status=$?
 lines=1
 [ $status = 0 ] || lines=200
 tail -n $lines "$folder/log"
