@@ -50,7 +50,7 @@ pub fn program<L: Ledger, W: Write + Drop, E: Sink>(
     ensures run { IfOk args (λ args. let asked = request (map (λ s. string_bytes s) (drop 1 (into_iter_items args))) in
         EndsAfterRun E.taken E.faults E.sound E.room asked err.old err.new (exit_status result)
         ⊎ EndsForMemory E.taken E.faults E.sound E.room err.old err.new (exit_status result)) }
-    ensures refused { IfErr args (λ error. (why : StartError) 
+    ensures refused { IfErr args (λ error. (why : StartError)
         × IsCauseOf (error_kind error ≡ ErrorKind.OutOfMemory) why
         × EndsBefore E.taken E.faults E.sound E.room why err.old err.new (exit_status result)) }
     ensures written { exit_status result ≡ 0 → IfOk out.new (λ out. writer_buffer out.to ≡ []) }
