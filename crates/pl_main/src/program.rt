@@ -47,7 +47,8 @@ pub fn program<L: Ledger, W: Write + Drop, E: Sink>(
     requires name { blank.name ≡ L.name }
     requires parts { blank.parts ≡ L.parts }
     requires some { 0 < L.parts }
-    ensures run { IfOk args (λ args. let asked = request (map (λ s. string_bytes s) (drop 1 (into_iter_items args))) in
+    ensures run { IfOk args (λ args.
+        let asked = request (map (λ s. string_bytes s) (drop 1 (into_iter_items args))) in
         EndsAfterRun E.taken E.faults E.sound E.room asked err.old err.new (exit_status result)
         ⊎ EndsForMemory E.taken E.faults E.sound E.room err.old err.new (exit_status result)) }
     ensures refused { IfErr args (λ error. (why : StartError)
