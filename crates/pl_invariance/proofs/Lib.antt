@@ -1,0 +1,3 @@
+pub mod Alone
+pub mod Lists
+pub mod Renaming

@@ -1,0 +1,4 @@
+-- The laws, each the contract of a function.
+pub mod Alone
+pub mod Renamed
+pub mod Absent
