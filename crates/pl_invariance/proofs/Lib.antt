@@ -1,3 +1,5 @@
 pub mod Alone
 pub mod Lists
 pub mod Renaming
+pub mod Renamed
+pub mod Absent

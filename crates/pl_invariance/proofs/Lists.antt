@@ -1,8 +1,6 @@
 -- Lists whose elements are mapped, and tests of them.
-use Rattle.std.proofs.Common.{◌≡◌, ℕ, suc, ◌+◌, Bool, true, false, cond, List, [], ◌∷◌, ◌++◌, map, filter, find, Option, Some, None, option_map, refl, sym, ◌∙◌, ap, count_by}
+use Rattle.std.proofs.Common.{◌≡◌, ◌+◌, Bool, true, false, cond, List, [], ◌∷◌, ◌++◌, map, filter, find, fold, Some, option_map, refl, ◌∙◌, ap, count_by}
 use Rattle.std.specs.List.{list_any, list_all, flat_map}
-use Rattle.std.proofs.Math.Path.{fun_ext}
-use Rattle.pl_spec.proofs.Each.{Each}
 
 pub find-map : {X Y : Type 0} (p : Y → Bool) (f : X → Y) (xs : List X) → find p (map f xs) ≡ option_map f (find (λ x. p (f x)) xs)
 find-map p f [] = refl
@@ -20,9 +18,12 @@ pub all-map : {X Y : Type 0} (p : Y → Bool) (f : X → Y) (xs : List X) → li
 all-map p f [] = refl
 all-map p f (x ∷ xs) = rw (all-map p f xs) refl
 
+pub fold-map : {X Y Z : Type 0} (g : Z → Y → Z) (f : X → Y) (z : Z) (xs : List X) → fold g z (map f xs) ≡ fold (λ a x. g a (f x)) z xs
+fold-map g f z [] = refl
+fold-map g f z (x ∷ xs) = fold-map g f (g z (f x)) xs
+
 pub count-map : {X Y : Type 0} (p : Y → Bool) (f : X → Y) (xs : List X) → count_by p (map f xs) ≡ count_by (λ x. p (f x)) xs
-count-map p f [] = refl
-count-map p f (x ∷ xs) = rw (count-map p f xs) refl
+count-map p f xs = fold-map (λ a x. a + cond (p x) 1 0) f 0 xs
 
 pub maps : {X Y Z : Type 0} (g : Y → Z) (f : X → Y) (xs : List X) → map g (map f xs) ≡ map (λ x. g (f x)) xs
 maps g f [] = refl
@@ -30,7 +31,7 @@ maps g f (x ∷ xs) = ap (λ l. g (f x) ∷ l) (maps g f xs)
 
 pub flat-map : {X Y Z : Type 0} (g : Y → Z) (f : X → List Y) (xs : List X) → map g (flat_map f xs) ≡ flat_map (λ x. map g (f x)) xs
 flat-map g f [] = refl
-flat-map g f (x ∷ xs) = appended (f x) (flat_map f xs) ∙ ap (λ l. map g (f x) ++ l) (flat-map g f xs)
+flat-map {Y = Y} {Z = Z} g f (x ∷ xs) = appended (f x) (flat_map f xs) ∙ ap (λ l. map g (f x) ++ l) (flat-map g f xs)
   where
     appended : (ys zs : List Y) → map g (ys ++ zs) ≡ map g ys ++ map g zs
     appended [] zs = refl

@@ -1,17 +1,17 @@
 -- Where the assets of two worlds are the same but for their sids, which stand in the same order, all values are
 -- the same.
-use Rattle.std.proofs.Common.{◌≡◌, ℕ, zero, suc, ◌+◌, ◌-◌, ◌*◌, ◌<◌, ◌≤◌, ◌==◌, Bool, true, false, ◌&&◌, if◌then◌else◌, nat_lt, nat_le, ℤ, pos, List, [], ◌∷◌, ◌++◌, length, map, filter, Option, Some, None, refl, sym, ◌∙◌, ap, arith, slice_get, get_or, count_by, inl, inr}
+use Rattle.std.proofs.Common.{◌≡◌, ℕ, zero, suc, ◌-◌, ◌*◌, ◌<◌, ◌≤◌, ◌==◌, Bool, true, false, ◌&&◌, nat_lt, ℤ, pos, List, [], ◌∷◌, ◌++◌, map, filter, Option, Some, None, refl, sym, ◌∙◌, ap, arith, slice_get, count_by, inl, inr}
 use Rattle.std.specs.List.{list_any, flat_map, range_with_len}
 use Rattle.std.specs.Ordering.{int_eq}
 use Rattle.std.proofs.Math.Path.{fun_ext}
-use Rattle.std.proofs.lemmas.Bool.{cases_lt, cases_eq, eq-eqb, ne_eqb, true≢false}
+use Rattle.std.proofs.lemmas.Bool.{cases_lt, cases_eq, eq-eqb, ne_eqb}
 use Rattle.std.proofs.lemmas.Bool.Decides.{nat_tests}
 use Rattle.std.proofs.lemmas.List.{length-map, map-append}
 use Rattle.pl_spec.specs.declared.Column.{Column}
 use Rattle.pl_spec.specs.Rounding.{is_present, MILLION}
 use Rattle.pl_spec.specs.Cells.{truth}
 use Rattle.pl_spec.specs.Periods.{period_start}
-use Rattle.pl_spec.specs.Window.{before, downward, bar_window, seen_cell}
+use Rattle.pl_spec.specs.Window.{before, downward, seen_cell}
 use Rattle.pl_spec.specs.World.{World, exists, living_sids, label_at, known_number}
 use Rattle.pl_spec.proofs.Lists.{filter-map}
 use Rattle.pl_pipeline.specs.declared.RankMethod.{RankMethod}
@@ -25,9 +25,9 @@ use Rattle.pl_pipeline.specs.Cross.{Entry, values, earlier_same, ordinal, rank, 
 use Rattle.pl_pipeline.specs.Term.{Term, Input, Node, Graph, tree_at, input_tree, number_tree, tree_over, trees_after, term_at}
 use Rattle.pl_pipeline.specs.Term.Term.{absent, column, node}
 use Rattle.pl_pipeline.specs.Term.Input.{BarColumn, TermInput}
-use Rattle.pl_pipeline.specs.Value.{Value, Part, Operands, part_of, number_of, holds, value_of_part, window_of, passes, in_group, entry, counts_for, eligible, group_of, label_value, name_at, test_value, empty, is_filter, sort_over, sort_kind, is_same, kind_value, value}
+use Rattle.pl_pipeline.specs.Value.{Value, Part, Operands, part_of, number_of, holds, value_of_part, window_of, passes, in_group, entry, counts_for, eligible, group_of, label_value, name_at, test_value, empty, sort_over, sort_kind, is_same, kind_value, value}
 use Rattle.pl_pipeline.specs.Value.Value.{Number}
-use Rattle.pl_pipeline.specs.Table.{Pipeline, Row, NamedColumn, is_kept, kept_sids, table_row, session_rows, table, value_of}
+use Rattle.pl_pipeline.specs.Table.{Pipeline, Row, NamedColumn, is_kept, table_row, session_rows, table, value_of}
 use Rattle.pl_invariance.specs.Renamed.{Rises, renamed_kind, renamed_node, renamed_pipeline, renamed_row}
 use Rattle.pl_invariance.proofs.Lists.{any-map, count-map, maps, flat-map}
 
@@ -47,7 +47,7 @@ pub record ShowTheSame (f : ℕ → ℕ) (w v : World) : Type 0 where
 module _ (f : ℕ → ℕ) (rises : Rises f) where
   -- ---- sids
 
-  same_sid : (a b : ℕ) → (f a == f b) ≡ (a == b)
+  pub same_sid : (a b : ℕ) → (f a == f b) ≡ (a == b)
   same_sid a b = elim (cases_eq a b) [
     | inl e ↦ eq-eqb (f a) (f b) (ap f e) ∙ sym (eq-eqb a b e)
     | inr n ↦ ne_eqb (f a) (f b) (apart n) ∙ sym (ne_eqb a b n)
@@ -182,7 +182,10 @@ module _ (f : ℕ → ℕ) (rises : Rises f) where
     unfolding renamed_term
     group_same absent same a d b = refl
     group_same (column c) same a d b = refl
-    group_same (node k size x y z m g) same a d b = ap (λ x. is_present (number_of x) && is_same x (value v names (renamed_term (node k size x y z m g)) (f b) d)) (same a d) ∙ ap (λ y. is_present (number_of (value w names (node k size x y z m g) a d)) && is_same (value w names (node k size x y z m g) a d) y) (same b d)
+    group_same (node k size x y z m g) same a d b =
+        let t : Term = node k size x y z m g in
+        ap (λ u. is_present (number_of u) && is_same u (value v names (renamed_term t) (f b) d)) (same a d)
+        ∙ ap (λ u. is_present (number_of (value w names t a d)) && is_same (value w names t a d) u) (same b d)
 
     window_same : (t : Term) → Same t → (size a : ℕ) → Lives w a → (d : ℤ) → window_of v size (there t) (f a) d ≡ window_of w size (here t) a d
     unfolding renamed_term
@@ -192,14 +195,14 @@ module _ (f : ℕ → ℕ) (rises : Rises f) where
 
     -- ---- one step
 
+    abbrev ours : Term → Term → Term → Term → Term → Operands
+    ours x y z m g = record { first = here x; second = here y; third = here z; mask = here m; group = here g }
+
+    abbrev theirs : Term → Term → Term → Term → Term → Operands
+    theirs x y z m g = record { first = there x; second = there y; third = there z; mask = there m; group = there g }
+
     module _ (x y z m g : Term) (first : Same x) (second : Same y) (third : Same z) (mask : Same m) (group : Same g) where
-      abbrev ours : Operands
-      ours = record { first = here x; second = here y; third = here z; mask = here m; group = here g }
-
-      abbrev theirs : Operands
-      theirs = record { first = there x; second = there y; third = there z; mask = there m; group = there g }
-
-      in_same : (k : CrossKind) (a : ℕ) (d : ℤ) (b : ℕ) → in_group (group_of k theirs.first theirs.group) (f a) d (f b) ≡ in_group (group_of k ours.first ours.group) a d b
+      in_same : (k : CrossKind) (a : ℕ) (d : ℤ) (b : ℕ) → in_group (group_of k (there x) (there g)) (f a) d (f b) ≡ in_group (group_of k (here x) (here g)) a d b
       in_same PeerCount a d b = group_same x first a d b
       in_same (Rank method order) a d b = group_same g group a d b
       in_same Demean a d b = group_same g group a d b
@@ -209,20 +212,20 @@ module _ (f : ℕ → ℕ) (rises : Rises f) where
       in_same (Bottom n) a d b = group_same g group a d b
       in_same (PercentileBetween low high) a d b = group_same g group a d b
 
-      counts_same : (k : CrossKind) (a : ℕ) (d : ℤ) (b : ℕ) → counts_for k theirs (f a) d (f b) ≡ counts_for k ours a d b
+      counts_same : (k : CrossKind) (a : ℕ) (d : ℤ) (b : ℕ) → counts_for k (theirs x y z m g) (f a) d (f b) ≡ counts_for k (ours x y z m g) a d b
       counts_same k a d b = rw (passes_same m mask b d, now_same x first b d, in_same k a d b) refl
 
       entry_same : (d : ℤ) (b : ℕ) → entry (there x) d (f b) ≡ named (entry (here x) d b)
       entry_same d b = ap (λ u. (f b, number_of u)) (now_same x first b d)
 
-      eligible_same : (k : CrossKind) (a : ℕ) (d : ℤ) → eligible v k theirs (f a) d ≡ map named (eligible w k ours a d)
+      eligible_same : (k : CrossKind) (a : ℕ) (d : ℤ) → eligible v k (theirs x y z m g) (f a) d ≡ map named (eligible w k (ours x y z m g) a d)
       eligible_same k a d =
-          ap (λ l. map (entry (there x) d) (filter (counts_for k theirs (f a) d) l)) (shows.living d)
-          ∙ ap (map (entry (there x) d)) (filter-map (counts_for k theirs (f a) d) f (living_sids w d))
-          ∙ maps (entry (there x) d) f (filter (λ b. counts_for k theirs (f a) d (f b)) (living_sids w d))
-          ∙ ap (λ e. map e (filter (λ b. counts_for k theirs (f a) d (f b)) (living_sids w d))) (fun_ext (entry_same d))
+          ap (λ l. map (entry (there x) d) (filter (counts_for k (theirs x y z m g) (f a) d) l)) (shows.living d)
+          ∙ ap (map (entry (there x) d)) (filter-map (counts_for k (theirs x y z m g) (f a) d) f (living_sids w d))
+          ∙ maps (entry (there x) d) f (filter (λ b. counts_for k (theirs x y z m g) (f a) d (f b)) (living_sids w d))
+          ∙ ap (λ e. map e (filter (λ b. counts_for k (theirs x y z m g) (f a) d (f b)) (living_sids w d))) (fun_ext (entry_same d))
           ∙ ap (λ p. map (λ b. named (entry (here x) d b)) (filter p (living_sids w d))) (fun_ext (counts_same k a d))
-          ∙ sym (maps named (entry (here x) d) (filter (counts_for k ours a d) (living_sids w d)))
+          ∙ sym (maps named (entry (here x) d) (filter (counts_for k (ours x y z m g) a d) (living_sids w d)))
 
       in_list_same : (a : ℕ) (list : List Entry) → list_any (λ (e : Entry). e.0 == f a) (map named list) ≡ list_any (λ (e : Entry). e.0 == a) list
       in_list_same a list = any-map (λ (e : Entry). e.0 == f a) named list ∙ ap (λ p. list_any p list) (fun_ext (λ (e : Entry). same_sid e.0 a))
@@ -230,7 +233,7 @@ module _ (f : ℕ → ℕ) (rises : Rises f) where
       sids_same : (sids : List ℕ) (a : ℕ) → list_any (λ b. b == f a) (map f sids) ≡ list_any (λ b. b == a) sids
       sids_same sids a = any-map (λ b. b == f a) f sids ∙ ap (λ p. list_any p sids) (fun_ext (λ b. same_sid b a))
 
-      pub step_same : (k : Kind) (size a : ℕ) (d : ℤ) → Lives w a → kind_value v names (renamed_kind f k) size theirs (f a) d ≡ kind_value w names k size ours a d
+      pub step_same : (k : Kind) (size a : ℕ) (d : ℤ) → Lives w a → kind_value v names (renamed_kind f k) size (theirs x y z m g) (f a) d ≡ kind_value w names k size (ours x y z m g) a d
       unfolding kind_value
       step_same (Constant cell) size a d lives = refl
       step_same (Label n) size a d lives = ap label_value (shows.labels a lives (name_at names n) d)
@@ -240,7 +243,7 @@ module _ (f : ℕ → ℕ) (rises : Rises f) where
       step_same (Point k) size a d lives = rw (now_same x first a d, now_same y second a d, now_same z third a d) refl
       step_same (LabelTest k) size a d lives = ap (test_value k) (now_same x first a d)
       step_same (Cross k) size a d lives =
-          rw (eligible_same k a d, now_same x first a d, in_list_same a (eligible w k ours a d), same_cross k (eligible w k ours a d) a (number_of (value_of_part (here x) a d))) refl
+          rw (eligible_same k a d, now_same x first a d, in_list_same a (eligible w k (ours x y z m g) a d), same_cross k (eligible w k (ours x y z m g) a d) a (number_of (value_of_part (here x) a d))) refl
       step_same (Downsample q) size a d lives = now_same x first a (period_start q v.days d) ∙ ap (λ days. value_of_part (here x) a (period_start q days d)) shows.days
 
     -- ---- values

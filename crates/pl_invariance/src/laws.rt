@@ -1,8 +1,22 @@
 //! The laws. The functions do nothing: the contract of each is a law.
+ghost use Rattle.pl_invariance.specs.Absent.{AbsentAssetsChangeNothing};
 ghost use Rattle.pl_invariance.specs.Alone.{NumbersStandAlone};
+ghost use Rattle.pl_invariance.specs.Renamed.{SidsAreNames};
 
 /// A number beside bars is the same whatever the bars, the adjustments and the labels are. It guards `number_at`
 /// and the way of a number to a value: nothing scales, moves or masks it.
 pub fn numbers_stand_alone()
     ensures { NumbersStandAlone }
+{}
+
+/// Sids that are renamed in ascending order change nothing but the sid of each row. It guards the look-ups by sid
+/// and the cross-sections, which know of a sid only which of two is the smaller.
+pub fn sids_are_names()
+    ensures { SidsAreNames }
+{}
+
+/// An asset that exists on no session may be left out with all its rows, and no row of a table changes. It guards
+/// the cross-sections: who never exists is no peer, and has no part in a mean or a rank.
+pub fn absent_assets_change_nothing()
+    ensures { AbsentAssetsChangeNothing }
 {}
