@@ -1,6 +1,6 @@
-/* Refuses memory, for tools/memory: the FAIL_AT-th call that asks the C library for some, or, where FAIL_ON is set, that call and
-   all after it. With FAIL_TOLD, the name of a file, it writes there how many calls there were, as the program ends. Built as a
-   library and loaded by LD_PRELOAD; it counts what the program asks for from its start on. */
+/* Refuses memory, for tools/out-of-memory: the FAIL_AT-th call that asks the C library for some, or, where FAIL_ON is
+   set, that call and all after it. With FAIL_TOLD, the name of a file, it writes there how many calls there were, as
+   the program ends. It is built as a library, is loaded by LD_PRELOAD, and counts from the program's start on. */
 #define _GNU_SOURCE
 #include <dlfcn.h>
 #include <errno.h>
