@@ -3,3 +3,5 @@ pub mod Lists
 pub mod Renaming
 pub mod Renamed
 pub mod Absent
+pub mod Exact
+pub mod Priced

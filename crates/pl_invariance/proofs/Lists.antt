@@ -1,6 +1,8 @@
 -- Lists whose elements are mapped, and tests of them.
-use Rattle.std.proofs.Common.{◌≡◌, ◌+◌, Bool, true, false, cond, List, [], ◌∷◌, ◌++◌, map, filter, find, fold, Some, option_map, refl, ◌∙◌, ap, count_by}
-use Rattle.std.specs.List.{list_any, list_all, flat_map}
+use Rattle.std.proofs.Common.{◌≡◌, ℕ, zero, suc, ◌+◌, ◌<◌, Bool, true, false, cond, List, [], ◌∷◌, ◌++◌, map, filter, filter_map, find, fold, Option, Some, None, option_map, refl, ◌∙◌, ap, arith, count_by}
+use Rattle.pl_spec.proofs.Each.{Each}
+use Rattle.pl_spec.specs.Window.{downward}
+use Rattle.std.specs.List.{list_any, list_all, flat_map, cons_option}
 
 pub find-map : {X Y : Type 0} (p : Y → Bool) (f : X → Y) (xs : List X) → find p (map f xs) ≡ option_map f (find (λ x. p (f x)) xs)
 find-map p f [] = refl
@@ -47,3 +49,23 @@ find-inside p q h (x ∷ xs) = here (p x) (q x) refl refl (find-inside p q h xs)
     here true false e f rest = let t : q x ≡ true = h x e in cc
     here false true e f rest = rw e rest
     here false false e f rest = rest
+
+-- ---- what is picked out of a list
+
+pub picked-map : {X Y Z : Type 0} (g : Y → Option Z) (f : X → Y) (xs : List X) → filter_map g (map f xs) ≡ filter_map (λ x. g (f x)) xs
+picked-map g f [] = refl
+picked-map g f (x ∷ xs) = ap (cons_option (g (f x))) (picked-map g f xs)
+
+pub picked-after : {X Y Z : Type 0} (h : Y → Z) (k : X → Option Y) (xs : List X) → filter_map (λ x. option_map h (k x)) xs ≡ map h (filter_map k xs)
+picked-after h k [] = refl
+picked-after {X} {Y} {Z} h k (x ∷ xs) = here (k x) (picked-after h k xs)
+  where
+    here : (o : Option Y) → filter_map (λ x. option_map h (k x)) xs ≡ map h (filter_map k xs) → cons_option (option_map h o) (filter_map (λ x. option_map h (k x)) xs) ≡ map h (cons_option o (filter_map k xs))
+    here None e = e
+    here (Some y) e = ap (λ l. h y ∷ l) e
+
+-- ---- the numbers below one
+
+pub each-below : (P : ℕ → Type 0) (size : ℕ) → ((n : ℕ) → n < size → P n) → Each P (downward size)
+each-below P zero h = tt
+each-below P (suc size) h = (h size (omega arith), each-below P size (λ n l. h n (omega arith)))

@@ -2,3 +2,5 @@
 pub mod Alone
 pub mod Renamed
 pub mod Absent
+pub mod Exact
+pub mod Priced

@@ -1,6 +1,7 @@
 //! The laws. The functions do nothing: the contract of each is a law.
 ghost use Rattle.pl_invariance.specs.Absent.{AbsentAssetsChangeNothing};
 ghost use Rattle.pl_invariance.specs.Alone.{NumbersStandAlone};
+ghost use Rattle.pl_invariance.specs.Priced.{PricesHaveUnits};
 ghost use Rattle.pl_invariance.specs.Renamed.{SidsAreNames};
 
 /// A number beside bars is the same whatever the bars, the adjustments and the labels are. It guards `number_at`
@@ -19,4 +20,11 @@ pub fn sids_are_names()
 /// the cross-sections: who never exists is no peer, and has no part in a mean or a rank.
 pub fn absent_assets_change_nothing()
     ensures { AbsentAssetsChangeNothing }
+{}
+
+/// Prices that are all multiplied by one ratio, those of corrections too, are seen multiplied by it, and volumes stay,
+/// where nothing is rounded. It guards what is seen of a bar: the ratios of adjustments are of no unit, and a
+/// correction is in that of its bar.
+pub fn prices_have_units()
+    ensures { PricesHaveUnits }
 {}
