@@ -4,3 +4,4 @@ pub mod Renamed
 pub mod Absent
 pub mod Exact
 pub mod Priced
+pub mod Restated

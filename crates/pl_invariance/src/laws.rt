@@ -3,6 +3,7 @@ ghost use Rattle.pl_invariance.specs.Absent.{AbsentAssetsChangeNothing};
 ghost use Rattle.pl_invariance.specs.Alone.{NumbersStandAlone};
 ghost use Rattle.pl_invariance.specs.Priced.{PricesHaveUnits};
 ghost use Rattle.pl_invariance.specs.Renamed.{SidsAreNames};
+ghost use Rattle.pl_invariance.specs.Restated.{SplitsMayBeRestated};
 
 /// A number beside bars is the same whatever the bars, the adjustments and the labels are. It guards `number_at`
 /// and the way of a number to a value: nothing scales, moves or masks it.
@@ -27,4 +28,12 @@ pub fn absent_assets_change_nothing()
 /// correction is in that of its bar.
 pub fn prices_have_units()
     ensures { PricesHaveUnits }
+{}
+
+/// A split may be left out where the bars before it are restated by its ratio: from its day on each bar, and each
+/// window of bars, is seen alike, where nothing is rounded. The same holds of a merger and of a dividend. It guards
+/// which bars an adjustment acts on, which columns, by which ratio, and that the order of exact ratios is of no
+/// account.
+pub fn splits_may_be_restated()
+    ensures { SplitsMayBeRestated }
 {}
