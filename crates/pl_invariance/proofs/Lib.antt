@@ -6,3 +6,4 @@ pub mod Absent
 pub mod Exact
 pub mod Priced
 pub mod Restated
+pub mod Worked
