@@ -10,7 +10,9 @@ use Rattle.std.proofs.lemmas.Int.{ints, by_lt_z}
 use Rattle.std.proofs.lemmas.List.{map-id}
 use Rattle.std.proofs.lemmas.List.Elements.{filter_map-append}
 use Rattle.pl_spec.specs.declared.AdjustmentKind.{AdjustmentKind}
+use Rattle.pl_spec.specs.declared.AdjustmentKind.TheVariants.{Split, Merger, Dividend, Revision}
 use Rattle.pl_spec.specs.declared.Column.{Column}
+use Rattle.pl_spec.specs.declared.Column.TheVariants.{OpenPrice, High, Low, Close, Volume}
 use Rattle.pl_spec.specs.Rounding.{Fraction, scaled}
 use Rattle.pl_spec.specs.World.{World, IsWorld, Change, Event, day_of, events_of, bar_cell}
 use Rattle.pl_spec.specs.Window.{Effect, factor, same_column, change_effect, effect, is_between, effects_in, effects_from, effects, after_all, seen_cell, before, downward, bar_window, changed}
@@ -20,7 +22,7 @@ use Rattle.pl_spec.proofs.Each.{Each, map_each}
 use Rattle.pl_spec.proofs.Lists.{filter-map}
 use Rattle.pl_spec.proofs.Signed.{lt-int_lt, le-int_le}
 use Rattle.pl_invariance.specs.Exact.{AllDivide}
-use Rattle.pl_invariance.specs.Restated.{times, restated_change, restated_event, restated_cell, IsRestated, IsExactAt, SplitsMayBeRestated}
+use Rattle.pl_invariance.specs.Restated.{ratio_for, times, restated_change, restated_event, restated_cell, IsRestated, IsExactAt, SplitsMayBeRestated}
 use Rattle.pl_invariance.proofs.Lists.{picked-map, picked-after, each-below}
 use Rattle.pl_invariance.proofs.Exact.{after_ratio, first_or_last}
 
@@ -49,6 +51,16 @@ ahead (x ∷ front) e back h = (
     long xs = let n : length (xs ++ e ∷ back) ≡ length xs + length (e ∷ back) = length-append xs (e ∷ back) in omega arith
 
 -- ---- events
+
+factor-is : (c : Column) (kind : AdjustmentKind) (ratio : Fraction) → factor c kind ratio ≡ ratio_for c kind ratio
+factor-is OpenPrice kind ratio = refl
+factor-is High kind ratio = refl
+factor-is Low kind ratio = refl
+factor-is Close kind ratio = refl
+factor-is Volume Split ratio = refl
+factor-is Volume Merger ratio = refl
+factor-is Volume Dividend ratio = refl
+factor-is Volume Revision ratio = refl
 
 between : (low high : ℤ) (e : Event) → low <ℤ e.day → e.day ≤ℤ high → is_between low high e ≡ true
 between low high e l m = rw (lt-int_lt low e.day l, le-int_le e.day high m) refl
@@ -87,24 +99,24 @@ module _ (kind : AdjustmentKind) (ratio : Fraction) where
   put_same None x = refl
   put_same (Some f) x = refl
 
-  change_same : (c : Column) (bar : ℤ) (k : AdjustmentKind) (x : Change) → change_effect c bar k (restated_change kind ratio x) ≡ option_map (turned_by (factor c kind ratio)) (change_effect c bar k x)
-  change_same c bar k (Change.Scale f) = scale_same (factor c kind ratio) (factor c k f)
+  change_same : (c : Column) (bar : ℤ) (k : AdjustmentKind) (x : Change) → change_effect c bar k (restated_change kind ratio x) ≡ option_map (turned_by (ratio_for c kind ratio)) (change_effect c bar k x)
+  change_same c bar k (Change.Scale f) = scale_same (ratio_for c kind ratio) (factor c k f)
   change_same c bar k (Change.Overwrite day column value) = step (int_eq day bar) (same_column column c) refl
     where
       step : (e b : Bool) → same_column column c ≡ b
-          → (if e && b then Some (Put (times (factor column kind ratio) value)) else None) ≡ option_map (turned_by (factor c kind ratio)) (if e && b then Some (Put value) else None)
+          → (if e && b then Some (Put (times (ratio_for column kind ratio) value)) else None) ≡ option_map (turned_by (ratio_for c kind ratio)) (if e && b then Some (Put value) else None)
       step true true is =
           let one : column ≡ c = column_number-one column c (eqb-true _ _ is) in
-          ap (λ k. Some (Put (times (factor k kind ratio) value))) one ∙ ap Some (put_same (factor c kind ratio) value)
+          ap (λ k. Some (Put (times (ratio_for k kind ratio) value))) one ∙ ap Some (put_same (ratio_for c kind ratio) value)
       step true false is = refl
       step false b is = refl
 
-  front_same : (c : Column) (bar day : ℤ) (es : List Event) → effects_in c bar bar day (map restated es) ≡ map (turned_by (factor c kind ratio)) (effects_in c bar bar day es)
+  front_same : (c : Column) (bar day : ℤ) (es : List Event) → effects_in c bar bar day (map restated es) ≡ map (turned_by (ratio_for c kind ratio)) (effects_in c bar bar day es)
   front_same c bar day es =
       ap (filter_map (effect c bar)) (filter-map (is_between bar day) restated es)
       ∙ picked-map (effect c bar) restated (filter (is_between bar day) es)
       ∙ ap (λ g. filter_map g (filter (is_between bar day) es)) (fun_ext (λ (e : Event). change_same c bar e.kind e.change))
-      ∙ picked-after (turned_by (factor c kind ratio)) (effect c bar) (filter (is_between bar day) es)
+      ∙ picked-after (turned_by (ratio_for c kind ratio)) (effect c bar) (filter (is_between bar day) es)
 
 -- the ratio first, or in its place
 moved : (o : Option Fraction) (x : ℤ) (fs gs : List Effect) → ((f : Fraction) → o ≡ Some f → AllDivide f x fs)
@@ -119,13 +131,13 @@ moved (Some f) x fs gs h =
 
 module _ (w v : World) (a : ℕ) (ratio : Fraction) (e : Event) (front back : List Event) (ok : IsWorld w) (is : IsRestated w v a ratio e front back) where
   abbrev by : Column → Option Fraction
-  by c = factor c e.kind ratio
+  by c = ratio_for c e.kind ratio
 
   before_it : Each (λ f. f.day ≤ℤ e.day) front
   before_it = ahead front e back (rw is.ours at (ok.events_in_order a))
 
   effect_is : (c : Column) (bar : ℤ) → effect c bar e ≡ option_map Scale (by c)
-  effect_is c bar = ap (change_effect c bar e.kind) is.scales
+  effect_is c bar = ap (change_effect c bar e.kind) is.scales ∙ ap (option_map Scale) (factor-is c e.kind ratio)
 
   -- what the events do to a bar of the day, in the world, and without the event
   ours : (c : Column) (bar day : ℤ) → effects_in c bar bar day (events_of w a) ≡ effects_in c bar bar day front ++ effects_in c bar bar day (e ∷ back)

@@ -2,12 +2,22 @@
 use Rattle.std.specs.Prelude.{◌≡◌, ℕ, suc, ◌<◌, if◌then◌else◌, ℤ, ◌<ℤ◌, ◌≤ℤ◌, List, ◌∷◌, ◌++◌, map, Option, Some, None}
 use Rattle.std.specs.Int.RustNames.{int_lt}
 use Rattle.pl_spec.specs.declared.AdjustmentKind.{AdjustmentKind}
+use Rattle.pl_spec.specs.declared.AdjustmentKind.TheVariants.{Merger, Dividend}
 use Rattle.pl_spec.specs.declared.Column.{Column}
+use Rattle.pl_spec.specs.declared.Column.TheVariants.{Volume}
 use Rattle.pl_spec.specs.Rounding.{Fraction, scaled}
 use Rattle.pl_spec.specs.World.{World, IsWorld, Change, Event, day_of, events_of, bar_cell}
 use Rattle.pl_spec.specs.World.Change.{Scale, Overwrite}
-use Rattle.pl_spec.specs.Window.{factor, before, effects_in, seen_cell, bar_window}
+use Rattle.pl_spec.specs.Window.{before, effects_in, seen_cell, bar_window}
 use Rattle.pl_invariance.specs.Exact.{AllDivide}
+
+-- What a split 1/2 makes of earlier bars: half the price, twice the volume. A merger and a dividend leave the volume
+-- as it is.
+abbrev pub ratio_for : Column → AdjustmentKind → Fraction → Option Fraction
+ratio_for Volume Merger r = None
+ratio_for Volume Dividend r = None
+ratio_for Volume kind r = Some (record { num = r.den; den = r.num })
+ratio_for c kind r = Some r
 
 -- a cell times what an event multiplies it by, if by anything
 abbrev pub times : Option Fraction → ℤ → ℤ
@@ -17,7 +27,7 @@ times (Some f) x = scaled f x
 -- a correction that was known before the split is restated as its bar is
 abbrev pub restated_change : AdjustmentKind → Fraction → Change → Change
 restated_change kind ratio (Scale f) = Scale f
-restated_change kind ratio (Overwrite day c x) = Overwrite day c (times (factor c kind ratio) x)
+restated_change kind ratio (Overwrite day c x) = Overwrite day c (times (ratio_for c kind ratio) x)
 
 abbrev pub restated_event : AdjustmentKind → Fraction → Event → Event
 restated_event kind ratio e = record e { change = restated_change kind ratio e.change }
@@ -25,7 +35,7 @@ restated_event kind ratio e = record e { change = restated_change kind ratio e.c
 -- the cell of a bar of a day: of an earlier day than the split it is restated
 abbrev pub restated_cell : AdjustmentKind → Fraction → ℤ → Column → Option ℤ → ℤ → ℤ
 restated_cell kind ratio split c None x = x
-restated_cell kind ratio split c (Some bar) x = if int_lt bar split then times (factor c kind ratio) x else x
+restated_cell kind ratio split c (Some bar) x = if int_lt bar split then times (ratio_for c kind ratio) x else x
 
 -- In the second world the event of asset a is left out, which multiplies by the ratio, and what it acts on is
 -- restated: its bars of earlier days, and corrections that come before it.
@@ -38,7 +48,7 @@ pub record IsRestated (w v : World) (a : ℕ) (ratio : Fraction) (e : Event) (fr
 
 -- nothing is rounded where the event acts on a bar before others that come before it
 abbrev pub IsExactAt : World → ℕ → Fraction → Event → List Event → Column → ℤ → ℤ → Type 0
-IsExactAt w a ratio e front c s day = (bar : ℤ) (f : Fraction) → day_of w s ≡ Some bar → bar <ℤ e.day → factor c e.kind ratio ≡ Some f
+IsExactAt w a ratio e front c s day = (bar : ℤ) (f : Fraction) → day_of w s ≡ Some bar → bar <ℤ e.day → ratio_for c e.kind ratio ≡ Some f
     → AllDivide f (bar_cell w a c s) (effects_in c bar bar day front)
 
 -- From the day of the event on, each cell is seen alike in both worlds, and so is each window of bars, where
