@@ -105,7 +105,7 @@ def test_a_time_of_day_is_of_one_meaning(known):
     with pytest.raises(DataFault, match=r'numbers: .*2024-05-02.* of known has a time of day.*\nrow 2 of known; give after_close="numbers".* or the day alone'):
         read_known(column, "numbers", False)
     with pytest.raises(DataFault, match="has a time of day"):
-        read_known(pd.Series(pd.to_datetime(["2024-05-01", "2024-05-02 16:30"]).tz_localize("UTC"), name="known"), "numbers", False)
+        read_known(pd.Series([pd.Timestamp("2024-05-01", tz="UTC"), pd.Timestamp("2024-05-02 16:30", tz="UTC")], name="known"), "numbers", False)
     assert read_known(column[:2], "numbers", False).tolist() == ["2024-05-01", "2024-05-02"]
 
 
