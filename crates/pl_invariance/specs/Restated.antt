@@ -11,8 +11,8 @@ use Rattle.pl_spec.specs.World.Change.{Scale, Overwrite}
 use Rattle.pl_spec.specs.Window.{before, effects_in, seen_cell, bar_window}
 use Rattle.pl_invariance.specs.Exact.{AllDivide}
 
--- What a split 1/2 makes of earlier bars: half the price, twice the volume. A merger and a dividend leave the volume
--- as it is.
+-- What a split 1/2 makes of earlier bars: half the price, twice the volume. A merger and a dividend leave the
+-- volume as it is.
 abbrev pub ratio_for : Column → AdjustmentKind → Fraction → Option Fraction
 ratio_for Volume Merger r = None
 ratio_for Volume Dividend r = None
