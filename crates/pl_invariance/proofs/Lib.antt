@@ -8,4 +8,5 @@ pub mod Priced
 pub mod Compared
 pub mod Ranked
 pub mod Restated
+pub mod Restating
 pub mod Worked

@@ -5,7 +5,7 @@ ghost use Rattle.pl_invariance.specs.Compared.{ChangesHaveNoUnit};
 ghost use Rattle.pl_invariance.specs.Priced.{PricesHaveUnits};
 ghost use Rattle.pl_invariance.specs.Ranked.{RanksHaveNoUnit};
 ghost use Rattle.pl_invariance.specs.Renamed.{SidsAreNames};
-ghost use Rattle.pl_invariance.specs.Restated.{SplitsMayBeRestated};
+ghost use Rattle.pl_invariance.specs.Restated.{SplitsMayBeRestated, WorldsCanBeRestated};
 
 /// A number beside bars is the same whatever the bars, the adjustments and the labels are. It guards the way
 /// of a number to a value: nothing scales or masks it.
@@ -53,4 +53,9 @@ pub fn changes_have_no_unit()
 /// which know of values only which of two is the smaller.
 pub fn ranks_have_no_unit()
     ensures { RanksHaveNoUnit }
+{}
+
+/// Each world can be restated so, whichever of an asset's ratios is left out.
+pub fn worlds_can_be_restated()
+    ensures { WorldsCanBeRestated }
 {}
