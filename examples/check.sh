@@ -6,28 +6,35 @@
 # a page leaves its files. Blocks ```python are run too, and the tables of docs/LANGUAGE.md and docs/TERMS.md.
 # The examples of python/README.md and docs/ZIPLINE.md are run by python/check.sh.
 #
-# The program is crates/pl_main/out/pl_main, or the one that TOHMERIL names; without one this says so and ends
-# with 0. What needs a tool that is not there is left out, and the tool is named.
+# The program is crates/pl_main/out/pl_main, or the one that TOHMERIL names. Without a program, or a part that is
+# needed and that TOHMERIL_WITHOUT does not leave out (tools/parts.sh), this says so and ends with 3. The last line
+# is `examples: N passed, M failed`.
 set -u
 top=$(cd "$(dirname "${BASH_SOURCE[0]}")/.." && pwd)
+# shellcheck source=tools/parts.sh
+. "$top/tools/parts.sh"
 program=$(realpath -m "${TOHMERIL:-$top/crates/pl_main/out/pl_main}")
-[ -x "$program" ] || { echo "examples: not run, there is no program $program"; exit 0; }
-command -v sqlite3 > /dev/null || { echo "examples: not run, there is no sqlite3"; exit 0; }
+parts=(distributed git man matplotlib pandas parallel sqlite3)
+need_program examples "$program"
+need examples "${parts[@]}"
+if is_left_out sqlite3; then
+    tell_left_out examples sqlite3
+    echo "examples: 0 passed, 0 failed"
+    exit 0
+fi
 work=$(mktemp -d)
 trap 'rm -rf "$work"' EXIT
 mkdir "$work/bin" "$work/copy" "$work/home"
-passed=0 failed=0 lacking=()
+passed=0 failed=0
 
-# The tools as the pages call them: the program, and a Python that has pandas.
+# The tools as the pages call them: the program, and the Python that has pandas.
 ln -s "$program" "$work/bin/tohmeril"
-python=
-for each in python3 /usr/bin/python3; do
-    if [ -z "$python" ] && "$each" -c 'import pandas' 2> /dev/null; then
-        python=$(command -v "$each")
-        printf '#!/bin/sh\nexec %s "$@"\n' "$python" > "$work/bin/python3"
-        chmod +x "$work/bin/python3"
-    fi
-done
+python=$(realpath -s "$(command -v "$python")")
+! is_left_out pandas || python=
+if [ -n "$python" ]; then
+    printf '#!/bin/sh\nexec %q "$@"\n' "$python" > "$work/bin/python3"
+    chmod +x "$work/bin/python3"
+fi
 export PYTHONUSERBASE=${PYTHONUSERBASE:-${HOME:-/nowhere}/.local} HOME=$work/home
 export PATH=$work/bin:$PATH TOHMERIL=$program PYTHONDONTWRITEBYTECODE=1 PYTHONPATH=$work/copy/python TMPDIR=$work
 export MPLCONFIGDIR=$work DASK_CONFIG=$work DASK_TEMPORARY_DIRECTORY=$work
@@ -35,13 +42,11 @@ git_folder=$(git -C "$top" rev-parse --absolute-git-dir 2> /dev/null) && export 
 
 pass() { passed=$((passed + 1)); }
 fail() { failed=$((failed + 1)); echo "differs: $*"; }
-lack() { lacking+=("$1"); }
 holds() { # WHAT COMMAND..
     local what=$1
     shift
     if "$@" > /dev/null 2>&1; then pass; else fail "$what"; fi
 }
-has() { [ -n "$python" ] && "$python" -c "import $1" 2> /dev/null; }
 
 # A fresh copy of what the pages speak of, in which ./tohmeril is the built program.
 copy() {
@@ -84,16 +89,17 @@ same() {
     if cmp -s "$file" "$work/out"; then pass; else fail "$what" && diff "$file" "$work/out" | head -n 20; fi
 }
 
-# Runs a command of a page and compares what it prints. Where a tool is lacking, the rest of its block is left
-# out.
+# Runs a command of a page and compares what it prints. Where a part is left out, so is the rest of its block.
 run_command() {
     local status=0
     case $2 in
-        "cd "*) where=$(cd "$where" && eval "$2" && pwd) && return ;;
         python3*) [ -n "$python" ] || skipped=yes ;;
-        git*) [ -n "$git_folder" ] || return 0 ;;
+        git*) ! is_left_out git || return 0 ;;
     esac
     [ "$skipped" = no ] || return 0
+    case $2 in
+        "cd "*) where=$(cd "$where" && eval "$2" && pwd) && return ;;
+    esac
     (cd "$where" && eval "$2") > "$work/got" 2>&1 < /dev/null || status=$?
     if matches "$work/wanted" "$work/got" && { [ "$status" = 0 ] || [ -s "$work/wanted" ]; }; then
         pass
@@ -136,6 +142,7 @@ answers() {
     if [ "$(cat "$work/out")" = "$2" ]; then pass; else fail "docs/LANGUAGE.md: $2" && head -n 5 "$work/out"; fi
 }
 
+# shellcheck disable=SC2016  # backquotes of the pages
 # The tables of docs/LANGUAGE.md: texts with the place of their fault, and texts with their printed form.
 language() {
     local text answer line column fault
@@ -172,11 +179,8 @@ same_words() {
     holds "the options of docs/tohmeril.1" cmp "$work/options" "$work/got"
     sed -n 's/.*options="\(.*\)".*/\1/p' docs/tohmeril.bash | tr ' ' '\n' | sort -u > "$work/got"
     holds "the options of docs/tohmeril.bash" cmp "$work/options" "$work/got"
-    if command -v man > /dev/null; then
+    is_left_out man ||
         holds "the manual page has warnings" test -z "$(LC_ALL=C.UTF-8 man -l --warnings docs/tohmeril.1 2>&1 > /dev/null)"
-    else
-        lack man
-    fi
 }
 
 # Each file of a folder is the one beside it.
@@ -189,14 +193,13 @@ same_files() {
 
 # A job of each morning over the files of examples/first: its rows are those of one run.
 mornings() {
-    local day recipe=$PWD/examples/recipes first=$PWD/examples/first
+    local day recipe=$PWD/examples/recipes/morning.sh first=$PWD/examples/first
+    [ -n "$python" ] || return
     mkdir store news
     (sed 's/^pipeline 1/pipeline 3/' "$first/averages.pl"; echo 'column score = number("score");') > store/p.pl
     sqlite3 store/adjustments.db < examples/first/adjustments.sql
-    sqlite3 store/adjustments.db 'DELETE FROM splits'
     head -n 3 "$first/sessions.csv" > store/sessions.csv
-    head -n 1 "$first/bars.csv" > store/bars.csv
-    sed -n 2,3p "$first/bars.csv" >> store/bars.csv
+    printf '%s' "$(head -n 3 "$first/bars.csv")" > store/bars.csv # without the last line's end
     head -n 1 "$first/revisions.csv" > store/revisions.csv
     printf 'sid,start,end\n1,2024-01-02,2024-01-05\n' > store/assets.csv
     printf 'session,sid,latest,mean_3,score\n' > rows
@@ -205,29 +208,50 @@ mornings() {
         rm -rf news
         mkdir news
         (head -n 1 "$first/bars.csv"; grep ",$(tail -n 1 store/sessions.csv)," "$first/bars.csv") > news/bars.csv
-        if [ "$day" = 2024-01-05 ]; then
-            cp "$first/revisions.csv" news
-            head -n 2 numbers.csv > news/numbers.csv
-            printf 'date,num,den,sid\n2024-01-04,1,2,1\n' > news/splits.csv
-        fi
-        if [ "$day" = 2024-01-08 ]; then
-            cp "$first/assets.csv" news
-            sed 2d numbers.csv > news/numbers.csv
-        fi
-        "$recipe/morning.sh" store news "$day" 2>> said | tail -n +2 >> rows
-        "$recipe/morning.sh" store news "$day" > /dev/null 2>> said || fail "morning.sh: $day once more"
+        case $day in
+            2024-01-05)
+                cp "$first/revisions.csv" news
+                head -n 2 numbers.csv > news/numbers.csv
+                ;;
+            2024-01-08)
+                cp "$first/assets.csv" news
+                sed 2d numbers.csv > news/numbers.csv
+                printf 'date,num,den,sid\n2024-01-08,9,10,1\n' > news/mergers.csv
+                ;;
+            *) awk -F, -v OFS=, '{ print $7, $2, $1, $6, $3, $5, $4 }' news/bars.csv > other && mv other news/bars.csv ;;
+        esac
+        # two at once, one of which is ended wherever it is, and then once more
+        "$recipe" store news "$day" > /dev/null 2>> said &
+        (timeout -s KILL 0.7 "$recipe" store news "$day" > /dev/null) 2>> said
+        wait
+        "$recipe" store news "$day" 2>> said | tail -n +2 >> rows
     done
     same "morning.sh" rows "$program" run store/p.pl "$first/sessions.csv" "$first/assets.csv" "$first/bars.csv" 2024-01-05 2024-01-09 \
         --adjustments store/adjustments.db --revisions "$first/revisions.csv" --numbers numbers.csv
-    printf 'sid,start,end\n1,2024-01-02,2024-01-09\n' > news/assets.csv
-    rm -f news/bars.csv
-    "$recipe/morning.sh" store news 2024-01-10 2> said > /dev/null || fail "morning.sh: a day more"
-    holds "morning.sh: an end that is reached" grep 'no row from 2024-01-10 on: 1;' said
-    printf 'sid,session,open,high,low,close,volume\n7,2024-01-10,1,1,1,1,1\n' > news/bars.csv
-    cp store/bars.csv before.csv
-    holds "morning.sh: news with a fault" bash -c '! "$@"' - "$recipe/morning.sh" store news 2024-01-11
-    holds "morning.sh: news with a fault leave the store" cmp before.csv store/bars.csv
-    holds "morning.sh: a day before the last session" bash -c '! "$@"' - "$recipe/morning.sh" store news 2024-01-09
+    rm news/*
+    refused "no bars of 2024-01-09, the last session" store news 2024-01-10
+    "$recipe" store news 2024-01-10 --without-bars 2> said > /dev/null || fail "morning.sh: a day more"
+    holds "morning.sh: an end that is reached" grep 'no row on 2024-01-10: 1;' said
+    cp "$first/bars.csv" news
+    refused "no bars of 2024-01-10, the last session; there are those of 2024-01-09" store news 2024-01-11
+    printf 'sid,session,open,high,low,close,volume\n7,2024-01-10,1,1,1,1\n' > news/bars.csv
+    printf 'sid,start,end\n7,2024-01-09,2199-12-31\n' > news/assets.csv
+    refused "assets: 7 starts on 2024-01-09" store news 2024-01-11
+    rm news/assets.csv
+    refused "2024-01-13 is a Saturday" store news 2024-01-13
+    refused "2024-01-09 is no day after 2024-01-10" store news 2024-01-09
+    printf 'sid,open,high,low,close,volume\n7,1,1,1,1,1\n' > news/bars.csv
+    refused "bars: there is no column session" store news 2024-01-11
+}
+
+# refused SENTENCE WORD..: morning.sh with these words says so, ends with 4, and leaves the store as it was.
+refused() {
+    local sentence=$1 status=0 before
+    before=$(cd store && cat ./*.csv | cksum)
+    shift
+    examples/recipes/morning.sh "$@" > "$work/out" 2> "$work/err" || status=$?
+    holds "morning.sh: $sentence, status $status" test "$status" = 4 -a ! -s "$work/out" -a "$before" = "$(cd store && cat ./*.csv | cksum)"
+    holds "morning.sh: $sentence: $(cat "$work/err")" grep -q "$sentence" "$work/err"
 }
 
 # A range of the market, and what each way of running it in pieces has to give: whole.csv, or plain.csv without adjustments.
@@ -265,25 +289,23 @@ on_one_machine() {
 on_many_machines() {
     local recipes=$PWD/examples/recipes words
     make_range
-    if command -v parallel > /dev/null; then
+    if ! is_left_out parallel; then
         parallel -k -j4 --colsep ' ' tohmeril run p.pl sessions.csv assets.csv bars.csv '{1}' '{2}' < pieces 2> "$work/err" |
             awk 'NR == 1 { header = $0 } NR == 1 || $0 != header' > out.csv
         holds "parallel over the list of pieces" cmp plain.csv out.csv
-    else
-        lack parallel
     fi
+    # where no Slurm runs, its jobs are called one after the other, as it would call them
     if command -v sbatch > /dev/null && [ -n "$(sinfo -h -t idle,mix 2> /dev/null)" ]; then
         sbatch --wait --array=1-4 "$recipes/slurm.sh" > "$work/out" 2>&1 || fail "slurm.sh: $(cat "$work/out" piece-*.log)"
-        awk 'NR == 1 || FNR > 1' piece-{1..4}.csv > out.csv
-        holds "slurm.sh" cmp plain.csv out.csv
     else
-        lack "slurm (a running one)"
+        for job in 1 2 3 4; do
+            SLURM_ARRAY_TASK_ID=$job "$recipes/slurm.sh" || fail "slurm.sh: piece $job"
+        done
     fi
-    if has distributed; then
+    awk 'NR == 1 || FNR > 1' piece-{1..4}.csv > out.csv
+    holds "slurm.sh" cmp whole.csv out.csv
+    [ -z "$python" ] || is_left_out distributed ||
         same cluster.py whole.csv timeout 120 "$python" "$recipes/cluster.py" p.pl data 2023-01-03 2023-12-29
-    else
-        lack "python3-distributed"
-    fi
 }
 
 recipes() {
@@ -297,12 +319,9 @@ recipes() {
     [ -n "$python" ] || return
     printf 'day,AAA,BBB\n2024-01-02,10,20\n2024-01-03,11,\n' > close.csv
     try bars.py "$python" "$recipes/bars.py" made close.csv
+    sqlite3 examples/market/adjustments.db < examples/market/adjustments.sql
     try table.py "$python" "$recipes/table.py" examples/market/liquidity.pl examples/market 2023-12-01 2023-12-08
-    if has matplotlib; then
-        try picture.py "$python" "$recipes/picture.py" examples/market 2023-10-02 2023-11-30 5 .
-    else
-        lack python3-matplotlib
-    fi
+    is_left_out matplotlib || try picture.py "$python" "$recipes/picture.py" examples/market 2023-10-02 2023-11-30 5 .
 }
 
 for page in README.md $(cd "$top" && ls docs/*.md) examples/README.md; do
@@ -311,6 +330,7 @@ done
 copy
 language
 same_words
+try tools/pages "$top/tools/pages"
 try examples/terms/check.sh examples/terms/check.sh
 try examples/market/run.sh examples/market/run.sh
 if [ -n "$python" ]; then
@@ -319,13 +339,11 @@ if [ -n "$python" ]; then
     mkdir market vendor
     "$python" examples/market/make.py market && same_files market examples/market
     "$python" examples/vendor/make.py vendor && same_files vendor examples/vendor
-else
-    lack python3-pandas
 fi
 for part in recipes mornings on_one_machine on_many_machines; do
     copy
     $part
 done
-[ ${#lacking[@]} -eq 0 ] || printf 'examples: without %s, whose examples are left out\n' "${lacking[@]}"
+tell_left_out examples "${parts[@]}"
 echo "examples: $passed passed, $failed failed"
 [ "$failed" -eq 0 ]

@@ -1,23 +1,24 @@
 #!/usr/bin/env bash
 # The checks of the Python package: its tests, and the examples of its docstrings, of README.md and of docs/ZIPLINE.md.
-# The program is the one that TOHMERIL names, else the one built in crates/pl_main/out. Without pandas, pytest or a program it
-# says so and ends with status 0. It leaves nothing in the checkout.
+#
+# The program is the one that TOHMERIL names, else the one built in crates/pl_main/out. Without a program, or a part that the tests
+# need and TOHMERIL_WITHOUT does not leave out (tools/parts.sh), it says so and ends with status 3. A test that is skipped for any
+# other reason is a failure. The last line is `python: N passed, M failed`. It leaves nothing in the checkout.
 set -eu
 here=$(cd "$(dirname "${BASH_SOURCE[0]}")" && pwd)
-python=/usr/bin/python3
-export TOHMERIL=${TOHMERIL:-$here/../crates/pl_main/out/pl_main}
+top=$(dirname "$here")
+# shellcheck source=tools/parts.sh
+. "$top/tools/parts.sh"
+export TOHMERIL=${TOHMERIL:-$top/crates/pl_main/out/pl_main}
 export PYTHONDONTWRITEBYTECODE=1
-
-has() { "$python" -c "import $1" 2> /dev/null; }
-
-[ -x "$TOHMERIL" ] || { echo "python: not checked, there is no program $TOHMERIL"; exit 0; }
-for need in pandas pytest; do
-    has $need || { echo "python: not checked, there is no python3-$need"; exit 0; }
-done
-for more in distributed matplotlib tqdm; do
-    has $more || echo "python: without python3-$more, whose tests are skipped"
-done
-command -v dot > /dev/null || echo "python: without graphviz, whose tests are skipped"
+parts=(pandas pytest distributed graphviz matplotlib setuptools sqlite3 tqdm venv wheel)
+need_program python "$TOHMERIL"
+need python "${parts[@]}"
+if is_left_out pandas || is_left_out pytest; then
+    tell_left_out python pandas pytest
+    echo "python: 0 passed, 0 failed"
+    exit 0
+fi
 
 folder=$(mktemp -d)
 trap 'rm -rf "$folder"' EXIT
@@ -25,7 +26,22 @@ cd "$here"
 # all that the tests write, and what matplotlib and dask keep of their own, goes into the folder
 export TMPDIR=$folder MPLCONFIGDIR=$folder DASK_CONFIG=$folder DASK_TEMPORARY_DIRECTORY=$folder
 status=0
-timeout 900 "$python" -m pytest -q -p no:cacheprovider --basetemp "$folder/pytest" "$@" > "$folder/log" 2>&1 || status=$?
-[ $status = 0 ] || tail -n 200 "$folder/log"
-echo "python: $(tail -n 1 "$folder/log")"
-exit $status
+timeout 1800 "$python" -m pytest -q -rsfE -p no:cacheprovider --basetemp "$folder/pytest" "$@" > "$folder/log" 2>&1 || status=$?
+lines=1
+[ $status = 0 ] || lines=200
+tail -n $lines "$folder/log"
+
+# count WORD: how many tests the last line of pytest gives that word.
+count() {
+    tail -n 1 "$folder/log" | awk -v word="^$1" '{ for (i = 2; i <= NF; i++) if ($i ~ word) n = $(i - 1) } END { print n + 0 }'
+}
+
+failed=$(($(count failed) + $(count error)))
+if [ "$(count skipped)" != 0 ] && [ "$left_out" = ,, ]; then
+    grep '^SKIPPED' "$folder/log"
+    failed=$((failed + $(count skipped)))
+fi
+[ "$status" = 0 ] || [ "$failed" != 0 ] || failed=1
+tell_left_out python "${parts[@]}"
+echo "python: $(count passed) passed, $failed failed"
+[ "$failed" = 0 ]

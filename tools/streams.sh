@@ -3,11 +3,14 @@
 # /dev/full fails; where a file is not there or is a folder; and over database files, good and bad, which it never
 # changes. It prints a line for each case and how many passed, and ends with 1 where one failed.
 #
-# The program is crates/pl_main/out/pl_main, or the one that TOHMERIL names. Without one it says so and ends with 0.
+# The program is crates/pl_main/out/pl_main, or the one that TOHMERIL names. Without one it says so and ends with 3. The last
+# line is `N passed, M failed`.
 set -u
 top=$(cd "$(dirname "$0")/.." && pwd)
 program=$(realpath -m "${TOHMERIL:-$top/crates/pl_main/out/pl_main}")
-[ -x "$program" ] || { echo "streams: not tried, there is no program $program"; exit 0; }
+# shellcheck source=tools/parts.sh
+. "$top/tools/parts.sh"
+need_program streams "$program"
 folder=$(mktemp -d)
 trap 'rm -rf "$folder"' EXIT
 passed=0

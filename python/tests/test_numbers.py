@@ -121,12 +121,13 @@ def test_forms(numbers, records, tmp_path):
 @pytest.mark.parametrize("numbers, told", [
     (pd.concat([LONG, LONG]), r"numbers: earnings AAA 2024-01-02 is there twice, in the rows \[0, 0\], and so are 2 others"),
     ({"earnings": WIDE, Others.earnings: WIDE}, "numbers: earnings is there twice"),
-    ({"earnings": WIDE.iloc[[0, 0]]}, "numbers: earnings: 2023-11-01 00:00:00 is there twice"),
+    ({"earnings": WIDE.iloc[[0, 0]]}, "numbers: earnings: 2023-11-01 is there twice"),
     (LONG.assign(value=[1, 3.83e11, 1]), "numbers: earnings of BBB, known on 2024-01-03, is 383000000000; .*in thousands or millions\nrow 1"),
     (LONG.assign(value=[1, 1, -np.inf]), "earnings of AAA, known on 2024-01-04, is -inf"), (LONG.assign(name="EPS (basic)"), r"'EPS \(basic\)' is no name"),
-    (LONG.assign(name=["a", "let", None]), "'let' is no name; .*\nrow 1, and 1 others"), (LONG.assign(known=["1899-12-31", *LONG.known[1:]]), "is known on 1899-12-31"),
-    (LONG.assign(known=["2200-01-01", *LONG.known[1:]]), "earnings of AAA is known on 2200-01-01; days are of the years 1900 to 2199"),
-    (LONG.assign(known=20240502), "known has whole numbers in place of days"), ({"a": WIDE.reset_index(drop=True)}, "known has whole numbers in place of days"),
+    (LONG.assign(name=["a", "let", None]), "'let' is no name; .*\nrow 1, and 1 other$"), (LONG.assign(known=["1899-12-31", *LONG.known[1:]]), "numbers: '1899-12-31' is not of the years 1900 to 2199\nrow 0 of known$"),
+    (LONG.assign(known=["2200-01-01", *LONG.known[1:]]), "numbers: '2200-01-01' is not of the years"),
+    (LONG.assign(known=1714608000), r'numbers: 1714608000 is no day as YYYYMMDD\nrow 0 of known, and 2 others; .*unit="s"'),
+    ({"a": WIDE.reset_index(drop=True)}, "numbers: 0 is no day\nrow 0 of the index of a"),
     (LONG.assign(known=[None, *LONG.known[1:]]), "a day is missing in known"), (LONG.assign(asset="CCC"), "numbers: no asset has the symbol 'CCC'"),
     (LONG.drop(columns="known"), "numbers: there is no column known"), ({"a": WIDE.AAA}, "numbers: a is no frame"),
 ])

@@ -53,6 +53,46 @@ def test_turnover():
     assert list(line.get_ydata()) == [50, 50]
 
 
+def drawn(figure):
+    """The figure as it is drawn on a canvas."""
+    from matplotlib.backends.backend_agg import FigureCanvasAgg
+    FigureCanvasAgg(figure).draw()
+    return figure.axes[0]
+
+
+@pytest.mark.parametrize("sessions", [12, 60, 250, 400, 2500])
+def test_days_can_be_read(sessions):
+    """No two days under the axis cover one another, and the legend covers nothing of the picture."""
+    days = pd.bdate_range("2022-01-03", periods=sessions)
+    rows = pd.MultiIndex.from_product([days, [1, 2]], names=["session", "asset"])
+    frame = pd.DataFrame({"change": np.arange(len(rows)) % 7.0, "half": np.arange(len(rows)) % 2}, index=rows)
+    for axes in (drawn(plots.factor(frame, "change")), drawn(plots.turnover(frame, "half", sessions=5))):
+        boxes = [label.get_window_extent() for label in axes.get_xticklabels() if label.get_text()]
+        assert len(boxes) > 1 and all(one.x1 < other.x0 for one, other in zip(boxes, boxes[1:]))
+        legend = axes.get_legend()
+        assert legend is None or legend.get_window_extent().x0 > axes.get_window_extent().x1
+
+
+def test_titles_say_what_is_shown(frame):
+    assert plots.turnover(frame, "half", sessions=3).axes[0].get_title() == "turnover of the top bin of half, 1, within 3 sessions, percent"
+    assert plots.turnover(frame, "half").axes[0].get_title().endswith("within 1 session, percent")
+    assert plots.factor(frame, "change", [2]).axes[0].get_title() == "change of 1 of 2 assets, and where the middle half of all is"
+    below = plots.quantile_returns(frame, "half", "ahead", sessions=3).axes[0].get_xlabel()
+    assert below == "bin of half, from 0, the least values, to 1, the greatest\nmean of 5 sessions from 2024-01-05 to 2024-01-11"
+
+
+@pytest.mark.parametrize("call, sort, told", [
+    (lambda frame: plots.quantile_returns(frame, "change", "ahead", 3), TypeError, "'change' is a column of float64, and bins are whole numbers"),
+    (lambda frame: plots.turnover(frame, "price"), TypeError, "'price' is a column of float64"),
+    (lambda frame: plots.factor(frame, "changes"), KeyError, "no column 'changes'; there are change, half, ahead, price"),
+    (lambda frame: plots.factor(frame, "change", [7]), KeyError, "no asset 7; there are 1, 2"),
+    (lambda frame: plots.quantile_returns(frame.iloc[-2:], "half", "ahead", 3), ValueError, "no asset has both a bin of 'half' and a return"),
+])
+def test_what_cannot_be_shown(call, sort, told, frame):
+    with pytest.raises(sort, match=told):
+        call(frame)
+
+
 def test_a_picture_is_saved(frame, tmp_path):
     plots.turnover(frame, "half").savefig(tmp_path / "turnover.png")
     assert (tmp_path / "turnover.png").read_bytes().startswith(b"\x89PNG")

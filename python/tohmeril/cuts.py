@@ -14,7 +14,7 @@ from contextlib import closing, contextmanager
 from itertools import islice
 from pathlib import Path
 from tempfile import TemporaryDirectory
-from typing import Iterator, NamedTuple, Sequence, Union
+from typing import Container, Iterator, NamedTuple, Sequence, Union
 
 import numpy as np
 import pandas as pd
@@ -57,7 +57,7 @@ def cut_files(script: Script, data: Data, ranges: Sequence[tuple[str, str]], fol
         if "adjustments" in data.files:
             _adjustments(data.files["adjustments"], span)
     _bars(data, spans, pd.Index(assets.sid.unique()))
-    return [Data(span.folder) for span in spans]
+    return [_laid(span.folder, data.files) for span in spans]
 
 
 def of_whole(fault: DataFault, data: Data, piece: Data) -> DataFault:
@@ -81,7 +81,12 @@ def unpacked(data: Union[Data, dict[str, bytes]]) -> Iterator[Data]:
     with TemporaryDirectory() as folder:
         for part, content in data.items():
             Path(folder, FILES[part]).write_bytes(zlib.decompress(content))
-        yield Data(folder)
+        yield _laid(folder, data)
+
+
+def _laid(folder: Union[str, Path], parts: Container[str]) -> Data:
+    """The data of a piece, without adjustments where the whole has none."""
+    return Data(folder) if "adjustments" in parts else Data(folder, adjustments=None)
 
 
 def _table(data: Data, part: str) -> pd.DataFrame:

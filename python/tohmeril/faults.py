@@ -2,20 +2,27 @@
 from __future__ import annotations
 
 import csv
+import os
 import re
+import signal
 import sqlite3
 from contextlib import closing
 from itertools import islice
 from pathlib import Path
-from typing import Optional, Sequence
+from typing import TYPE_CHECKING, Callable, Optional, Sequence
 
-from .data import read_only, records
+from .data import TABLES, read_only, records
+
+if TYPE_CHECKING:
+    from .pipeline.script import Script
+    from .pipeline.term import Term
 
 CUT = "; run in pieces, or in more of them, with cut=True"
 HINTS = {  # by the last word of the line; docs/FILES.md and docs/LANGUAGE.md in short
     "BadByte": "a byte that no token can hold; texts are in double quotes",
     "Unexpected": "the text up to here begins no pipeline; give the name of a file as a Path",
     "UnknownName": "the language has no such name",
+    "usage": "the words above are of no command's form: an option is out of its range, or the program is older than this package",
     "WrongKind": "one of bar column, factor, filter, classifier, number and text is where another is asked for",
     "BadArgument": "an argument is missing, unknown, given twice, out of its range or none of its list",
     "BadWindow": "a window is from 1 to 1,260 sessions, or from 2 where its term compares two values",
@@ -33,7 +40,8 @@ HINTS = {  # by the last word of the line; docs/FILES.md and docs/LANGUAGE.md in
     "DuplicateSid": "keep one lifetime for an asset",
     "NotSession": "add the day to the sessions, or drop the record",
     "UnknownSid": "add the asset to the assets, or drop the record",
-    "Negative": "a bar has no values below 0; leave a missing one empty",
+    "Negative": "a bar has no values below 0; leave a missing one empty. In CRSP a minus says that the price is a mean of bid and ask: "
+                "give it without its sign",
     "Duplicate": "keep one of the two records",
     "LabelTooLong": "a label has at most 64 bytes",
     "DuplicateStart": "keep one label for an asset, a name and a day",
@@ -56,12 +64,29 @@ HINTS = {  # by the last word of the line; docs/FILES.md and docs/LANGUAGE.md in
     "file": "a file has at most 536,870,912 bytes" + CUT,
     "memory": "it ran out" + CUT,
 }
+ARGUMENTS = {  # what the arguments of a function or a member may be, for BadArgument
+    "rank": 'the method is "ordinal", "min", "max", "average" or "dense", the order "ascending" or "descending"',
+    "quantiles": "the number of bins is a whole one from 2 to 100",
+    **dict.fromkeys(("top", "bottom"), "N is a whole number from 1 to 8,000"),
+    "percentile_between": "percentiles are from 0 to 100, whole hundredths, the first no greater than the second",
+    "clip": "the first bound is no greater than the second",
+    "downsample": 'the frequency is "year_start", "quarter_start", "month_start" or "week_start"',
+    "AtLeastN": "N is a whole number from 1 to the window",
+    "ExponentialWeightedMovingAverage": "the decay rate is above 0 and below 1",
+    **dict.fromkeys(("BollingerLower", "BollingerUpper"), "k is above 0"),
+    "StaticSids": "sids are whole numbers from 0 to 4,294,967,295",
+    **dict.fromkeys(("label", "number"), "a name is a letter or _, and then letters, digits or _, at most 32 in all"),
+    "latest": "latest has no parentheses",
+}
 DATE, SID, DECIMAL = r"\d{4}-\d\d-\d\d", r"0|[1-9]\d{0,9}", r"-?\d+(\.\d{1,18})?"
 FORMS = {"sid": SID, **dict.fromkeys(("session", "start", "end", "known", "ex"), DATE), "column": "open|high|low|close|volume",
          "name": r"[A-Za-z_]\w{0,31}", "label": r"[ -~]{0,64}", "amount": DECIMAL,
          **dict.fromkeys(("open", "high", "low", "close", "volume", "value"), f"({DECIMAL})?")}
 WRONG = {"NotSession": "session", "UnknownSid": "sid", "DuplicateSid": "sid", "Duplicate": "session known", "StartAfterEnd": "start",
          "LabelTooLong": "label", "DuplicateStart": "start", "TooSoon": "known", "NotPositive": "amount", "BadEffective": "effective_date"}
+
+
+COLUMNS = ("id", "effective_date", "num", "den", "sid")  # of the tables of adjustments
 
 
 class Fault(Exception):
@@ -84,8 +109,12 @@ class Fault(Exception):
         self.line, self.note = line, note
 
     def __str__(self) -> str:
+        return "\n".join(filter(None, (self.line, self.note, self._hint())))
+
+    def _hint(self) -> str:
+        """How to mend it."""
         named = re.search(r"(?:^|(?:syntax|check|data|range:|limit:) )(\w+)$", self.line)
-        return "\n".join(filter(None, (self.line, self.note, named and HINTS.get(named[1]))))
+        return HINTS.get(named[1], "") if named else ""
 
 
 class UsageError(Fault, status=2):
@@ -101,21 +130,32 @@ class PipelineError(Fault, status=3):
         Line and column, from 1.
     term : Term or None
         The Python term that was written there.
+    word : str
+        The word of the text there, as the name of a function.
     """
-    term = None
+    term: Optional[Term] = None
+    word = ""
 
     @property
     def place(self) -> tuple[int, int]:
-        return tuple(map(int, re.search(r":(\d+):(\d+): (?:syntax|check) ", self.line).groups()))
+        found = re.search(r":(\d+):(\d+): (?:syntax|check) ", self.line)
+        assert found is not None, self.line  # the form of status 3
+        return int(found[1]), int(found[2])
 
-    def within(self, script) -> PipelineError:
+    def within(self, script: Script) -> PipelineError:
         """The same fault with its line of the text, a caret under the place, and the term."""
         line, column = self.place
         self.term = script.term_at(line, column)
         self.line = re.sub(r"^.*?(?=:\d+:\d+: )", "pipeline", self.line)
         text = dict(enumerate(script.text.splitlines(), 1)).get(line, "")
+        word = re.match(r"\w+", text[column - 1:])
+        self.word = word[0] if word else ""
         self.note = f"    {text}\n    {'^':>{column}}" + (f"\nin the term {self.term!r}" if self.term is not None else "")
         return self
+
+    def _hint(self) -> str:
+        hint = super()._hint()
+        return f"{self.word}: {ARGUMENTS[self.word]}; or {hint}" if self.line.endswith("BadArgument") and self.word in ARGUMENTS else hint
 
 
 class DataFault(Fault, status=4):
@@ -130,7 +170,10 @@ class DataFault(Fault, status=4):
     table : str or None
         The table of the row.
     """
-    path = rule = record = table = None
+    path: Optional[str] = None
+    rule: Optional[str] = None
+    record: Optional[int] = None
+    table: Optional[str] = None
 
     def __init__(self, line: str, note: str = ""):
         place = re.fullmatch(r"(.*?)(?::(splits|mergers|dividends))?:(\d+): data (\w+)", line)
@@ -146,32 +189,35 @@ class DataFault(Fault, status=4):
 
     def _shown(self) -> str:
         """The record or the row as it is, with a caret under the field that breaks the rule."""
+        assert self.path is not None and self.record is not None and self.rule is not None
         try:
-            names, fields = self._row() if self.table else self._record()
+            names, fields = _row(self.path, self.table, self.record) if self.table else _record(self.path, self.record)
         except (OSError, csv.Error, sqlite3.Error, StopIteration):
             return ""
-        breaks = {"BadField": lambda name, field: not re.fullmatch(FORMS.get(name, ".*"), field),
-                  "Negative": lambda name, field: field.startswith("-"),
-                  "BadRatio": lambda name, field: name in ("num", "den") and not 1 <= int(field) <= 10**9,
-                  }.get(self.rule, lambda name, field: name in WRONG.get(self.rule, "").split())
+        rules: dict[str, Callable[[str, str], object]] = {
+            "BadField": lambda name, field: not re.fullmatch(FORMS.get(name, ".*"), field),
+            "Negative": lambda name, field: field.startswith("-"),
+            "BadRatio": lambda name, field: name in ("num", "den") and not 1 <= int(field) <= 10**9}
+        breaks = rules.get(self.rule, lambda name, field: name in WRONG.get(self.rule or "", "").split())
         shown = f"    {'row' if self.table else 'record'} {self.record}: {','.join(fields)}"
         for at, (name, field) in enumerate(zip(names, fields)):
             if breaks(name, field):
                 return f"{shown}\n{'':{len(shown) - len(','.join(fields[at:]))}}{'^' * max(len(field), 1)} {name}"
         return shown
 
-    def _record(self) -> tuple[Sequence[str], Sequence[str]]:
-        """The header of a CSV file and one of its records."""
-        rows = records(self.path)
-        first = next(rows)
-        return first, first if self.record == 1 else next(islice(rows, self.record - 2, None))
 
-    def _row(self) -> tuple[Sequence[str], Sequence[str]]:
-        """The names and the fields of a row of the adjustments."""
-        names = "id", "effective_date", "num", "den", "sid"
-        with closing(sqlite3.connect(read_only(self.path), uri=True)) as store:
-            row = store.execute(f"SELECT {', '.join(names)} FROM {self.table} WHERE id = ?", (self.record,)).fetchone()
-            return names, [str(field) for field in row or ()]
+def _record(path: str, number: int) -> tuple[Sequence[str], Sequence[str]]:
+    """The header of a CSV file and one of its records."""
+    rows = records(path)
+    first = next(rows)
+    return first, first if number == 1 else next(islice(rows, number - 2, None))
+
+
+def _row(path: str, table: str, number: int) -> tuple[Sequence[str], Sequence[str]]:
+    """The names and the fields of a row of the adjustments."""
+    with closing(sqlite3.connect(read_only(path), uri=True)) as store:
+        row = store.execute(f"SELECT {', '.join(COLUMNS)} FROM {table} WHERE id = ?", (number,)).fetchone()
+        return COLUMNS, [str(field) for field in row or ()]
 
 
 class RangeFault(Fault, status=5):
@@ -188,7 +234,34 @@ class ReadFault(Fault, status=7):
 
 
 class StoreFault(Fault, status=8):
-    """The adjustments can't be loaded."""
+    """The adjustments can't be loaded; `note` says which table is why."""
+
+    def __init__(self, line: str, note: str = ""):
+        super().__init__(line, note or _broken(line.partition("store: ")[2]))
+
+
+def _broken(path: str) -> str:
+    """What is wrong with a database of adjustments."""
+    if not os.path.exists(path) or not os.path.getsize(path):
+        return "there is no such file, or it is empty" if path else ""
+    if os.path.exists(f"{path}-journal"):
+        return "a write of it was broken off, as the journal beside it says: open it once with sqlite3, which mends it"
+    table = ""
+    try:
+        with closing(sqlite3.connect(read_only(path), uri=True)) as store:
+            for table in TABLES:
+                there = {row[1] for row in store.execute(f"PRAGMA table_info({table})")}
+                lacking = [name for name in COLUMNS if name not in there]
+                if lacking:
+                    return f"the table {table} has no column {lacking[0]}" if there else f"there is no table {table}"
+                kinds = ", ".join(f"typeof({name})" for name in COLUMNS)
+                for row in store.execute(f"SELECT {', '.join(COLUMNS)}, {kinds} FROM {table}"):
+                    for name, value, kind in zip(COLUMNS, row, row[len(COLUMNS):]):
+                        if kind != "integer":
+                            return f"the table {table} has {value!r} as {name}, which has to be an INTEGER"
+    except sqlite3.Error as error:
+        return f"{table and f'the table {table}: '}{error}"
+    return ""
 
 
 class WriteFault(Fault, status=9):
@@ -206,4 +279,9 @@ def fault(status: int, line: str, note: str = "") -> Fault:
     LimitFault('limit: terms', '')
     """
     sort = {each.status: each for each in Fault.__subclasses__()}.get(status, Fault)
+    if status < 0:
+        name = signal.Signals(-status).name if -status in set(signal.Signals) else "a signal"
+        line = f"the program was ended by {name}, the signal {-status}"
+        note = note or ("as the system does where memory runs out, and jobs that are stopped: give less to one run, by pieces= and "
+                        "cut=True, or use fewer workers" if -status == signal.SIGKILL else "")
     return sort(line.strip() or f"the program ended with status {status}", note)

@@ -1,13 +1,16 @@
 """Zipline's Pipeline API, as far as the program's language says it."""
 from __future__ import annotations
 
-from typing import Mapping, Optional
+from typing import TYPE_CHECKING, Mapping, Optional
 
 from .classifiers import CustomClassifier
 from .factors import CustomFactor
 from .filters import CustomFilter
 from .script import Script, script
 from .term import BoundColumn, Classifier, Factor, Filter, Inexpressible, Term
+
+if TYPE_CHECKING:
+    from ..plans import Graph
 
 __all__ = ["Pipeline", "Term", "Factor", "Filter", "Classifier", "BoundColumn", "Inexpressible",
            "CustomFactor", "CustomFilter", "CustomClassifier"]
@@ -33,7 +36,7 @@ class Pipeline:
     screen AverageDollarVolume(30).top(15);
     """
 
-    def __init__(self, columns: Optional[Mapping[str, Term]] = None, screen: Optional[Filter] = None, domain=None):
+    def __init__(self, columns: Optional[Mapping[str, Term]] = None, screen: Optional[Filter] = None, domain: object = None):
         self._columns: dict[str, Term] = {}
         self._screen: Optional[Filter] = None
         for name, term in (columns or {}).items():
@@ -66,7 +69,8 @@ class Pipeline:
     def set_screen(self, screen: Filter, overwrite: bool = False) -> None:
         """Set the filter that says which assets are shown."""
         if not isinstance(screen, Filter):
-            raise TypeError(f"a screen is a filter, not {screen!r}")
+            equal = ": == says whether two terms are one; write .eq(..)" if isinstance(screen, bool) else ""
+            raise TypeError(f"a screen is a filter, not {screen!r}{equal}")
         if self._screen is not None and not overwrite:
             raise ValueError("set_screen() called with overwrite=False and screen already set.")
         self._screen = screen
@@ -75,10 +79,10 @@ class Pipeline:
         """The text of the pipeline, with what leads back from it."""
         return script(self._columns, self._screen)
 
-    def show_graph(self):
-        """The graph of its terms, which a notebook draws."""
+    def show_graph(self, format: str = "svg") -> Graph:
+        """The graph of its terms, which a notebook draws; see `tohmeril.show_graph`."""
         from ..plans import show_graph
-        return show_graph(self)
+        return show_graph(self, format)
 
     def __repr__(self) -> str:
         return self.script().text.rstrip()

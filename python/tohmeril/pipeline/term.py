@@ -17,18 +17,33 @@ True
 from __future__ import annotations
 
 import math
+import operator
+import warnings
 from decimal import ROUND_HALF_UP, Decimal
 from functools import partial, reduce
 from numbers import Real
-from typing import Callable, Iterable, Optional, Union
+from typing import Any, Callable, Iterable, Mapping, NoReturn, Optional, TypeVar, Union
 from weakref import WeakValueDictionary
 
 import numpy as np
 
 CALL, MEMBER, PROPERTY, INFIX, PREFIX, WORD, TEXT, ALIAS = "call", "member", "property", "infix", "prefix", "word", "text", "alias"
+OPERATORS: Mapping[str, Callable[..., Any]] = {  # Python's operators by numpy's names
+    "add": operator.add, "subtract": operator.sub, "multiply": operator.mul, "divide": operator.truediv, "true_divide": operator.truediv,
+    "negative": operator.neg, "absolute": operator.abs, "power": operator.pow, "remainder": operator.mod,
+    "floor_divide": operator.floordiv, "less": operator.lt, "less_equal": operator.le, "greater": operator.gt,
+    "greater_equal": operator.ge, "equal": operator.eq, "not_equal": operator.ne, "bitwise_and": operator.and_,
+    "logical_and": operator.and_, "bitwise_or": operator.or_, "logical_or": operator.or_, "invert": operator.invert,
+    "logical_not": operator.invert}
 GREATEST = Decimal(10) ** 11  # no cell has a greater magnitude
-Value = Union["Factor", float]
-Mask, Group = Optional["Filter"], Optional["Classifier"]
+Number = Union[int, float, Decimal]
+Value = Union["Factor", Number]
+Mask = Optional["Filter"]
+Group = Optional["Classifier"]
+
+
+Same = TypeVar("Same", bound="Term")
+Item = TypeVar("Item")
 
 
 class Inexpressible(NotImplementedError):
@@ -46,7 +61,12 @@ class Absent:
     def __init__(self, name: str, nearest: str):
         self.name, self.nearest = name, nearest
 
-    def __call__(self, *args, **kwargs):
+    @classmethod
+    def each(cls, names: str, nearest: str) -> list[Absent]:
+        """One for each of some names, which have one nearest thing."""
+        return [cls(name, nearest) for name in names.split()]
+
+    def __call__(self, *args: object, **kwargs: object) -> NoReturn:
         raise Inexpressible(f"the language has no {self.name}; nearest: {self.nearest}")
 
     __mro_entries__ = __call__  # as a base class
@@ -54,13 +74,25 @@ class Absent:
     def __repr__(self) -> str:
         return f"<no {self.name} in the language; nearest: {self.nearest}>"
 
-    def __getattr__(self, name):  # as EWMSTD.from_span
+    def __getattr__(self, name: str) -> Absent:  # as EWMSTD.from_span
         if name.startswith("_"):
             raise AttributeError(name)
         return self
 
 
-def number(value: Real) -> Decimal:
+class Elsewhere(Absent):
+    """A name of Zipline's for what is done in another way here."""
+
+    def __call__(self, *args: object, **kwargs: object) -> NoReturn:
+        raise Inexpressible(f"there is no {self.name} here: {self.nearest}")
+
+    __mro_entries__ = __call__
+
+    def __repr__(self) -> str:
+        return f"<no {self.name} here: {self.nearest}>"
+
+
+def number(value: Number) -> Decimal:
     """A number as the program reads it: whole millionths, rounded once, ties away from zero.
 
     >>> number(0.1), number(1.0000005), number(-3)
@@ -89,55 +121,73 @@ class Term:
     """What a pipeline is made of. `args` are terms, numbers and texts in the language's order, `options` its named arguments."""
 
     __slots__ = ("form", "name", "args", "options", "__weakref__")
-    __array_ufunc__ = None  # numbers of numpy leave the operators to the term
+    form: str
+    name: str
+    args: tuple[Union[Term, Decimal, str], ...]
+    options: tuple[tuple[str, Union[Term, str]], ...]
     sort = ""
-    _known: WeakValueDictionary = WeakValueDictionary()
+    _known: WeakValueDictionary[tuple[object, ...], Any] = WeakValueDictionary()
 
-    def __new__(cls, form: str, name: str, *args, **options):
+    def __new__(cls: type[Same], form: str, name: str, *args: Union[Term, Number, str], **options: Union[Term, str, None]) -> Same:
         given = tuple((key, value) for key, value in options.items() if value is not None)
         for key, value in given:
             wanted = {"mask": Filter, "groupby": Classifier}.get(key, object)
             if not isinstance(value, wanted):
-                raise TypeError(f"{key} of {name} has to be a {wanted.__name__.lower()}, and is {value!r}")
+                column = f": write {value!r}.latest" if getattr(value, "holds", "") == "labels" else ""
+                raise TypeError(f"{key} of {name} has to be a {wanted.__name__.lower()}, and is {value!r}{column}")
         parts = form, name, tuple(arg if isinstance(arg, (Term, str)) else number(arg) for arg in args), given
-        term = Term._known.get((cls, *parts))
-        if term is None:
-            term = super().__new__(cls)
-            for slot, part in zip(Term.__slots__, parts):
-                object.__setattr__(term, slot, part)
-            term = Term._known.setdefault((cls, *parts), term)
-        return term
+        known: Optional[Same] = Term._known.get((cls, *parts))
+        if known is not None:
+            return known
+        term = super().__new__(cls)
+        for slot, part in zip(Term.__slots__, parts):
+            object.__setattr__(term, slot, part)
+        found: Same = Term._known.setdefault((cls, *parts), term)
+        return found
 
     @property
     def terms(self) -> list[Term]:
         """The terms that this one is of, from left to right."""
         return [part for part in (*self.args, *(value for _, value in self.options)) if isinstance(part, Term)]
 
-    def alias(self, name: str):
+    def alias(self: Same, name: str) -> Same:
         """The same term, under this name in the text of the pipeline."""
         return type(self)(ALIAS, name, self)
 
-    def downsample(self, frequency: str):
+    def downsample(self: Same, frequency: str) -> Same:
         """Value on the first session of the year, quarter, month or week, kept through all of it, as it was seen then.
 
         `frequency` is "year_start", "quarter_start", "month_start" or "week_start"; weeks begin on Monday. Exact.
         """
         return type(self)(MEMBER, "downsample", self, frequency)
 
-    def __setattr__(self, name, value):
-        raise AttributeError("terms do not change")
+    def __setattr__(self, name: str, value: object) -> NoReturn:
+        safe = ", and window_safe does not either: a window can be over Returns, ranks, zscores and what docs/LANGUAGE.md, " \
+               "\"Windows over terms\", lists" if name == "window_safe" else ""
+        raise AttributeError(f"terms do not change{safe}")
 
-    def __reduce__(self):
+    def __array_ufunc__(self, ufunc: np.ufunc, method: str, *inputs: object, **options: object) -> Any:
+        """A function of numpy is the operator or the method of its name: ``np.log(y)`` is ``y.log()``."""
+        given = [each.item() if isinstance(each, (np.generic, np.ndarray)) and not each.ndim else each for each in inputs]
+        if method == "__call__" and not options and not any(isinstance(each, np.ndarray) for each in given):
+            if ufunc.__name__ in OPERATORS:
+                return OPERATORS[ufunc.__name__](*given)
+            if len(given) == 1:
+                absent = Absent(f"numpy.{ufunc.__name__}", "the methods and operators of a factor")
+                return (getattr(self, ufunc.__name__, absent) if isinstance(self, Factor) else getattr(self, ufunc.__name__))()
+        raise TypeError(f"numpy's {ufunc.__name__} takes no {self!r}: a pipeline is computed later, so that it has no values yet")
+
+    def __reduce__(self) -> tuple[Callable[[], Term], tuple[()]]:
         return partial(type(self), self.form, self.name, *self.args, **dict(self.options)), ()
 
     def __repr__(self) -> str:
         from .script import expression
         return expression(self)
 
-    def __bool__(self):
+    def __bool__(self) -> NoReturn:
         raise TypeError(f"{self!r} is true or false only in a table: join filters by & | ~, and compare twice for a < b < c")
 
-    def __eq__(self, other):
+    def __eq__(self, other: object) -> bool:
         if isinstance(other, (Real, str)):
             raise TypeError(f"== says whether two terms are one; write .eq({other!r}) for a filter")
         return self is other
@@ -145,17 +195,17 @@ class Term:
     __hash__ = object.__hash__
 
 
-def _infix(sign: str, doc: str, result: Optional[type] = None, turned: bool = False) -> Callable:
-    def operator(self, other):
+def _infix(sign: str, doc: str, result: Optional[type[Term]] = None, turned: bool = False) -> Callable[[Any, Any], Any]:
+    def infix(self: Factor, other: Value) -> Any:
         if not isinstance(other, (Factor, Real, Decimal)):
             return NotImplemented
         left, right = (other, self) if turned else (self, other)
         return (result or Factor)(INFIX, sign, factor(left), factor(right))
-    operator.__doc__ = doc
-    return operator
+    infix.__doc__ = doc
+    return infix
 
 
-def _arithmetic(sign: str, doc: str) -> tuple[Callable, Callable]:
+def _arithmetic(sign: str, doc: str) -> tuple[Callable[[Any, Any], Any], Callable[[Any, Any], Any]]:
     return _infix(sign, doc), _infix(sign, doc, turned=True)
 
 
@@ -169,7 +219,7 @@ class BoundColumn(Term):
         """Newest value, that of the session before, as today sees it. Missing where there is no bar. Exact."""
         return Factor(PROPERTY, "latest", self)
 
-    def __getattr__(self, name):
+    def __getattr__(self, name: str) -> NoReturn:
         raise AttributeError(f"{self!r} is a column of {self.holds} and has no {name}: write {self!r}.latest for its newest value")
 
 
@@ -182,7 +232,8 @@ class NumberColumn(BoundColumn):
     holds = "numbers"
     dtype = np.dtype("float64")
     missing_value = np.nan
-    alias = downsample = property()  # those of `latest`
+    alias: Any = property()  # that of `latest`, as the next one
+    downsample: Any = property()
 
     @property
     def latest(self) -> Factor:
@@ -192,7 +243,7 @@ class NumberColumn(BoundColumn):
     @property
     def qualname(self) -> str:
         """The names of the DataSet and of the attribute."""
-        return self.args[0]
+        return str(self.args[0])
 
     def __repr__(self) -> str:
         return self.qualname
@@ -248,7 +299,10 @@ class Factor(Term):
         """x * x * .., for a whole power from 1 to 32; ours rounds at each multiplication."""
         if power not in range(1, 33):
             Absent(f"** {power!r}", "a whole power from 1 to 32")()
-        return reduce(lambda product, _: product * self, range(power - 1), self)
+        product = self
+        for _ in range(power - 1):
+            product = product * self
+        return product
 
     def abs(self) -> Factor:
         """Magnitude. Exact."""
@@ -324,6 +378,9 @@ class Factor(Term):
 
         Percentiles are whole hundredths from 0 to 100. Edges are exact, where Zipline's are floats.
         """
+        if isinstance(max_percentile, Real) and max_percentile <= 1:
+            warnings.warn(f"percentile_between({min_percentile!r}, {max_percentile!r}) is the part of a hundredth of the values or less, since "
+                          f"percentiles are from 0 to 100: was ({100 * min_percentile:g}, {100 * max_percentile:g}) meant?", stacklevel=2)
         return Filter(MEMBER, "percentile_between", self, min_percentile, max_percentile, mask=mask)
 
 
@@ -339,7 +396,7 @@ class Classifier(Term):
             raise TypeError(f"{self!r} {sign} {other!r}: the labels are of type {self.label.__name__.lower()}")
         return Filter(INFIX, sign, self, other)
 
-    def __ne__(self, other: Union[str, int]) -> Filter:
+    def __ne__(self, other: Union[str, int]) -> Filter:  # type: ignore[override]
         """True where there is a label and it is another one."""
         return self.eq(other, "!=")
 
@@ -374,10 +431,10 @@ class Bins(Classifier):
 
     def element_of(self, choices: Iterable[int]) -> Filter:
         """True where the bin is one of `choices`."""
-        return either(lambda one: self.eq(*one), choices, 1)
+        return either(lambda one: self.eq(one[0]), choices, 1)
 
 
-def either(make: Callable, items: Iterable, size: int) -> Filter:
+def either(make: Callable[[list[Item]], Filter], items: Iterable[Item], size: int) -> Filter:
     """A filter of a list of any length, as filters of at most `size` items joined by |."""
     listed = list(dict.fromkeys(items))
     if not listed:
@@ -402,7 +459,8 @@ _ABSENT = {
     Text: {"matches has_substring": "startswith, endswith, element_of"},
     Term: {"__getitem__": "StaticSids(sids) as a mask, and the asset's rows of the table"},
 }
+_SIGNS = {"__getitem__": "y[asset]", "__mod__": "y % z", "__floordiv__": "y // z"}
 for _sort, _names in _ABSENT.items():
     for _each, _nearest in _names.items():
         for _name in _each.split():
-            setattr(_sort, _name, Absent(_name.strip("_"), _nearest))
+            setattr(_sort, _name, Absent(_SIGNS.get(_name, _name), _nearest))

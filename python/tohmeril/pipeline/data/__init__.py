@@ -1,6 +1,8 @@
 """What pipelines read: the columns of bars, numbers beside them, and the labels of assets."""
 from __future__ import annotations
 
+from typing import NoReturn
+
 from ..script import BARS
 from ..term import CALL, WORD, Absent, BoundColumn, Text
 from .dataset import Column, DataSet
@@ -20,13 +22,21 @@ USEquityPricing = EquityPricing
 
 class LabelColumn:
     """The labels of one name; `latest` is a classifier."""
+    holds = "labels"
 
     def __init__(self, name: str):
         self.name = name
 
     @property
     def latest(self) -> Text:
+        """The label that holds today."""
         return Text(CALL, "label", self.name)
+
+    def __getattr__(self, name: str) -> NoReturn:
+        raise AttributeError(f"{self!r} is a column of labels and has no {name}: write {self!r}.latest for the one that holds today")
+
+    def __repr__(self) -> str:
+        return f"Labels.{self.name}"
 
 
 class _Labels:

@@ -10,7 +10,7 @@ number("earnings")
 """
 from __future__ import annotations
 
-from typing import Optional
+from typing import Any, Optional
 
 import numpy as np
 from pandas.api.types import pandas_dtype
@@ -47,7 +47,7 @@ class Column:
     true or false as 1 and 0; Labels.NAME.latest for texts
     """
 
-    def __init__(self, dtype, missing_value: float = np.nan, doc: Optional[str] = None, *, name: Optional[str] = None):
+    def __init__(self, dtype: Any, missing_value: float = np.nan, doc: Optional[str] = None, *, name: Optional[str] = None):
         if pandas_dtype(dtype).kind != "f":
             Absent(f"Column({getattr(dtype, '__name__', dtype)})", "Column(float) for numbers, also whole ones, and true or false as 1 "
                    "and 0; Labels.NAME.latest for texts")()
@@ -74,9 +74,9 @@ class DataSet:
     ----------
     columns : frozenset of BoundColumn
     """
-    columns: frozenset = frozenset()
+    columns: frozenset[NumberColumn] = frozenset()
 
-    def __init_subclass__(cls):
+    def __init_subclass__(cls) -> None:
         for name, column in list(vars(cls).items()):
             if isinstance(column, Column):
                 setattr(cls, name, column.bind(cls.__name__, name))

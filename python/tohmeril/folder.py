@@ -1,0 +1,234 @@
+"""Folders that are whole or not there: each write makes a version beside the others, and one rename makes it the one that counts.
+
+    folder/versions/7/bars.csv, ..        all files of one version, which nobody changes any more
+    folder/versions/current -> 7          the version that counts
+    folder/bars.csv -> versions/current/bars.csv, ..    the plain names, for commands
+
+A writer brings all files of a new version to the disk before it renames a link of its own over `current`. That rename is one step of
+the file system: whoever reads `current` finds the old version or the new one, and each of them has all its files, wherever the writer
+is ended. `Data` reads `current` once and then names the files of that version alone, so that it sees one version from its first read
+to its last. It holds a shared lock on it for as long as it lives, and a writer removes no version that is held. Writers take turns.
+"""
+from __future__ import annotations
+
+import fcntl
+import os
+import shutil
+import sqlite3
+from contextlib import closing, contextmanager
+from pathlib import Path
+from typing import Iterator, Mapping, Optional, Sequence
+
+KEPT = 2  # versions that stay though nobody holds them: the current one and the one before
+
+
+class Held:
+    """A version that stays for as long as this lives."""
+
+    def __init__(self, path: Path):
+        self.path = path
+        self.lock = os.open(path / "lock", os.O_RDONLY)
+        try:
+            fcntl.flock(self.lock, fcntl.LOCK_SH)
+        except OSError:  # the file system has no locks, so that no writer can be there
+            pass
+
+    def is_there(self) -> bool:
+        """Whether the version was there when it was locked, and no writer had just removed it."""
+        try:
+            return os.path.samestat(os.fstat(self.lock), os.stat(self.path / "lock"))
+        except FileNotFoundError:
+            return False
+
+    def __del__(self):
+        if hasattr(self, "lock"):
+            os.close(self.lock)
+
+
+def current(folder: Path) -> Optional[Path]:
+    """The version that counts; None where the folder has plain files alone."""
+    try:
+        return folder / "versions" / os.readlink(folder / "versions/current")
+    except OSError:
+        return None
+
+
+def hold(folder: Path) -> Optional[Held]:
+    """The version that counts; None where the folder has plain files alone."""
+    while (path := current(folder)) is not None:
+        try:
+            held = Held(path)
+        except OSError:
+            if current(folder) == path:  # it is damaged, which those who read it then say
+                return None
+            continue
+        if held.is_there():
+            return held
+    return None
+
+
+def is_link(path: Path) -> bool:
+    """Whether a plain name leads to the version that counts."""
+    return path.is_symlink() and os.readlink(path) == f"versions/current/{path.name}"
+
+
+def is_plain(path: Path) -> bool:
+    """Whether a file is of no version, but was put into the folder by hand."""
+    return path.exists() and not is_link(path)
+
+
+def look(folder: Path, names: Mapping[str, str], needed: Sequence[str]) -> tuple[Optional[Held], dict[str, Path]]:
+    """The version that counts, and the files of parts by their names, all of it or of the folder itself.
+
+    Of the parts that are not needed those are left out that are not there.
+    """
+    while True:
+        before, held, files = current(folder), hold(folder), {}
+        for part, name in names.items():
+            path = held.path / name if held is not None and is_link(folder / name) else folder / name
+            if part in needed or path.exists():
+                files[part] = path
+        if before == current(folder):  # else a name may have been of the version that came meanwhile
+            return held, files
+
+
+def held_again(folder: Path, files: Mapping[str, Path]) -> Optional[Held]:
+    """The version of files that were looked up before, perhaps by another process, which holds it meanwhile."""
+    for path in files.values():
+        if path.parent.parent == folder / "versions":
+            try:
+                return Held(path.parent)
+            except OSError:
+                return None  # the folder is not seen here, which its readers then say
+    return None
+
+
+@contextmanager
+def writing(folder: Path, names: Sequence[str]) -> Iterator[Path]:
+    """A folder for the files of a new version, which counts once the block has ended without an exception.
+
+    Parameters
+    ----------
+    folder : Path
+    names : sequence of str
+        The files that a version may have. Plain ones in the folder become a version of their own before.
+    """
+    fresh, versions = not folder.exists(), folder / "versions"
+    try:
+        with _turn(versions):
+            new = _emptied(versions / "new")
+            try:
+                yield new
+                _take_in(folder, names)
+                _publish(folder, new, names)
+            finally:
+                shutil.rmtree(new, ignore_errors=True)
+            _tidy(versions)
+    finally:
+        if current(folder) is None:  # so that nothing is left of a first write that ended early
+            (versions / "lock").unlink(missing_ok=True)
+            for path in [versions, folder][:1 + fresh]:
+                if path.exists() and not any(path.iterdir()):
+                    path.rmdir()
+
+
+@contextmanager
+def _turn(versions: Path) -> Iterator[None]:
+    """One writer at a time; the next one waits."""
+    while True:
+        versions.mkdir(parents=True, exist_ok=True)
+        with open(versions / "lock", "a") as lock:
+            fcntl.flock(lock, fcntl.LOCK_EX)
+            if os.path.exists(lock.name) and os.path.samestat(os.fstat(lock.fileno()), os.stat(lock.name)):
+                yield
+                return  # else a first writer ended early and took it away
+
+
+def _take_in(folder: Path, names: Sequence[str]) -> None:
+    """Make a version of plain files. Their names become links, while what they lead to stays the same at each step."""
+    if not any(is_plain(folder / name) for name in names):
+        return
+    old = _emptied(folder / "versions/old")
+    for name in names:
+        source = folder / name
+        if source.with_name(f"{name}-wal").exists():  # a database whose newest rows are in its log
+            with closing(sqlite3.connect(source)) as store, closing(sqlite3.connect(old / name)) as copy:
+                store.backup(copy)
+        elif is_plain(source) and not source.is_symlink():
+            os.link(source, old / name)
+        elif source.exists():
+            shutil.copyfile(source, old / name)
+    _publish(folder, old, names)
+
+
+def _publish(folder: Path, new: Path, names: Sequence[str]) -> None:
+    """Bring a version to the disk, and let it count."""
+    versions = folder / "versions"
+    given = [name for name in names if (new / name).exists()]
+    (new / "lock").touch()
+    for path in [*new.iterdir(), new]:
+        _sync(path)
+    if (versions / "current").exists() and current(folder) is None:  # in a copy that followed the links
+        os.rename(versions / "current", versions / _next(versions))
+    version = versions / _next(versions)
+    os.rename(new, version)
+    for name in given:
+        if not is_plain(folder / name):
+            _link(versions, f"versions/current/{name}", folder / name)
+    _sync(versions)
+    _link(versions, version.name, versions / "current")
+    _sync(versions)
+    for name in names:
+        if name not in given and is_link(folder / name):
+            (folder / name).unlink()
+        elif name in given and not is_link(folder / name):
+            _link(versions, f"versions/current/{name}", folder / name)
+            for log in ("wal", "shm"):
+                (folder / f"{name}-{log}").unlink(missing_ok=True)
+    _sync(folder)
+
+
+def _link(versions: Path, target: str, path: Path) -> None:
+    """Make a link in place of what has its name, at once."""
+    (versions / "link").unlink(missing_ok=True)
+    (versions / "link").symlink_to(target)
+    os.replace(versions / "link", path)
+
+
+def _next(versions: Path) -> str:
+    return str(max(_numbers(versions), default=0) + 1)
+
+
+def _numbers(versions: Path) -> list[int]:
+    return sorted(int(path.name) for path in versions.iterdir() if path.name.isdigit())
+
+
+def _tidy(versions: Path) -> None:
+    """Remove the versions that nobody holds, but for the newest ones up to the current one."""
+    numbers = _numbers(versions)
+    newest = [number for number in numbers if number <= int(os.readlink(versions / "current"))][-KEPT:]
+    for number in {*numbers} - {*newest}:
+        try:
+            with open(versions / str(number) / "lock", "a") as lock:
+                fcntl.flock(lock, fcntl.LOCK_EX | fcntl.LOCK_NB)
+                os.rename(versions / str(number), _emptied(versions / "gone"))
+                shutil.rmtree(versions / "gone")
+        except BlockingIOError:
+            continue
+
+
+def _emptied(folder: Path) -> Path:
+    """A new folder in place of what a writer that was ended left."""
+    if folder.exists():
+        shutil.rmtree(folder)
+    folder.mkdir()
+    return folder
+
+
+def _sync(path: Path) -> None:
+    """Bring a file or a folder to the disk."""
+    file = os.open(path, os.O_RDONLY)
+    try:
+        os.fsync(file)
+    finally:
+        os.close(file)

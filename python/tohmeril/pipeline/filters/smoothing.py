@@ -1,0 +1,2 @@
+"""Zipline's module of this name."""
+from . import All, Any, AtLeastN  # noqa: F401

@@ -1,0 +1,2 @@
+"""Zipline's module of this name."""
+from . import DataFrameLoader  # noqa: F401
