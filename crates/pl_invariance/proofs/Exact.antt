@@ -12,11 +12,11 @@ use Rattle.pl_invariance.specs.Exact.{Divides, AllDivide}
 -- ---- whole numbers
 
 -- by cases on the number, since the negative of 0 is positive
-neg-times : (n b : ℕ) → (neg_ℤ (pos n) *ℤ pos b) ≡ neg_ℤ (pos (n * b))
+pub neg-times : (n b : ℕ) → (neg_ℤ (pos n) *ℤ pos b) ≡ neg_ℤ (pos (n * b))
 neg-times zero b = let none : 0 * b ≡ 0 = omega arith in rw none refl
 neg-times (suc n) b = refl
 
-turned : (x : ℤ) (a b : ℕ) → ((x *ℤ pos a) *ℤ pos b) ≡ ((x *ℤ pos b) *ℤ pos a)
+pub turned : (x : ℤ) (a b : ℕ) → ((x *ℤ pos a) *ℤ pos b) ≡ ((x *ℤ pos b) *ℤ pos a)
 turned (pos n) a b = let same : n * a * b ≡ n * b * a = omega arith in ap pos same
 turned (negsuc n) a b =
     let same : suc n * a * b ≡ suc n * b * a = omega arith in
@@ -25,7 +25,7 @@ turned (negsuc n) a b =
 same_factor : (m n c : ℕ) → 0 < c → m * c ≡ n * c → m ≡ n
 same_factor m n c some e = sym (mul-div_cancel m some) ∙ ap (λ k. k / c) e ∙ mul-div_cancel n some
 
-other_sign : (x y : ℕ) → 0 < y → pos x ≡ neg_ℤ (pos y) → ⊥
+pub other_sign : (x y : ℕ) → 0 < y → pos x ≡ neg_ℤ (pos y) → ⊥
 other_sign x zero some e = absurd (omega arith)
 other_sign x (suc y) some e = absurd (let bad : pos x ≡ negsuc y = e in cc)
 

@@ -5,5 +5,8 @@ pub mod Renamed
 pub mod Absent
 pub mod Exact
 pub mod Priced
+pub mod Compared
+pub mod Ranked
 pub mod Restated
+pub mod Restating
 pub mod Worked

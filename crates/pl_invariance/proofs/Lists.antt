@@ -69,3 +69,13 @@ picked-after {X} {Y} {Z} h k (x ∷ xs) = here (k x) (picked-after h k xs)
 pub each-below : (P : ℕ → Type 0) (size : ℕ) → ((n : ℕ) → n < size → P n) → Each P (downward size)
 each-below P zero h = tt
 each-below P (suc size) h = (h size (omega arith), each-below P size (λ n l. h n (omega arith)))
+
+-- ---- what is kept of two lists
+
+pub kept-both : {X : Type 0} (p : X → Bool) (xs ys : List X) → filter p (xs ++ ys) ≡ filter p xs ++ filter p ys
+kept-both p [] ys = refl
+kept-both {X} p (x ∷ xs) ys = here (p x) (kept-both p xs ys)
+  where
+    here : (b : Bool) → filter p (xs ++ ys) ≡ filter p xs ++ filter p ys → cond b (x ∷ filter p (xs ++ ys)) (filter p (xs ++ ys)) ≡ cond b (x ∷ filter p xs) (filter p xs) ++ filter p ys
+    here true e = ap (λ l. x ∷ l) e
+    here false e = e

@@ -1,5 +1,5 @@
--- Where the assets of two worlds are the same but for their sids, which stand in the same order, all values are
--- the same.
+-- Where the assets of two worlds are the same but for their sids, which stand in the same order, all values
+-- are the same.
 use Rattle.std.proofs.Common.{◌≡◌, ℕ, zero, suc, ◌-◌, ◌*◌, ◌<◌, ◌≤◌, ◌==◌, Bool, true, false, ◌&&◌, nat_lt, ℤ, pos, List, [], ◌∷◌, ◌++◌, map, filter, Option, Some, None, refl, sym, ◌∙◌, ap, arith, slice_get, count_by, inl, inr}
 use Rattle.std.specs.List.{list_any, flat_map, range_with_len}
 use Rattle.std.specs.Ordering.{int_eq}
@@ -35,8 +35,8 @@ use Rattle.pl_invariance.proofs.Lists.{any-map, count-map, maps, flat-map}
 abbrev pub Lives : World → ℕ → Type 0
 Lives w a = (d : ℤ) × (exists w a d ≡ true)
 
--- The worlds have the same sessions, and on each the same assets but for their sids. Of an asset that exists on
--- some session they show the same.
+-- The worlds have the same sessions, and on each the same assets but for their sids. Of an asset that exists
+-- on some session they show the same.
 pub record ShowTheSame (f : ℕ → ℕ) (w v : World) : Type 0 where
   pub days : v.days ≡ w.days
   pub living : (d : ℤ) → living_sids v d ≡ map f (living_sids w d)

@@ -1,5 +1,5 @@
 -- A ratio that is left out, with the bars before it restated, changes nothing that is seen from its day on.
-use Rattle.std.proofs.Common.{◌≡◌, ℕ, suc, ◌+◌, ◌<◌, Bool, true, false, ◌&&◌, if◌then◌else◌, ℤ, pos, negsuc, ◌<ℤ◌, ◌≤ℤ◌, List, [], ◌∷◌, ◌++◌, length, map, filter, filter_map, cond, Option, Some, None, option_map, AllPairs, refl, sym, ◌∙◌, ap, arith, length-append, slice_get}
+use Rattle.std.proofs.Common.{◌≡◌, ℕ, suc, ◌+◌, ◌<◌, Bool, true, false, ◌&&◌, if◌then◌else◌, ℤ, pos, negsuc, ◌<ℤ◌, ◌≤ℤ◌, List, [], ◌∷◌, ◌++◌, length, map, filter, filter_map, Option, Some, None, option_map, AllPairs, refl, sym, ◌∙◌, ap, arith, length-append, slice_get}
 use Rattle.std.specs.List.{cons_option}
 use Rattle.std.specs.Int.RustNames.{int_lt}
 use Rattle.std.specs.Ordering.{int_eq}
@@ -23,18 +23,10 @@ use Rattle.pl_spec.proofs.Lists.{filter-map}
 use Rattle.pl_spec.proofs.Signed.{lt-int_lt, le-int_le}
 use Rattle.pl_invariance.specs.Exact.{AllDivide}
 use Rattle.pl_invariance.specs.Restated.{ratio_for, times, restated_change, restated_event, restated_cell, IsRestated, IsExactAt, SplitsMayBeRestated}
-use Rattle.pl_invariance.proofs.Lists.{picked-map, picked-after, each-below}
+use Rattle.pl_invariance.proofs.Lists.{kept-both, picked-map, picked-after, each-below}
 use Rattle.pl_invariance.proofs.Exact.{after_ratio, first_or_last}
 
 -- ---- lists
-
-kept-both : {X : Type 0} (p : X → Bool) (xs ys : List X) → filter p (xs ++ ys) ≡ filter p xs ++ filter p ys
-kept-both p [] ys = refl
-kept-both {X} p (x ∷ xs) ys = here (p x) (kept-both p xs ys)
-  where
-    here : (b : Bool) → filter p (xs ++ ys) ≡ filter p xs ++ filter p ys → cond b (x ∷ filter p (xs ++ ys)) (filter p (xs ++ ys)) ≡ cond b (x ∷ filter p xs) (filter p xs) ++ filter p ys
-    here true e = ap (λ l. x ∷ l) e
-    here false e = e
 
 after-both : (x : ℤ) (fs gs : List Effect) → after_all x (fs ++ gs) ≡ after_all (after_all x fs) gs
 after-both x [] gs = refl

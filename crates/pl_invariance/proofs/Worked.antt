@@ -1,7 +1,9 @@
 -- Worked rows of the laws, each computed from the definitions.
 use Rattle.std.specs.Prelude.{◌≡◌, ℕ, ◌+◌, ◌-◌, ◌*◌, pos, refl, codes, List, [], ◌∷◌, map}
 use Rattle.pl_spec.specs.declared.Column.TheVariants.{Close, Volume}
-use Rattle.pl_spec.specs.Rounding.{Fraction}
+use Rattle.pl_spec.specs.Rounding.{Fraction, scaled}
+use Rattle.pl_pipeline.specs.declared.WindowKind.TheVariants.{Returns}
+use Rattle.pl_pipeline.specs.Formula.{formula}
 use Rattle.pl_spec.specs.World.{World}
 use Rattle.pl_spec.specs.Window.{bar_window}
 use Rattle.pl_pipeline.specs.declared.RankMethod.TheVariants as method
@@ -100,3 +102,21 @@ windows_in_cents = refl
 volumes_in_cents : bar_window (priced_world cents split) Volume 3 1 (pos 3) ≡ units 20 ∷ units 20 ∷ units 10 ∷ []
 unfolding opened
 volumes_in_cents = refl
+
+-- the change from 50 to 51 is 2 percent in both units
+returns_in_dollars : formula Returns (units 50 ∷ units 51 ∷ []) [] [] ≡ pos 20000
+unfolding opened
+returns_in_dollars = refl
+
+returns_in_cents : formula Returns (map (scaled cents) (units 50 ∷ units 51 ∷ [])) [] [] ≡ pos 20000
+unfolding opened
+returns_in_cents = refl
+
+ranks_in_cents : ranks (priced_world cents three_bars) (1 ∷ 2 ∷ 3 ∷ []) ≡ Number (units 2) ∷ Number (units 1) ∷ Number (units 3) ∷ []
+unfolding opened
+ranks_in_cents = refl
+
+-- a ratio that rounds makes equal what was not
+rounded_away : map (scaled (record { num = 1; den = 1000000 })) (pos 100000 ∷ pos 200000 ∷ []) ≡ pos 0 ∷ pos 0 ∷ []
+unfolding opened
+rounded_away = refl

@@ -4,4 +4,6 @@ pub mod Renamed
 pub mod Absent
 pub mod Exact
 pub mod Priced
+pub mod Compared
+pub mod Ranked
 pub mod Restated

@@ -30,8 +30,8 @@ priced_world r w = record w {
   adjustments = map (λ (x : Adjustment). record x { event = priced_event r x.event }) w.adjustments;
 }
 
--- Where nothing is rounded, a price that is seen is that of the world times the ratio, and so is each price of a
--- window. Volumes stay.
+-- Where nothing is rounded, a price that is seen is that of the world times the ratio, and so is each price
+-- of a window. Volumes stay.
 pub record PricesHaveUnits : Type 0 where
   pub cells : (r : Fraction) (w : World) (a : ℕ) (c : Column) → is_price c ≡ true → (s d : ℤ)
       → AllDivide r (bar_cell w a c s) (effects w a c s d)
