@@ -203,7 +203,7 @@ def test_a_time_of_day_is_of_one_meaning(known):
         read_known(column, "numbers", False)
     with pytest.raises(DataFault, match="has a time of day"):
         read_known(
-            pd.Series(pd.to_datetime(["2024-05-01", "2024-05-02 16:30"]).tz_localize("UTC"), name="known"),
+            pd.Series([pd.Timestamp("2024-05-01", tz="UTC"), pd.Timestamp("2024-05-02 16:30", tz="UTC")], name="known"),
             "numbers",
             False,
         )

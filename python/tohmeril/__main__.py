@@ -15,7 +15,7 @@ import pandas as pd
 
 from . import version
 from .data import Data
-from .days import read_day
+from .days import NoDay, read_day
 from .faults import DataFault, Fault
 from .frames import Frame, select_columns
 
@@ -59,11 +59,15 @@ def read(path: Path) -> Frame:
 def append(store: Path, news: Path, today: str, without_bars: bool, late: bool, weekend: bool) -> Optional[Data]:
     """Add the news, where TODAY is none of the sessions yet."""
     data = Data(store)
+    try:
+        today = read_day(today)
+    except NoDay as error:
+        raise DataFault(f"append: {error.why}", error.instead) from None
     if today == data.sessions[-1]:
         print(f"append: {today} is the last session already, so nothing is added", file=sys.stderr)
         return None
-    if read_day(today) != today or today < data.sessions[-1]:
-        raise DataFault(f"append: {today} is no day after {data.sessions[-1]}, the last session", "give it as 2024-05-02")
+    if today < data.sessions[-1]:
+        raise DataFault(f"append: {today} is no day after {data.sessions[-1]}, the last session")
     name = pd.Timestamp(today).day_name()
     if name in ("Saturday", "Sunday") and not weekend and all(pd.Timestamp(day).day_name() != name for day in data.sessions):
         raise DataFault(f"append: {today} is a {name}, and no session is one", "where there is trade on it, say so by --weekend")

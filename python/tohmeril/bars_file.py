@@ -7,6 +7,7 @@ from __future__ import annotations
 
 import os
 from contextlib import contextmanager, nullcontext
+from functools import lru_cache
 from pathlib import Path
 from typing import BinaryIO, Callable, ContextManager, Iterable, Iterator, Mapping, NamedTuple, Optional, Union
 
@@ -145,8 +146,7 @@ class Bars:
     def _sorted(self) -> Batch:
         """The batch in memory by asset and day; its days are noted."""
         records = self.records[:self.filled]
-        key = records["asset"].astype("i8") << 32
-        key += records["day"] + np.int64(1 << 31)
+        key = _keys(records["asset"], records["day"])
         order = np.argsort(key, kind="stable")
         key = key[order]
         starts = np.searchsorted(key, np.arange(len(self.numbers) + 1, dtype="i8") << 32)
@@ -182,8 +182,8 @@ class Bars:
         """
         written, doubled, first = 0, 0, np.empty(0, RECORD)
         with progress_bar(progress, "bars written", self.rows) as bar:
-            for records in self._groups(sids):
-                same = (np.diff(sids[records["asset"]]) == 0) & (np.diff(records["day"]) == 0)
+            for records, keys in self._groups(sids):
+                same = keys[1:] == keys[:-1]
                 begins = np.flatnonzero(same & ~np.append(False, same[:-1]))
                 if len(begins) and not doubled:
                     first = records[begins[0]:begins[0] + 1 + int(np.append(same[begins[0]:], False).argmin())]
@@ -202,10 +202,11 @@ class Bars:
             raise DataFault(f"bars: {told}{rows}{and_others(doubled - 1, verb=True)}")
         return written
 
-    def _groups(self, sids: np.ndarray) -> Iterator[np.ndarray]:
-        """All bars by sid and day, those of some assets at a time."""
+    def _groups(self, sids: np.ndarray) -> Iterator[tuple[np.ndarray, np.ndarray]]:
+        """All bars by sid and day, those of some assets at a time, with numbers that are in this order."""
         if not len(sids):
             return
+        places = np.unique(sids, return_inverse=True)[1]
         assets = np.argsort(sids, kind="stable")
         counts = sum(np.diff(batch.starts) for batch in self.batches)[assets]
         new = np.append(True, np.diff(sids[assets]) > 0)  # two symbols of one sid stay together
@@ -216,13 +217,22 @@ class Bars:
             breaks = [0, *(np.flatnonzero(np.diff(group) != 1) + 1), len(group)]
             ranges = [(group[a], group[b - 1] + 1) for a, b in zip(breaks, breaks[1:])]
             records = np.concatenate([batch.read(batch.starts[a], batch.starts[b]) for batch in self.batches for a, b in ranges])
-            yield records[np.lexsort((records["day"], sids[records["asset"]]))]
+            keys = _keys(places[records["asset"]], records["day"])
+            if (keys[1:] < keys[:-1]).any():
+                order = np.argsort(keys, kind="stable")
+                records, keys = records[order], keys[order]
+            yield records, keys
 
     def close(self) -> None:
         """Remove the batches."""
         if self.file is not None:
             self.file.close()
             self.path.unlink()
+
+
+def _keys(assets: np.ndarray, days: np.ndarray) -> np.ndarray:
+    """Numbers in the order of assets and days."""
+    return (assets.astype("i8") << 32) + (days + np.int64(1 << 31))
 
 
 @contextmanager
@@ -337,8 +347,7 @@ def lines(sids: np.ndarray, days: np.ndarray, cells: np.ndarray) -> bytes:
         row[f"{name} sign"] = b","
     table = np.repeat(row, len(sids))
     _digits(sids, table["sid"])
-    names = np.arange(days.min(), days.max() + 1).astype("datetime64[D]").astype("S10")
-    table["day"] = np.char.add(b",", names)[days - days.min()]
+    table["day"] = _day_texts(int(days.min()), int(days.max()))[days - days.min()]
     for name, whole, fraction, none, cell in zip(BARS, wholes, fractions, missing, cells):
         high = fraction // 10_000
         _digits(whole, table[f"{name} whole"])
@@ -350,6 +359,12 @@ def lines(sids: np.ndarray, days: np.ndarray, cells: np.ndarray) -> bytes:
         if minus.any():
             table[f"{name} sign"][minus] = b",-"
     return table.tobytes().translate(None, b"\0")
+
+
+@lru_cache(8)
+def _day_texts(first: int, last: int) -> np.ndarray:
+    """The days from one to another after a comma, since most blocks have the same ones."""
+    return np.char.add(b",", np.arange(first, last + 1).astype("datetime64[D]").astype("S10"))
 
 
 def _digits(numbers: np.ndarray, found: np.ndarray) -> None:

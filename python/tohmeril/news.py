@@ -19,7 +19,7 @@ from .data import FILES, HEADERS, NEEDED, SECONDS, TABLES, Data, read_only
 from .days import Day, read_day
 from .faults import DataFault, LimitFault, ReadFault, StoreFault
 from .folder import writing
-from .frames import FOREVER, Frame, Sids, late_parts, require_unique, select_columns
+from .frames import FOREVER, Frame, Sids, and_others, late_parts, require_unique, select_columns
 from .ingest import add_adjustments, adjustments, beside_bars, calendar, of_parts, write_records
 from .odd import PROBE
 from .pipeline.script import BARS
@@ -94,7 +94,7 @@ def append(folder: Union[str, Path], bars: Optional[AnyBars] = None, *, sessions
                 added[part] = _add(store, new, part, parts.get(part), days)
         added.update(_add_adjustments(store, new, given, sids))
         _judge(new)
-        _warn(store, lives, found, own, days)
+        _warn(store, sids, lives, found, own, days)
     data = Data(folder)
     data.added = {part: count for part, count in added.items() if count}
     return data
@@ -149,7 +149,7 @@ def _refuse_bars(store: Store, found: Bars, sids: np.ndarray) -> None:
     there = _sids_on(store.data.files["bars"], store.last) if again else set()
     twice = [found.assets[at] for at in again if int(sids[at]) in there]
     if twice:
-        raise DataFault(f"bars: that of {twice[0]} on {store.last} is there already" + (f", and so are {len(twice) - 1} others" if twice[1:] else ""),
+        raise DataFault(f"bars: that of {twice[0]} on {store.last} is there already{and_others(len(twice) - 1, verb=True)}",
                         "give what is new alone, and a corrected bar as a revision that is known later")
 
 
@@ -192,7 +192,7 @@ def _lives(store: Store, found: Bars, own: np.ndarray, early: list[Frame], sids:
             for name, old, day in (("starts", before[0], start), ("ends", before[1], end)):
                 if day != old and min(day, old) < store.last:
                     was = f" and not on {old}" if sid in store.lives.index else ""
-                    raise DataFault(f"assets: {sid} {name} on {day}{was}, while rows of sessions up to {store.last} were shown otherwise",
+                    raise DataFault(f"assets: {_name(sids, sid)} {name} on {day}{was}, while rows of sessions up to {store.last} were shown otherwise",
                                     "an asset starts on the last session or later, and its end is changed before it is reached")
             if (start, end) != before:
                 lives[int(sid)] = (start, end)
@@ -212,7 +212,7 @@ def _beside(store: Store, sids: Sids, days: list[str], labels, revisions, number
         wrong = files[part][files[part][name] <= store.last] if part in files else ()
         if len(wrong):
             record, verb = wrong.iloc[0], "starts" if name == "start" else "is known"
-            raise DataFault(f"{part}: a record of {record.sid} {verb} on {record[name]}, and rows up to {store.last}, the last session, were "
+            raise DataFault(f"{part}: a record of {_name(sids, record.sid)} {verb} on {record[name]}, and rows up to {store.last}, the last session, were "
                             "shown without it", f"give the day from which on it was known here, which is later; there are {len(wrong)} such")
     if "symbols" in files:
         there = set(store.data.symbols)
@@ -271,13 +271,13 @@ def _add_adjustments(store: Store, new: Path, given: Mapping[str, Optional[Frame
             rows = added.execute(f"SELECT sid, effective_date FROM {table} WHERE id > ? ORDER BY effective_date", (before,)).fetchall()
             counts[table] = len(rows)
             if rows and as_text(rows[0][1] // SECONDS) <= store.last:
-                raise DataFault(f"{table}: that of {rows[0][0]} is effective on {as_text(rows[0][1] // SECONDS)}, and rows up to {store.last}, "
+                raise DataFault(f"{table}: that of {_name(sids, rows[0][0])} is effective on {as_text(rows[0][1] // SECONDS)}, and rows up to {store.last}, "
                                 "the last session, were shown without it", "a later day is the first on which it can act here")
             same = "" if table == "splits" else " AND a.num = b.num AND a.den = b.den"
             twice = added.execute(f"SELECT a.sid, a.effective_date FROM {table} a JOIN {table} b ON a.sid = b.sid AND a.id < b.id AND b.id > ? "
                                   f"AND a.effective_date / {SECONDS} = b.effective_date / {SECONDS}{same}", (before,)).fetchone()
             if twice:
-                raise DataFault(f"{table}: that of {twice[0]} on {as_text(twice[1] // SECONDS)} is there already", "give what is new alone")
+                raise DataFault(f"{table}: that of {_name(sids, twice[0])} on {as_text(twice[1] // SECONDS)} is there already", "give what is new alone")
     return counts
 
 
@@ -291,25 +291,29 @@ def _judge(new: Path) -> None:
         pass
 
 
-def _warn(store: Store, lives: Frame, found: Bars, sids: np.ndarray, days: list[str]) -> None:
+def _warn(store: Store, sids: Sids, lives: Frame, found: Bars, own: np.ndarray, days: list[str]) -> None:
     """Warn of assets whose end is reached, and of bars of those that have ended."""
     ends = store.lives["end"].to_dict()
     ends.update(zip(lives.sid, lives.end))
-    reached = [sid for sid, end in ends.items() if days and store.last <= end < days[-1]]
+    reached = [_name(sids, sid) for sid, end in ends.items() if days and store.last <= end < days[-1]]
     if reached:
         warnings.warn(f"the end of these assets is reached, so that they have no row on {days[-1]}: {_some(reached)}; give those that still "
                       "trade a later end on the day before", stacklevel=4)
-    gone = [int(sid) for sid, last in zip(sids, found.last) if ends[int(sid)] < store.last and as_text(max(last, 0)) > ends[int(sid)]]
+    gone = [_name(sids, sid) for sid, last in zip(own, found.last) if ends[int(sid)] < store.last and as_text(max(last, 0)) > ends[int(sid)]]
     if gone:
         warnings.warn(f"these assets have bars after their end, and no rows: {_some(gone)}; rows up to {store.last} were shown without them, "
                       "so that only a new asset can go on", stacklevel=4)
 
 
-def _some(sids: Sequence[int]) -> str:
+def _name(sids: Sids, sid: int) -> str:
+    """The symbol of an asset, or its sid."""
+    return next((symbol for symbol, own in (sids.known or {}).items() if own == sid), str(sid))
+
+
+def _some(names: Sequence[str]) -> str:
     """The first ones of many.
 
-    >>> _some([1, 2, 3, 4, 5, 6, 7])
-    '1, 2, 3, 4, 5 and 2 others'
+    >>> _some("abcdefg")
+    'a, b, c, d, e and 2 others'
     """
-    more = len(sids) - LISTED
-    return ", ".join(map(str, sids[:LISTED])) + (f" and {more} other{'s' if more > 1 else ''}" if more > 0 else "")
+    return ", ".join(names[:LISTED]) + and_others(max(len(names) - LISTED, 0)).replace(", and", " and")
