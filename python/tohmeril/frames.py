@@ -265,7 +265,7 @@ def by_day(frame: Any, part: str, name: Any, read: Callable[[pd.Series, str], pd
     """A wide frame with its days as `read` gives them, each once."""
     if not isinstance(frame, pd.DataFrame):
         raise DataFault(f"{part}: {name} is no frame", "one has a row for each day and a column for each asset")
-    days = read(pd.Series(frame.index, name=f"the index of {name}"), part)
+    days = read(pd.Series(frame.index, dtype=frame.index.dtype, name=f"the index of {name}"), part)
     require_unique(Frame({"day": days}), ["day"], f"{part}: {name}")
     return frame.set_axis(days.to_numpy(), axis=0)
 
@@ -295,8 +295,8 @@ def refuse_versions(columns: Iterable[Any]) -> None:
     if versions:
         raise DataFault(
             f"bars: beside the prices there is {versions[0]!r}, another version of them",
-            f"keep the prices that were quoted on their day, as by frame.drop(columns={versions}); tohmeril.vendors has "
-            "readers for vendors whose closes are adjusted",
+            f"keep the prices that were quoted on their day, as by frame.drop(columns={versions}); "
+            "tohmeril.vendors has readers for vendors whose closes are adjusted",
         )
     events = [name for name, letters in plain.items() if EVENTS.search(letters)]
     if events:
@@ -415,8 +415,9 @@ def warn_of_periods(found: Frame) -> None:
         warnings.warn(
             f"{len(early)} of {len(found)} numbers are known by the last day of the period that they are of, as "
             f"{first['name']} of {first.sid} on {first.known}, of the period to {first.end}. So pipelines see them "
-            "before anybody could: vendors often give the period's end in place of the day of publication. Give the "
-            "latter as known, or the period's end and the longest time that publication takes, as pd.Timedelta(days=90)",
+            "before anybody could: vendors often give the period's end in place of the day of publication. Give "
+            "the latter as known, or the period's end and the longest time that publication takes, as "
+            "pd.Timedelta(days=90)",
             stacklevel=5,
         )
 

@@ -433,7 +433,7 @@ def _later_splits(rows: Frame, splits: Frame, same_day: bool = False) -> pd.Seri
 
 def _of_symbols(prices: Frame, symbol: Optional[str], what: str) -> Frame:
     """A frame by day, of one symbol or with a level of symbols in its columns, as rows with small letters as names."""
-    days = read_days(pd.Series(prices.index, name="the index"), what).to_numpy()
+    days = read_days(pd.Series(prices.index, dtype=prices.index.dtype, name="the index"), what).to_numpy()
     if prices.columns.nlevels == 1:
         return (
             prices.rename(columns=lambda name: str(name).lower())
