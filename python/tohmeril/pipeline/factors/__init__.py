@@ -304,14 +304,8 @@ class MovingAverageConvergenceDivergenceSignal(Windowed):
     params = {"fast_period": 12, "slow_period": 26, "signal_period": 9}
 
     @classmethod
-    def term(
-        cls,
-        inputs: Inputs,
-        window: int,
-        mask: Mask,
-        fast_period: int,
-        slow_period: int,  # type: ignore[override]
-        signal_period: int,
+    def term(  # type: ignore[override]
+        cls, inputs: Inputs, window: int, mask: Mask, fast_period: int, slow_period: int, signal_period: int
     ) -> Any:
         def means(period: int) -> Any:  # the weights of an exponential mean, newest first
             weights = (1 - 2 / (1 + period)) ** np.arange(period)
