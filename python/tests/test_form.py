@@ -1,19 +1,17 @@
 """The form of the package: types, layout, and what docstrings say."""
 import inspect
-import os
 import re
 import subprocess
 import sys
 from pathlib import Path
 
 import pytest
-from conftest import CHECKOUT
+from conftest import CHECKOUT, LEFT_OUT
 
 import tohmeril
 from tohmeril import plots
 from tohmeril.odd import check as check_data
 
-LEFT_OUT = os.environ.get("TOHMERIL_WITHOUT", "").split(",")
 PYTHON = CHECKOUT / "python"
 
 
