@@ -1,0 +1,1 @@
+-- The cut of a world shows what the whole shows.

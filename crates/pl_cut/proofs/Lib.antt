@@ -1,0 +1,5 @@
+pub mod Rows
+pub mod OneAsset
+pub mod Values
+pub mod Tables
+pub mod Cuts

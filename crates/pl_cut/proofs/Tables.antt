@@ -1,0 +1,1 @@
+-- Worlds that show the same from a session to another have the same tables there.

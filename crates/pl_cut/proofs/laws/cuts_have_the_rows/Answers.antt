@@ -1,0 +1,4 @@
+use Rattle.pl_cut.proofs.laws.cuts_have_the_rows.Goals as goal
+
+pub returns : goal.returns
+returns c = ?

@@ -1,0 +1,18 @@
+//! The laws of cut worlds.
+ghost use Rattle.pl_cut.specs.Laws.{AgreeingWorldsShareTables, CutsAgree, CutsHaveTheRows};
+
+/// Worlds that show the same from a session to another have the same rows on every range whose terms reach no
+/// farther back, and these are written alike.
+pub fn agreeing_worlds_share_tables()
+    ensures { AgreeingWorldsShareTables }
+{}
+
+/// The cut of a world is a world, and shows what the whole shows.
+pub fn cuts_agree()
+    ensures { CutsAgree }
+{}
+
+/// Over the cut of a world a range has the rows of the whole, and these are written alike.
+pub fn cuts_have_the_rows()
+    ensures { CutsHaveTheRows }
+{}
