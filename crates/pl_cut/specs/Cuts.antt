@@ -53,7 +53,7 @@ is_number_in rows span r =
 -- a revision is of a bar that is read; ratios act on each bar before their day
 abbrev pub is_change_in : Span → Change → Bool
 is_change_in span (Scale ratio) = true
-is_change_in span (Overwrite bar_day column value) = int_le span.first_day bar_day && int_lt bar_day span.last_day
+is_change_in span (Overwrite bar_day _ _) = int_le span.first_day bar_day && int_lt bar_day span.last_day
 
 -- what is effective by the first day acts on no bar that is read
 abbrev pub is_event_in : Span → Event → Bool
