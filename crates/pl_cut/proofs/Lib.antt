@@ -1,4 +1,5 @@
 pub mod Rows
+pub mod Newest
 pub mod OneAsset
 pub mod Values
 pub mod Tables

@@ -66,3 +66,9 @@ any-kept p q (x ∷ xs) h = here (q x) (any-kept p q xs) h
 pub any-map : {X Y : Type 0} (p : Y → Bool) (f : X → Y) (xs : List X) → list_any p (map f xs) ≡ list_any (λ x. p (f x)) xs
 any-map p f [] = refl
 any-map p f (x ∷ xs) = ap (λ b. p (f x) || b) (any-map p f xs)
+
+-- tests are equal where one holds exactly if the other does
+pub equal_tests : (a b : Bool) → (a ≡ true → b ≡ true) → (b ≡ true → a ≡ true) → a ≡ b
+equal_tests true b h k = sym (h refl)
+equal_tests false true h k = k refl
+equal_tests false false h k = refl
