@@ -1,5 +1,5 @@
 -- The cut of a world shows what the whole shows.
-use Rattle.std.proofs.Common.{◌≡◌, ℕ, Bool, true, false, ◌&&◌, ◌<◌, ◌≤◌, ◌==◌, nat_le, nat_lt, ℤ, pos, negsuc, ◌<ℤ◌, ◌≤ℤ◌, List, [], map, filter, filter_map, find, AllPairs, Option, Some, None, option_map, option_and_then, unwrap_or, refl, sym, ◌∙◌, ap, arith}
+use Rattle.std.proofs.Common.{◌≡◌, ℕ, true, false, ◌&&◌, ◌<◌, ◌==◌, nat_le, nat_lt, ℤ, pos, negsuc, ◌<ℤ◌, ◌≤ℤ◌, List, [], map, filter, Option, Some, None, option_map, option_and_then, unwrap_or, refl, sym, ◌∙◌, ap, arith}
 use Rattle.std.specs.List.{list_any}
 use Rattle.std.specs.Int.RustNames.{int_le, int_lt}
 use Rattle.std.specs.Ordering.{int_eq}
@@ -8,19 +8,18 @@ use Rattle.std.proofs.lemmas.Bool.Decides.{nat_tests}
 use Rattle.std.proofs.lemmas.Int.{ints}
 use Rattle.std.proofs.lemmas.List.Kept.{AllPairs-filter}
 use Rattle.pl_spec.specs.declared.AssetRow.{AssetRow}
-use Rattle.pl_spec.specs.declared.AdjustmentKind.{AdjustmentKind}
 use Rattle.pl_spec.specs.declared.Column.{Column}
-use Rattle.pl_spec.specs.Numbers.{NumberRow, number_at, last_known, is_number_of}
+use Rattle.pl_spec.specs.Numbers.{NumberRow, number_at}
 use Rattle.pl_spec.specs.Rounding.{MISSING}
-use Rattle.pl_spec.specs.Window.{Effect, same_column, change_effect, effect, is_between, effects_in, effects_from, effects, after_all, seen_cell}
+use Rattle.pl_spec.specs.Window.{change_effect, effect, is_between, effects_in, effects_from, effects, after_all, seen_cell}
 use Rattle.pl_spec.specs.World.{World, IsWorld, LabelRow, Bar, Change, Event, Adjustment, events_of, day_of, lives_on, living_sids, exists, cell_of, bar_cell, last_started, nonempty, is_label_of, label_at, known_number}
 use Rattle.pl_spec.specs.World.Change.{Scale, Overwrite}
 use Rattle.pl_spec.proofs.Lists.{filter-filter, filter-map}
 use Rattle.pl_laws.proofs.Alike.{day_of-days}
 use Rattle.pl_laws.proofs.Law.{day_by}
-use Rattle.pl_cut.specs.Cuts.{Span, IsSpan, lives_in, is_of, is_bar_in, is_label_in, is_number_in, is_change_in, is_event_in, cut}
+use Rattle.pl_cut.specs.Cuts.{Span, IsSpan, lives_in, is_of, is_bar_in, is_change_in, is_event_in, cut}
 use Rattle.pl_cut.specs.Within.{AgreeWithin}
-use Rattle.pl_cut.specs.Laws.{CutsAgree, CutsHaveTheRows, AgreeingWorldsShareTables}
+use Rattle.pl_cut.specs.Laws.{CutsAgree, CutsHaveTheRows}
 use Rattle.pl_cut.proofs.Rows.{filter-by, find-kept, answers-kept, any-kept, any-map}
 use Rattle.pl_cut.proofs.Newest.{newest_same}
 use Rattle.pl_cut.proofs.Tables.{share_tables}

@@ -4,3 +4,4 @@ pub mod OneAsset
 pub mod Values
 pub mod Tables
 pub mod Cuts
+pub mod Worked

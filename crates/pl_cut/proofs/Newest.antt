@@ -99,11 +99,11 @@ module _ {X : Type 0} (name_of : X → List ℕ) (sid_of : X → ℕ) (since : X
         (or_right (int_lt first (since r)) (is_newest r)
         (contains-all (λ q. int_le (since q) (since r)) (filter (is_row_of (name_of r) (sid_of r) first) rows)
         (λ q there.
-            let place = filter-contains (is_row_of (name_of r) (sid_of r) first) rows q there in
-            let its : IsRowOf (name_of r) (sid_of r) first q = row-parts (name_of r) (sid_of r) first q place.1 in
-            let early : since q ≤ℤ first = its.begun in
-            let test : is_row_of name a day q ≡ true = row-whole name a day q (its.same_name ∙ own.same_name) (its.same_sid ∙ own.same_sid) (omega (arith, ints)) in
-            le-int_le (since q) (since r) (most q (contains-filter (is_row_of name a day) rows q place.0 test) early))))
+        let place = filter-contains (is_row_of (name_of r) (sid_of r) first) rows q there in
+        let its : IsRowOf (name_of r) (sid_of r) first q = row-parts (name_of r) (sid_of r) first q place.1 in
+        let early : since q ≤ℤ first = its.begun in
+        let test : is_row_of name a day q ≡ true = row-whole name a day q (its.same_name ∙ own.same_name) (its.same_sid ∙ own.same_sid) (omega (arith, ints)) in
+        le-int_le (since q) (since r) (most q (contains-filter (is_row_of name a day) rows q place.0 test) early))))
 
     older : (r : X) → Contains mine r → is_kept r ≡ true → since r ≤ℤ first → (q : X) → Contains mine q → since q ≤ℤ first → since q ≤ℤ since r
     older r here e early q there before =

@@ -1,12 +1,11 @@
 -- Lists from which rows are left out that do not count.
-use Rattle.std.proofs.Common.{◌≡◌, Bool, true, false, ◌&&◌, ◌||◌, cond, inl, inr, ℤ, List, [], ◌∷◌, map, filter, filter_map, find, Option, Some, None, refl, sym, ◌∙◌, ap}
+use Rattle.std.proofs.Common.{◌≡◌, Bool, true, false, ◌&&◌, ◌||◌, cond, inl, inr, List, [], ◌∷◌, map, filter, filter_map, find, Option, Some, None, refl, sym, ◌∙◌, ap}
 use Rattle.std.specs.Prelude.{Contains}
-use Rattle.std.specs.List.{list_any, list_all, cons_option}
-use Rattle.std.specs.Int.RustNames.{int_le}
+use Rattle.std.specs.List.{list_any, cons_option}
 use Rattle.std.proofs.Math.Path.{fun_ext}
 use Rattle.std.proofs.lemmas.Bool.{true≢false, or_cases, or_left, or_right}
 use Rattle.pl_spec.proofs.Lists.{filter-twice}
-use Rattle.pl_spec.proofs.Finds.{contains-front, contains-behind, contains-filter, filter-contains, all-contains, contains-all}
+use Rattle.pl_spec.proofs.Finds.{contains-front, contains-behind}
 
 -- ---- filters
 

@@ -7,10 +7,9 @@ use Rattle.std.proofs.lemmas.Int.{ints}
 use Rattle.pl_spec.specs.declared.Format.{Format}
 use Rattle.pl_spec.specs.Dates.{date_text}
 use Rattle.pl_spec.specs.Lines.{line_text}
-use Rattle.pl_spec.specs.World.{World, IsWorld, living_sids}
+use Rattle.pl_spec.specs.World.{World, living_sids}
 use Rattle.pl_spec.proofs.Each.{Each, each_more, each_all, each_in_map, each_in_flat, map_each}
 use Rattle.pl_pipeline.specs.Graph.{reach}
-use Rattle.pl_pipeline.specs.Lows.{least_reach}
 use Rattle.pl_pipeline.specs.Table.{NamedColumn, Pipeline, Row, value_of, is_kept, kept_sids, table_row, session_rows, table}
 use Rattle.pl_pipeline.specs.Term.{term_at}
 use Rattle.pl_pipeline.specs.Text.{header, row_fields, row_line, text}

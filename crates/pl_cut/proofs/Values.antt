@@ -1,18 +1,16 @@
 -- Worlds that show the same from a session to another have the same values there.
-use Rattle.std.proofs.Common.{◌≡◌, ℕ, zero, suc, ◌<◌, ◌≤◌, Bool, true, false, ◌&&◌, ◌==◌, cond, ℤ, pos, ◌≤ℤ◌, List, [], ◌∷◌, map, refl, sym, ◌∙◌, ap, arith}
+use Rattle.std.proofs.Common.{◌≡◌, ℕ, suc, ◌≤◌, Bool, true, false, ◌&&◌, ◌==◌, cond, ℤ, pos, ◌≤ℤ◌, List, refl, ◌∙◌, ap, arith}
 use Rattle.std.specs.List.{list_any}
 use Rattle.std.proofs.lemmas.Int.{ints}
 use Rattle.std.proofs.lemmas.Bool.{and_parts}
 use Rattle.pl_spec.specs.World.{World, exists}
-use Rattle.pl_spec.specs.Window.{before, downward}
+use Rattle.pl_spec.specs.Window.{before}
 use Rattle.pl_spec.proofs.Windows.{map-downward, before-zero, before-less}
 use Rattle.pl_pipeline.specs.Graph.{part_reach, reads_at, reach}
-use Rattle.pl_pipeline.specs.Kind.{Kind}
-use Rattle.pl_pipeline.specs.Kind.Kind.{Window}
 use Rattle.pl_pipeline.specs.Reaching.{HasWindows}
 use Rattle.pl_pipeline.specs.Term.{Term}
 use Rattle.pl_pipeline.specs.Term.Term.{absent, column, node}
-use Rattle.pl_pipeline.specs.Value.{Value, Meaning, part_of, number_of, operands_of, window_of, passes, kind_value, empty, sort_over, sort_kind, value}
+use Rattle.pl_pipeline.specs.Value.{Meaning, part_of, number_of, operands_of, window_of, passes, kind_value, empty, sort_over, sort_kind, value}
 use Rattle.pl_pipeline.proofs.SameOperands.{Alike, passes_alike}
 use Rattle.pl_laws.proofs.Reaches.{below_least, at_downward}
 use Rattle.pl_laws.proofs.Lows.{reaches_of, reads_at-within}
