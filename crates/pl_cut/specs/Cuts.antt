@@ -35,7 +35,8 @@ is_bar_in span b = nat_le span.first b.session && nat_lt b.session span.last
 
 -- of the rows of its name and asset none that has started by the day starts later
 abbrev pub is_newest_label : List LabelRow → ℤ → LabelRow → Bool
-is_newest_label rows day r = list_all (λ q. int_le q.start r.start) (filter (is_label_of r.name r.sid day) rows)
+is_newest_label rows day r =
+    list_all (λ q. int_le q.start r.start) (filter (is_label_of r.name r.sid day) rows)
 
 -- the row starts within the span, or is the newest that has started by its first day
 abbrev pub is_label_in : List LabelRow → Span → LabelRow → Bool
@@ -44,7 +45,8 @@ is_label_in rows span r =
 
 -- of the rows of its name and asset none that was known by the day was known later
 abbrev pub is_newest_number : List NumberRow → ℤ → NumberRow → Bool
-is_newest_number rows day r = list_all (λ q. int_le q.known r.known) (filter (is_number_of r.name r.sid day) rows)
+is_newest_number rows day r =
+    list_all (λ q. int_le q.known r.known) (filter (is_number_of r.name r.sid day) rows)
 
 abbrev pub is_number_in : List NumberRow → Span → NumberRow → Bool
 is_number_in rows span r =

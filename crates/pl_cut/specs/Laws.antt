@@ -27,13 +27,15 @@ pub record HaveOneTable (w v : World) (p : Pipeline) (from to : ℕ) : Type 0 wh
 -- farther back, for every sid, and one table of each range whose outputs reach no farther back.
 pub record AgreeingWorldsShareTables : Type 0 where
   pub values : (w v : World) → IsWorld w → (first last : ℤ) → AgreeWithin w v first last
-      → (names : List (List ℕ)) (t : Term) → HasWindows t → (a : ℕ) (d : ℤ) → first ≤ℤ reach w.days t d → d ≤ℤ last
+      → (names : List (List ℕ)) (t : Term) → HasWindows t → (a : ℕ) (d : ℤ)
+      → first ≤ℤ reach w.days t d → d ≤ℤ last
       → value w names t a d ≡ value v names t a d
   pub tables : (w v : World) → IsWorld w → (first last : ℤ) → AgreeWithin w v first last
       → (p : Pipeline) → IsChecked p → (from to : ℕ) → ReachesFrom w.days p from first → pos to ≤ℤ last
       → HaveOneTable w v p from to
 
--- the cut of a world is a world, and shows from the first session of the span to the last what the whole shows
+-- the cut of a world is a world, and shows from the first session of the span to the last what the whole
+-- shows
 abbrev pub CutsAgree : Type 0
 CutsAgree = (w : World) (span : Span) → IsWorld w → IsSpan w.days span
     → IsWorld (cut w span) × AgreeWithin w (cut w span) (pos span.first) (pos span.last)
@@ -42,5 +44,6 @@ CutsAgree = (w : World) (span : Span) → IsWorld w → IsSpan w.days span
 -- the table of the whole
 abbrev pub CutsHaveTheRows : Type 0
 CutsHaveTheRows = (w : World) (span : Span) → IsWorld w → IsSpan w.days span
-    → (p : Pipeline) → IsChecked p → (from to : ℕ) → ReachesFrom w.days p from (pos span.first) → to ≤ span.last
+    → (p : Pipeline) → IsChecked p → (from to : ℕ)
+    → ReachesFrom w.days p from (pos span.first) → to ≤ span.last
     → HaveOneTable w (cut w span) p from to
