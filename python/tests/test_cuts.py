@@ -43,8 +43,9 @@ def drawn(draw: random.Random) -> dict[str, list[tuple]]:
         "numbers": [(*row, draw.choice([1, 2.5, ""])) for row in since if row[0] == "earnings"],
         "bars": bars,
         "revisions": [(sid, day, column, draw.choice([7, ""]), known) for sid, day, column, known in sorted(revised)],
-        **{table: [(at, number_of(draw.choice(DAYS)) * SECONDS + draw.randrange(SECONDS),
-                    *draw.choices(range(1, 4), k=2), draw.choice([*SIDS, 99])) for at in range(12)] for table in TABLES},
+        **{table: [(at, number_of(draw.choice(DAYS)) * SECONDS + draw.choice([0, 50_000, SECONDS - 1]),
+                    *draw.choices(range(1, 4), k=2), draw.choice([*SIDS, 99])) for at in range(12)]
+           for table in TABLES},
     }
     for part in rows.keys() - {"sessions", *TABLES}:
         draw.shuffle(rows[part])
@@ -128,8 +129,11 @@ def reading():
     mean = SimpleMovingAverage([EquityPricing.close], window_length=3)
     return Pipeline({
         "mean": mean, "place": Returns(window_length=2).rank(groupby=sector), "earned": earned, "sector": sector,
-        "old": close.downsample("week_start"), "often": All([earned > 1], window_length=2), "peers": sector.peer_count(),
-        "places": SimpleMovingAverage([mean.rank()], window_length=2), "money": EquityPricing.volume.latest.demean()})
+        "old": close.downsample("week_start"), "often": All([earned > 1], window_length=2),
+        "peers": sector.peer_count(),
+        "places": SimpleMovingAverage([mean.rank()], window_length=2),
+        "money": EquityPricing.volume.latest.demean(),
+    })
 
 
 @pytest.mark.parametrize("seed", range(12))
