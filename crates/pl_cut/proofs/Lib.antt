@@ -4,4 +4,5 @@ pub mod OneAsset
 pub mod Values
 pub mod Tables
 pub mod Cuts
+pub mod Absent
 pub mod Worked

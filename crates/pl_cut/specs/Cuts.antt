@@ -1,5 +1,5 @@
 -- The cut of a world: the part of its rows that is read for a range of sessions.
-use Rattle.std.specs.Prelude.{◌≡◌, ℕ, Bool, true, ◌&&◌, ◌||◌, ◌==◌, nat_le, nat_lt, ℤ, List, filter, Some, slice_get}
+use Rattle.std.specs.Prelude.{◌≡◌, ℕ, Bool, true, not, ◌&&◌, ◌||◌, ◌==◌, nat_le, nat_lt, ℤ, List, filter, Some, slice_get}
 use Rattle.std.specs.List.{list_any, list_all}
 use Rattle.std.specs.Int.RustNames.{int_lt, int_le}
 use Rattle.pl_spec.specs.declared.AssetRow.{AssetRow}
@@ -73,4 +73,17 @@ cut w span =
       bars = filter (λ b. is_of w span b.sid && is_bar_in span b) w.bars;
       adjustments = filter (λ x. is_of w span x.sid && is_event_in span x.event) w.adjustments;
       numbers = filter (λ r. is_of w span r.sid && is_number_in w.numbers span r) w.numbers;
+    }
+
+-- the world without an asset and its rows
+abbrev pub without : World → ℕ → World
+without w a =
+    record {
+      days = w.days;
+      assets = filter (λ r. not (r.sid == a)) w.assets;
+      labels = filter (λ r. not (r.sid == a)) w.labels;
+      texts = w.texts;
+      bars = filter (λ b. not (b.sid == a)) w.bars;
+      adjustments = filter (λ x. not (x.sid == a)) w.adjustments;
+      numbers = filter (λ r. not (r.sid == a)) w.numbers;
     }

@@ -1,7 +1,7 @@
 -- The laws of cut worlds, each the contract of a function.
-use Rattle.std.specs.Prelude.{◌≡◌, ℕ, ◌≤◌, ℤ, pos, ◌≤ℤ◌, List}
+use Rattle.std.specs.Prelude.{◌≡◌, false, ℕ, ◌≤◌, ℤ, pos, ◌≤ℤ◌, List}
 use Rattle.pl_spec.specs.declared.Format.{Format}
-use Rattle.pl_spec.specs.World.{World, IsWorld}
+use Rattle.pl_spec.specs.World.{World, IsWorld, exists}
 use Rattle.pl_pipeline.specs.Graph.{reach}
 use Rattle.pl_pipeline.specs.Lows.{least_reach}
 use Rattle.pl_pipeline.specs.Reaching.{HasWindows}
@@ -11,7 +11,7 @@ use Rattle.pl_pipeline.specs.Text.{text}
 use Rattle.pl_pipeline.specs.Value.{value}
 use Rattle.pl_terms.specs.Checked.{IsChecked}
 use Rattle.pl_terms.specs.Uses.{outputs}
-use Rattle.pl_cut.specs.Cuts.{Span, IsSpan, cut}
+use Rattle.pl_cut.specs.Cuts.{Span, IsSpan, cut, without}
 use Rattle.pl_cut.specs.Within.{AgreeWithin}
 
 -- the outputs of the pipeline reach back to no session before the first, on session from or later ones
@@ -47,3 +47,11 @@ CutsHaveTheRows = (w : World) (span : Span) → IsWorld w → IsSpan w.days span
     → (p : Pipeline) → IsChecked p → (from to : ℕ)
     → ReachesFrom w.days p from (pos span.first) → to ≤ span.last
     → HaveOneTable w (cut w span) p from to
+
+-- an asset that exists on no session of a range, and on none before it that the outputs reach back to, may go
+-- with all its rows: it changes no row of the table
+abbrev pub AbsentAssetsChangeNothing : Type 0
+AbsentAssetsChangeNothing = (w : World) → IsWorld w → (a : ℕ) (first last : ℤ)
+    → ((d : ℤ) → first ≤ℤ d → d ≤ℤ last → exists w a d ≡ false)
+    → (p : Pipeline) → IsChecked p → (from to : ℕ) → ReachesFrom w.days p from first → pos to ≤ℤ last
+    → HaveOneTable w (without w a) p from to

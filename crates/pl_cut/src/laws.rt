@@ -1,5 +1,6 @@
 //! The laws of cut worlds.
 ghost use Rattle.pl_cut.specs.Laws.{AgreeingWorldsShareTables, CutsAgree, CutsHaveTheRows};
+ghost use Rattle.pl_cut.specs.Laws.{AbsentAssetsChangeNothing};
 
 /// Worlds that show the same from a session to another have the same rows on every range whose terms reach no
 /// farther back, and these are written alike.
@@ -15,4 +16,9 @@ pub fn cuts_agree()
 /// Over the cut of a world a range has the rows of the whole, and these are written alike.
 pub fn cuts_have_the_rows()
     ensures { CutsHaveTheRows }
+{}
+
+/// An asset that exists on no session that a range reads changes no row.
+pub fn absent_assets_change_nothing()
+    ensures { AbsentAssetsChangeNothing }
 {}
