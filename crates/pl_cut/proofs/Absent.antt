@@ -1,14 +1,14 @@
 -- An asset that exists on no session that is read changes nothing.
-use Rattle.std.proofs.Common.{◌≡◌, ℕ, Bool, true, false, not, ◌&&◌, ◌||◌, ◌==◌, cond, ℤ, pos, negsuc, ◌<ℤ◌, ◌≤ℤ◌, List, [], ◌∷◌, map, filter, find, Option, Some, None, option_map, option_and_then, unwrap_or, refl, sym, ◌∙◌, ap, arith, inl, inr}
+use Rattle.std.proofs.Common.{◌≡◌, ℕ, Bool, true, false, not, ◌&&◌, ◌||◌, ◌==◌, cond, ℤ, pos, negsuc, ◌≤ℤ◌, List, [], ◌∷◌, map, filter, Option, Some, None, option_map, option_and_then, unwrap_or, refl, sym, ◌∙◌, ap, arith, inl, inr}
 use Rattle.std.specs.List.{list_any}
-use Rattle.std.proofs.lemmas.Bool.{and_parts, or_left, or_right, eqb-true, eq-eqb, ne_eqb, cases_eq, true≢false}
+use Rattle.std.proofs.lemmas.Bool.{and_parts, or_left, eqb-true, ne_eqb, cases_eq, true≢false}
 use Rattle.std.proofs.lemmas.Int.{ints}
 use Rattle.pl_spec.specs.declared.AssetRow.{AssetRow}
 use Rattle.pl_spec.specs.declared.Column.{Column}
 use Rattle.pl_spec.specs.Numbers.{NumberRow, number_at, last_known, is_number_of}
 use Rattle.pl_spec.specs.Rounding.{MISSING}
 use Rattle.pl_spec.specs.Window.{effects_from, effects, after_all, seen_cell}
-use Rattle.pl_spec.specs.World.{World, IsWorld, LabelRow, Bar, Adjustment, events_of, day_of, lives_on, living_sids, exists, cell_of, bar_cell, last_started, nonempty, is_label_of, label_at, known_number}
+use Rattle.pl_spec.specs.World.{World, LabelRow, Adjustment, events_of, day_of, lives_on, living_sids, exists, cell_of, bar_cell, last_started, nonempty, is_label_of, label_at, known_number}
 use Rattle.pl_spec.proofs.Lists.{filter-filter, filter-swap}
 use Rattle.pl_laws.proofs.Alike.{day_of-days}
 use Rattle.pl_cut.specs.Cuts.{without}

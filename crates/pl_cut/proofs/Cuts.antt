@@ -1,5 +1,5 @@
 -- The cut of a world shows what the whole shows.
-use Rattle.std.proofs.Common.{◌≡◌, ℕ, true, false, ◌&&◌, ◌<◌, ◌==◌, nat_le, nat_lt, ℤ, pos, negsuc, ◌<ℤ◌, ◌≤ℤ◌, List, [], map, filter, Option, Some, None, option_map, option_and_then, unwrap_or, refl, sym, ◌∙◌, ap, arith}
+use Rattle.std.proofs.Common.{◌≡◌, ℕ, suc, ◌++◌, ◌≤◌, true, false, ◌&&◌, ◌<◌, ◌==◌, nat_le, nat_lt, ℤ, pos, negsuc, ◌<ℤ◌, ◌≤ℤ◌, List, [], map, filter, Option, Some, None, option_map, option_and_then, unwrap_or, refl, sym, ◌∙◌, ap, arith}
 use Rattle.std.specs.List.{list_any}
 use Rattle.std.specs.Int.RustNames.{int_le, int_lt}
 use Rattle.std.specs.Ordering.{int_eq}
@@ -15,11 +15,13 @@ use Rattle.pl_spec.specs.Window.{change_effect, effect, is_between, effects_in, 
 use Rattle.pl_spec.specs.World.{World, IsWorld, LabelRow, Bar, Change, Event, Adjustment, events_of, day_of, lives_on, living_sids, exists, cell_of, bar_cell, last_started, nonempty, is_label_of, label_at, known_number}
 use Rattle.pl_spec.specs.World.Change.{Scale, Overwrite}
 use Rattle.pl_spec.proofs.Lists.{filter-filter, filter-map}
+use Rattle.pl_pipeline.specs.Table.{table}
+use Rattle.pl_laws.proofs.Chunks.{table-split}
 use Rattle.pl_laws.proofs.Alike.{day_of-days}
 use Rattle.pl_laws.proofs.Law.{day_by}
 use Rattle.pl_cut.specs.Cuts.{Span, IsSpan, lives_in, is_of, is_bar_in, is_change_in, is_event_in, cut}
 use Rattle.pl_cut.specs.Within.{AgreeWithin}
-use Rattle.pl_cut.specs.Laws.{CutsAgree, CutsHaveTheRows}
+use Rattle.pl_cut.specs.Laws.{CutsAgree, CutsHaveTheRows, PiecesMakeTheTable}
 use Rattle.pl_cut.proofs.Rows.{filter-by, find-kept, answers-kept, any-kept, any-map}
 use Rattle.pl_cut.proofs.Newest.{newest_same}
 use Rattle.pl_cut.proofs.Tables.{share_tables}
@@ -185,5 +187,12 @@ pub cuts_agree : CutsAgree
 cuts_agree w span ok is = (is-world w span ok, agrees w span ok is)
 
 pub cuts_have_the_rows : CutsHaveTheRows
-cuts_have_the_rows w span ok is p checked from to deep by =
-    share_tables.tables w (cut w span) ok (pos span.first) (pos span.last) (agrees w span ok is) p checked from to deep (omega (arith, ints))
+cuts_have_the_rows w span ok p checked from to covers =
+    let by : to ≤ span.last = covers.last in
+    share_tables.tables w (cut w span) ok (pos span.first) (pos span.last) (agrees w span ok covers.sessions) p checked from to covers.first (omega (arith, ints))
+
+pub pieces_make_the_table : PiecesMakeTheTable
+pieces_make_the_table w one two ok p checked from mid to low high before behind =
+    table-split w p from mid to low high
+    ∙ ap (λ rows. rows ++ table w p (suc mid) to) (cuts_have_the_rows w one ok p checked from mid before).rows
+    ∙ ap (λ rows. table (cut w one) p from mid ++ rows) (cuts_have_the_rows w two ok p checked (suc mid) to behind).rows

@@ -1,5 +1,5 @@
 -- The laws of cut worlds, each the contract of a function.
-use Rattle.std.specs.Prelude.{◌≡◌, false, ℕ, ◌≤◌, ℤ, pos, ◌≤ℤ◌, List}
+use Rattle.std.specs.Prelude.{◌≡◌, false, ℕ, suc, ◌≤◌, ◌++◌, ℤ, pos, ◌≤ℤ◌, List}
 use Rattle.pl_spec.specs.declared.Format.{Format}
 use Rattle.pl_spec.specs.World.{World, IsWorld, exists}
 use Rattle.pl_pipeline.specs.Graph.{reach}
@@ -40,13 +40,25 @@ abbrev pub CutsAgree : Type 0
 CutsAgree = (w : World) (span : Span) → IsWorld w → IsSpan w.days span
     → IsWorld (cut w span) × AgreeWithin w (cut w span) (pos span.first) (pos span.last)
 
--- so over the cut each range up to the last session whose outputs reach no farther back than the first has
--- the table of the whole
+-- A span covers the sessions from .. to: it has two sessions of these days, the outputs reach back to no
+-- session before the first, and the last is not before to.
+pub record Covers (days : List ℤ) (p : Pipeline) (span : Span) (from to : ℕ) : Type 0 where
+  pub sessions : IsSpan days span
+  pub first : ReachesFrom days p from (pos span.first)
+  pub last : to ≤ span.last
+
+-- so over the cut each range that the span covers has the table of the whole
 abbrev pub CutsHaveTheRows : Type 0
-CutsHaveTheRows = (w : World) (span : Span) → IsWorld w → IsSpan w.days span
-    → (p : Pipeline) → IsChecked p → (from to : ℕ)
-    → ReachesFrom w.days p from (pos span.first) → to ≤ span.last
-    → HaveOneTable w (cut w span) p from to
+CutsHaveTheRows = (w : World) (span : Span) → IsWorld w → (p : Pipeline) → IsChecked p → (from to : ℕ)
+    → Covers w.days p span from to → HaveOneTable w (cut w span) p from to
+
+-- and two pieces of a range, each over a cut of its own, have the rows of the range, one after the other: so
+-- have any number of them
+abbrev pub PiecesMakeTheTable : Type 0
+PiecesMakeTheTable = (w : World) (one two : Span) → IsWorld w → (p : Pipeline) → IsChecked p
+    → (from mid to : ℕ) → from ≤ suc mid → mid ≤ to
+    → Covers w.days p one from mid → Covers w.days p two (suc mid) to
+    → table w p from to ≡ table (cut w one) p from mid ++ table (cut w two) p (suc mid) to
 
 -- an asset that exists on no session of a range, and on none before it that the outputs reach back to, may go
 -- with all its rows: it changes no row of the table
