@@ -52,8 +52,7 @@ abbrev pub CutsHaveTheRows : Type 0
 CutsHaveTheRows = (w : World) (span : Span) → IsWorld w → (p : Pipeline) → IsChecked p → (from to : ℕ)
     → Covers w.days p span from to → HaveOneTable w (cut w span) p from to
 
--- and two pieces of a range, each over a cut of its own, have the rows of the range, one after the other: so
--- have any number of them
+-- and two pieces of a range, each over a cut of its own, have the rows of the range, one after the other
 abbrev pub PiecesMakeTheTable : Type 0
 PiecesMakeTheTable = (w : World) (one two : Span) → IsWorld w → (p : Pipeline) → IsChecked p
     → (from mid to : ℕ) → from ≤ suc mid → mid ≤ to
