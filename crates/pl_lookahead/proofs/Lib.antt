@@ -1,2 +1,4 @@
 pub mod Effects
 pub mod Known
+pub mod Adjusted
+pub mod Dates
