@@ -2,3 +2,4 @@ pub mod Effects
 pub mod Known
 pub mod Adjusted
 pub mod Dates
+pub mod Readable
