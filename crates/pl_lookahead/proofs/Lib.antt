@@ -3,3 +3,4 @@ pub mod Known
 pub mod Adjusted
 pub mod Dates
 pub mod Readable
+pub mod Held
