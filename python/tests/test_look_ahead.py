@@ -54,7 +54,7 @@ class Drawer:
         return "" if self.draw.random() < .06 else str(round(self.draw.uniform(1, 99), self.draw.choice([0, 2, 6])))
 
     def asset(self, sid: int, start: date) -> Row:
-        return sid, start, self.draw.choice([FAR, start + timedelta(self.draw.randint(0, 40))])
+        return sid, start, self.draw.choice([FAR, FAR, start + timedelta(self.draw.randint(0, 40))])
 
     def unlike(self, rows: List[Row], key) -> List[Row]:
         """The rows, the first of each key."""
@@ -91,7 +91,7 @@ class Drawer:
         sids = self.draw.sample(SIDS, self.draw.randint(2, 5))
         market = self.rows(self.days, sids, early)
         market["sessions"] = [(day,) for day in self.days]
-        market["assets"] = [self.asset(sid, self.draw.choice([early, self.a_day()])) for sid in sids]
+        market["assets"] = [self.asset(sid, self.draw.choice([early, early, self.a_day()])) for sid in sids]
         market["revisions"] = self.revisions(self.days, sids, early, 12)
         return self.once(market)
 
@@ -155,7 +155,7 @@ def write(folder: Path, market: Market, draw: random.Random) -> Path:
 
 def pipeline(draw: random.Random) -> str:
     columns = [f"column c{k} = {term};" for k, term in enumerate(draw.sample(TERMS, draw.randint(2, 5)))]
-    screens = ["", 'screen label("sector").notnull();', "screen close.latest > 20;", "screen AverageDollarVolume(3).top(3);"]
+    screens = ["", "", "", 'screen label("sector").notnull();', "screen close.latest > 20;", "screen AverageDollarVolume(3).top(3);"]
     return "\n".join(["pipeline 3;", *columns, draw.choice(screens), ""])
 
 
@@ -196,4 +196,4 @@ def compare(seed: int, folder: Path) -> bytes:
 @pytest.mark.parametrize("group", range(GROUPS))
 def test_later_data_change_no_byte(group, tmp_path):
     texts = [compare(seed, tmp_path / str(seed)) for seed in range(group, CASES, GROUPS)]
-    assert not texts or sum(map(len, texts)) > 100 * len(texts)  # they have rows
+    assert len(texts) < 9 or sum(text.count(b"\n") for text in texts) > 5 * len(texts)  # most have rows

@@ -9,7 +9,7 @@ abbrev pub Ascend : List ℤ → Type 0
 Ascend days = AllPairs (λ a b. a <ℤ b) days
 
 -- what is no later stands no later
-by_place : (days : List ℤ) → Ascend days → (i d : ℕ) (x day : ℤ) → slice_get days i ≡ Some x → slice_get days d ≡ Some day → x ≤ℤ day → i ≤ d
+pub by_place : (days : List ℤ) → Ascend days → (i d : ℕ) (x day : ℤ) → slice_get days i ≡ Some x → slice_get days d ≡ Some day → x ≤ℤ day → i ≤ d
 by_place days up i d x day at_i at_d by = elim (cases_lt d i) [
   | inr l ↦ omega arith
   | inl l ↦
@@ -21,12 +21,11 @@ by_place days up i d x day at_i at_d by = elim (cases_lt d i) [
 ]
 
 module _ (days others : List ℤ) (up : Ascend days) (up' : Ascend others) (d : ℕ) (day : ℤ) (at_d : slice_get days d ≡ Some day) (same : take (suc d) days ≡ take (suc d) others) where
-  -- a day up to that of the session has one place in both
-  pub one_place : (i j : ℕ) (x : ℤ) → x ≤ℤ day → slice_get days i ≡ Some x → slice_get others j ≡ Some x → (i ≡ j) × (i ≤ d)
-  one_place i j x by at_i at_j =
-      let near : i ≤ d = by_place days up i d x day at_i at_d by in
+  -- a session up to that one has its day at the same place in both
+  pub one_place : (i j : ℕ) (x : ℤ) → i ≤ d → slice_get days i ≡ Some x → slice_get others j ≡ Some x → i ≡ j
+  one_place i j x near at_i at_j =
       let there : slice_get others i ≡ Some x =
       sym (slice_get-take others (suc d) i (omega arith)) ∙ ap (λ l. slice_get l i) (sym same) ∙ slice_get-take days (suc d) i (omega arith) ∙ at_i in
       let back : i ≤ j = by_place others up' i j x x there at_j (omega (arith, ints)) in
       let on : j ≤ i = by_place others up' j i x x at_j there (omega (arith, ints)) in
-      (omega arith, near)
+      omega arith

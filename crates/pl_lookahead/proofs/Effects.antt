@@ -22,10 +22,7 @@ use Rattle.pl_adjust.specs.declared.revisions.Revision.{Revision}
 use Rattle.pl_adjust.specs.Revised.{revised}
 use Rattle.pl_adjust.specs.Revisions.{is_same}
 use Rattle.pl_adjust.proofs.RevisionsRead.{column_is, whole}
-
--- the adjustment is of the asset and acts on the day
-abbrev pub is_of : ℕ → ℤ → Adjustment → Bool
-is_of sid day x = x.sid == sid && acts_at day x
+use Rattle.pl_lookahead.specs.Agreement.{is_of}
 
 -- ---- what is left out does nothing
 

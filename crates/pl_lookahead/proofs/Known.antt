@@ -26,6 +26,7 @@ use Rattle.pl_laws.proofs.Law.{SeenAlike, agree-seen}
 use Rattle.pl_laws.proofs.Permuted.{order-changes-nothing}
 use Rattle.pl_laws.proofs.TableLaw.{table_same}
 use Rattle.pl_laws.proofs.Texts.{text_same}
+use Rattle.pl_lookahead.specs.Agreement.{SameRowsUpTo}
 
 -- each bar, each label row and each number of a world is there once
 pub record HasEachOnce (w : World) : Type 0 where
@@ -34,17 +35,8 @@ pub record HasEachOnce (w : World) : Type 0 where
   pub labels : LabelsOnce w
   pub numbers : NumbersOnce w.numbers
 
--- the worlds have the same rows that are known by session d
-pub record SameRows (w v : World) (d : ℕ) (day : ℤ) : Type 0 where
-  pub is_day : slice_get w.days d ≡ Some day
-  pub sessions : take (suc d) w.days ≡ take (suc d) v.days
-  pub lifetimes : (sid s : ℕ) → s ≤ d → exists w sid (pos s) ≡ exists v sid (pos s)
-  pub bars : IsPermutation (filter (λ b. nat_lt b.session d) w.bars) (filter (λ b. nat_lt b.session d) v.bars)
-  pub labels : IsPermutation (filter (has_started day) w.labels) (filter (has_started day) v.labels)
-  pub numbers : IsPermutation (numbers_by day w.numbers) (numbers_by day v.numbers)
-  pub changes : (sid : ℕ) (c : Column) (bar low high : ℤ) → high ≤ℤ day → effects_in c bar low high (events_of w sid) ≡ effects_in c bar low high (events_of v sid)
-
-module _ (w v : World) (d : ℕ) (day : ℤ) (ok : HasEachOnce w) (ok' : IsWorld v) (same : SameRows w v d day) where
+module _ (w v : World) (d : ℕ) (day : ℤ) (ok : HasEachOnce w) (ok' : IsWorld v) (same : SameRowsUpTo w v d day)
+    (changes : (sid : ℕ) (c : Column) (bar low high : ℤ) → high ≤ℤ day → effects_in c bar low high (events_of w sid) ≡ effects_in c bar low high (events_of v sid)) where
   then_is_day : slice_get v.days d ≡ Some day
   then_is_day =
       sym (as_of.slice_get-take v.days (suc d) d (omega arith))
@@ -83,7 +75,7 @@ module _ (w v : World) (d : ℕ) (day : ℤ) (ok : HasEachOnce w) (ok' : IsWorld
     is_day = same.is_day;
     days = days;
     bars = λ a c s h. sym (first.bars a c s h) ∙ order-changes-nothing.bars (as_of w d day) (as_of v d day) bars_once same.bars a c s ∙ second.bars a c s h;
-    changes = same.changes;
+    changes = changes;
     lifetimes = lifetimes;
     labels = λ name a s h.
         sym (first.labels name a s h)

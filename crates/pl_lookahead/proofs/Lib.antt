@@ -4,3 +4,4 @@ pub mod Adjusted
 pub mod Dates
 pub mod Readable
 pub mod Held
+pub mod Texts

@@ -1,7 +1,9 @@
 -- What has no fault was read: the parts of contents, each as its reader keeps it.
-use Rattle.std.proofs.Common.{◌≡◌, ℕ, ◌<◌, nat_lt, Bool, true, false, cond, not, ℤ, List, [], ◌∷◌, ◌++◌, length, All, AllPairs, Option, Some, None, is_some, Result, Ok, Err, refl, sym, ◌∙◌, ap, arith}
+use Rattle.std.proofs.Common.{◌≡◌, ℕ, ◌<◌, ◌≤◌, nat_lt, Bool, true, false, cond, not, ℤ, List, [], ◌∷◌, ◌++◌, length, All, AllPairs, Option, Some, None, is_some, unwrap_or, Result, Ok, Err, refl, sym, ◌∙◌, ap, arith}
 use Rattle.std.specs.Option.{ForSome, option_or}
 use Rattle.std.specs.Result.{result_unwrap_or}
+use Rattle.std.proofs.lemmas.Bool.{or_parts}
+use Rattle.std.proofs.lemmas.Bool.Decides.{nat_tests}
 use Rattle.pl_records.specs.Reading as reading
 use Rattle.pl_records.specs.Reading.{Record}
 use Rattle.pl_records.specs.Records.{csv_records}
@@ -21,7 +23,7 @@ use Rattle.pl_words.specs.Request.{Dated, WorldNames}
 use Rattle.pl_load.specs.declared.fault.Fault.{Fault}
 use Rattle.pl_load.specs.Contents.{Contents}
 use Rattle.pl_load.specs.Held.{bytes_in, days_held, days_in, assets_held, assets_in, bars_held, bars_in, labels_in, numbers_in, no_numbers, revisions_in, adjustments_from, adjustments_of_rows}
-use Rattle.pl_load.specs.Range.{session_of, dates_steps}
+use Rattle.pl_load.specs.Range.{session_of, index_of, index_asked, is_unknown, are_backwards, dates_steps}
 use Rattle.pl_load.specs.Rules.{sessions_fault, assets_fault, labels_fault, numbers_fault, bars_fault, revisions_fault}
 use Rattle.pl_load.specs.Steps.{WorkStep, first_fault, rule, when}
 use Rattle.pl_load.specs.Work.{file_fault, fault_in, fault_of_rows, sessions_rule, assets_rule, labels_rule, numbers_rule, bars_rule, revisions_rule, rows_rule, labels_steps, numbers_steps, adjustments_steps, revisions_steps, data_steps}
@@ -145,10 +147,35 @@ found : {A : Type 0} (o : Option A) (f : Fault) → when (not (is_some o)) f ≡
 found None f h = absurd (cc)
 found (Some x) f h = (x, refl)
 
-pub dates-found : (from to : Dated) (as_of : Option Dated) (days : List ℤ) → first_fault (dates_steps from to as_of days) ≡ None
-    → ((i : ℕ) × (session_of days from.day ≡ Some i)) × ((j : ℕ) × (session_of days to.day ≡ Some j))
+-- the dates are of sessions, and the last is not before the first
+pub record AreFound (from to : Dated) (days : List ℤ) : Type 0 where
+  pub first : ℕ
+  pub first_is : session_of days from.day ≡ Some first
+  pub last : ℕ
+  pub last_is : session_of days to.day ≡ Some last
+  pub forward : first ≤ last
+
+unlike : (b : Bool) (f : Fault) → when b f ≡ None → b ≡ false
+unlike true f h = absurd (cc)
+unlike false f h = refl
+
+not-before : (i j : ℕ) (known : Option ℕ) → are_backwards i j known ≡ false → i ≤ j
+not-before i j known h = forward (or_parts (nat_lt j i) _ h).0
+  where
+    forward : nat_lt j i ≡ false → i ≤ j
+    forward t = grind (arith, nat_tests)
+
+places : (o p : Option ℕ) (i j : ℕ) → o ≡ Some i → p ≡ Some j → unwrap_or o 0 ≤ unwrap_or p 0 → i ≤ j
+places o p i j e f h = rw (e, f) at h
+
+pub dates-found : (from to : Dated) (as_of : Option Dated) (days : List ℤ) → first_fault (dates_steps from to as_of days) ≡ None → AreFound from to days
 unfolding dates_steps
 dates-found from to as_of days h =
     let one = or-none (when (not (is_some (session_of days from.day))) _) _ h in
     let two = or-none (when (not (is_some (session_of days to.day))) _) _ one.1 in
-    (found (session_of days from.day) _ one.0, found (session_of days to.day) _ two.0)
+    let three = or-none (when (is_unknown days as_of) _) _ two.1 in
+    let four = or-none (when (are_backwards (index_of days from.day) (index_of days to.day) (index_asked days as_of)) _) None three.1 in
+    let at = found (session_of days from.day) _ one.0 in
+    let end = found (session_of days to.day) _ two.0 in
+    let order : index_of days from.day ≤ index_of days to.day = not-before _ _ (index_asked days as_of) (unlike _ _ four.0) in
+    record { first = at.0; first_is = at.1; last = end.0; last_is = end.1; forward = places _ _ at.0 end.0 at.1 end.1 order }

@@ -1,2 +1,3 @@
--- No look-ahead: what two commands have to share, and the law.
+-- No look-ahead: when two commands agree up to a session, and the law.
 pub mod Agreement
+pub mod Laws

@@ -1,0 +1,9 @@
+//! The law.
+
+ghost use Rattle.pl_lookahead.specs.Laws.{LaterDataChangeNoByte};
+
+/// Where the files and tables of two commands agree up to a session, and no reader refuses them, the tables up to
+/// it are the same bytes, by `run` and by `daily`, for all sizes of chunks, whatever comes later in them.
+pub fn later_data_change_no_byte()
+    ensures { LaterDataChangeNoByte }
+{}
