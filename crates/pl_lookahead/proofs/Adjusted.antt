@@ -1,5 +1,5 @@
 -- Adjustments by place, as the readers make them of tables and revisions.
-use Rattle.std.proofs.Common.{◌≡◌, ℕ, ◌<◌, ◌==◌, false, ℤ, pos, List, [], ◌∷◌, ◌++◌, map, filter, length, get_or, All, AllPairs, Some, Ok, refl, sym, ◌∙◌, ap, arith}
+use Rattle.std.proofs.Common.{◌≡◌, ℕ, ◌<◌, ◌==◌, false, ℤ, pos, List, [], ◌∷◌, ◌++◌, map, filter, length, get_or, All, AllPairs, Some, Ok, sym, ◌∙◌, ap, arith}
 use Rattle.std.specs.Option.{ok_or}
 use Rattle.std.proofs.lemmas.List.{map-append}
 use Rattle.std.proofs.lemmas.List.Elements.{All-map}
@@ -11,7 +11,7 @@ use Rattle.pl_records.proofs.Sorts.{none-at}
 use Rattle.pl_spec.specs.declared.AssetRow.{AssetRow}
 use Rattle.pl_spec.specs.declared.BarRow.{BarRow}
 use Rattle.pl_spec.specs.Order.{by_day}
-use Rattle.pl_spec.specs.Parts.{ColumnAdjustment, ColumnLabel, ColumnNumber, sid_at, world_of}
+use Rattle.pl_spec.specs.Parts.{ColumnAdjustment, ColumnLabel, ColumnNumber, world_of}
 use Rattle.pl_spec.specs.World.{Adjustment, events_of}
 use Rattle.pl_adjust.specs.declared.revisions.Revision.{Revision}
 use Rattle.pl_adjust.specs.Columns.{AreByDay, by_place, in_column}

@@ -1,19 +1,17 @@
 -- Adjustments that are the same by day do the same to each cell, in whatever order revisions of a day stand.
-use Rattle.std.proofs.Common.{◌≡◌, ℕ, suc, ◌<◌, ◌≤◌, ◌==◌, ◌&&◌, Bool, true, false, cond, if◌then◌else◌, ℤ, ◌<ℤ◌, ◌≤ℤ◌, List, [], ◌∷◌, ◌++◌, map, filter, filter_map, length, All, AllPairs, IsPermutation, Option, Some, None, refl, sym, ◌∙◌, ap, arith}
+use Rattle.std.proofs.Common.{◌≡◌, ℕ, ◌≤◌, ◌==◌, ◌&&◌, Bool, true, false, cond, if◌then◌else◌, ℤ, ◌<ℤ◌, ◌≤ℤ◌, List, [], ◌∷◌, ◌++◌, map, filter, filter_map, length, All, AllPairs, IsPermutation, Option, Some, None, refl, sym, ◌∙◌, ap, arith}
 use Rattle.std.specs.Int.RustNames.{int_le}
 use Rattle.std.specs.Option.{is_some}
 use Rattle.std.specs.Ordering.{int_eq}
 use Rattle.std.proofs.lemmas.Bool.{and_parts, eqb-true, true≢false}
 use Rattle.std.proofs.lemmas.Int.{ints, by_lt_z}
-use Rattle.std.proofs.lemmas.List.{length-map}
-use Rattle.std.proofs.lemmas.List.Elements.{All-filter, filter-append, filter_passes}
+use Rattle.std.proofs.lemmas.List.Elements.{filter-append, filter_passes}
 use Rattle.std.proofs.lemmas.List.Kept.{AllPairs-filter}
-use Rattle.std.proofs.lemmas.List.Sorted.{IsPermutation-map}
 use Rattle.pl_spec.specs.declared.Column.{Column}
 use Rattle.pl_spec.specs.Order.{acts_at, by_day}
 use Rattle.pl_spec.specs.Window.{effect, effects_in, is_between, same_column}
 use Rattle.pl_spec.specs.Window.Effect.{Put}
-use Rattle.pl_spec.specs.World.{Adjustment, Event}
+use Rattle.pl_spec.specs.World.{Adjustment}
 use Rattle.pl_spec.proofs.ByDay.{by_day_is_one, by_day-is_by_day}
 use Rattle.pl_spec.proofs.Lists.{filter-filter, filter-map, filter-none, filter-swap, filter-twice}
 use Rattle.pl_spec.proofs.Permuted.{filter-permuted, one-permuted}

@@ -1,18 +1,16 @@
 -- The world of contents that were read: its rows are there once each, and what its adjustments do.
-use Rattle.std.proofs.Common.{◌≡◌, ℕ, ◌<◌, ◌==◌, true, false, ℤ, pos, List, [], ◌∷◌, ◌++◌, map, filter, length, All, AllPairs, Contains, IsPermutation, Option, Some, None, Result, Ok, Err, refl, sym, ◌∙◌, ap, arith}
+use Rattle.std.proofs.Common.{◌≡◌, ℕ, ◌<◌, ◌==◌, false, ℤ, List, [], ◌∷◌, ◌++◌, map, filter, length, All, AllPairs, IsPermutation, Option, Some, None, Result, Ok, Err, refl, sym, ◌∙◌, ap, arith}
 use Rattle.std.specs.Option.{ForSome}
 use Rattle.std.proofs.lemmas.List.Elements.{All-append}
 use Rattle.std.proofs.lemmas.List.Sorted.{Contains-permutation, IsPermutation-map, IsPermutation-sym}
 use Rattle.pl_records.specs.Reading.{Record, Fault, ◌>>=◌}
 use Rattle.pl_records.proofs.Sorts.{sorted-permutes}
 use Rattle.pl_spec.specs.declared.AssetRow.{AssetRow}
-use Rattle.pl_spec.specs.declared.BarRow.{BarRow}
 use Rattle.pl_spec.specs.declared.RawAdjust.{RawAdjust}
-use Rattle.pl_spec.specs.Lookups.{BarsOnce, LabelsOnce}
 use Rattle.pl_spec.specs.Numbers.{NumberRow, NumbersOnce}
 use Rattle.pl_spec.specs.Order.{by_day}
-use Rattle.pl_spec.specs.Parts.{ColumnAdjustment, ColumnLabel, ColumnNumber, number_of, world_of}
-use Rattle.pl_spec.specs.World.{World, IsWorld, Adjustment, events_of}
+use Rattle.pl_spec.specs.Parts.{ColumnLabel, ColumnNumber, number_of, world_of}
+use Rattle.pl_spec.specs.World.{World, Adjustment, events_of}
 use Rattle.pl_calendar.specs.Days.{AreDays}
 use Rattle.pl_calendar.proofs.DaysRead.{AreDays-read}
 use Rattle.pl_lifetimes.specs.Assets.{AreAssets}
@@ -21,8 +19,7 @@ use Rattle.pl_assets.specs.Labels.{LabelTable, is_from, labels_of}
 use Rattle.pl_bars.proofs.BarsRead.{AreBars-read, AreInside-read}
 use Rattle.pl_numbers.specs.Numbers.{Rule, NumberTable, key_in, names_of, number_rows_in, numbers_of, table_of}
 use Rattle.pl_numbers.proofs.NumbersRead as numbers_read
-use Rattle.pl_adjust.specs.declared.revisions.Revision.{Revision}
-use Rattle.pl_adjust.specs.Columns.{AreByDay, by_place}
+use Rattle.pl_adjust.specs.Columns.{by_place}
 use Rattle.pl_adjust.specs.Revised.{AreKnown, revised}
 use Rattle.pl_adjust.specs.Revisions.{revisions_of}
 use Rattle.pl_adjust.proofs.FirstFaults.{made_is}
@@ -37,7 +34,7 @@ use Rattle.pl_world.proofs.Made.{AreParts, bars_once, is_world, labels_once, num
 use Rattle.pl_world.proofs.Moved.{AreRead-labels}
 use Rattle.pl_load.specs.Contents.{Contents}
 use Rattle.pl_load.specs.Held.{adjustments_asked, adjustments_from, adjustments_held, adjustments_of_rows, assets_held, bars_held, days_held, labels_asked, labels_in, numbers_asked, numbers_in, revised_asked, revisions_in, world_held}
-use Rattle.pl_lookahead.specs.Agreement.{of_table_asked, of_table_held, revisions_asked, revisions_held}
+use Rattle.pl_lookahead.specs.Agreement.{of_table_asked, revisions_asked, revisions_held}
 use Rattle.pl_lookahead.proofs.Adjusted.{Apart, placed, placed-by_day, placed-events, placed-in, placed-revised, rows-apart}
 use Rattle.pl_lookahead.proofs.Known.{HasEachOnce}
 use Rattle.pl_lookahead.proofs.Readable.{AreRead, records_in}

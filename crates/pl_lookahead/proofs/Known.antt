@@ -1,12 +1,12 @@
 -- Worlds of which the same rows are known by a session are seen alike up to it, and write the same text.
-use Rattle.std.proofs.Common.{◌≡◌, ℕ, suc, ◌<◌, ◌≤◌, nat_lt, ℤ, pos, negsuc, ◌<ℤ◌, ◌≤ℤ◌, List, ◌++◌, filter, flat_map, take, Option, Some, None, IsPermutation, Contains, refl, sym, ◌∙◌, ap, arith, slice_get}
+use Rattle.std.proofs.Common.{◌≡◌, ℕ, suc, ◌≤◌, nat_lt, ℤ, pos, negsuc, ◌≤ℤ◌, ◌++◌, flat_map, Some, refl, sym, ◌∙◌, ap, arith, slice_get}
 use Rattle.std.proofs.lemmas.Int.{ints}
 use Rattle.pl_spec.specs.declared.Column.{Column}
 use Rattle.pl_spec.specs.declared.Format.{Format}
-use Rattle.pl_spec.specs.World.{World, IsWorld, Bar, LabelRow, Adjustment, events_of, day_of, bar_cell, exists, label_at}
-use Rattle.pl_spec.specs.Numbers.{NumberRow, NumbersOnce, numbers_by, number_at}
+use Rattle.pl_spec.specs.World.{World, IsWorld, events_of, day_of, bar_cell, exists}
+use Rattle.pl_spec.specs.Numbers.{NumberRow, NumbersOnce, numbers_by}
 use Rattle.pl_spec.specs.Lookups.{BarsOnce, LabelsOnce}
-use Rattle.pl_spec.specs.Agree.{Agree, is_known}
+use Rattle.pl_spec.specs.Agree.{Agree}
 use Rattle.pl_spec.specs.AsOf.{as_of, has_started}
 use Rattle.pl_spec.specs.Window.{effects_in}
 use Rattle.pl_spec.proofs.Finds.{filter-contains}

@@ -1,5 +1,5 @@
 -- What has no fault was read: the parts of contents, each as its reader keeps it.
-use Rattle.std.proofs.Common.{◌≡◌, ℕ, ◌<◌, ◌≤◌, nat_lt, Bool, true, false, cond, not, ℤ, List, [], ◌∷◌, ◌++◌, length, All, AllPairs, Option, Some, None, is_some, unwrap_or, Result, Ok, Err, refl, sym, ◌∙◌, ap, arith}
+use Rattle.std.proofs.Common.{◌≡◌, ℕ, ◌≤◌, nat_lt, Bool, true, false, cond, not, ℤ, List, [], ◌∷◌, ◌++◌, Option, Some, None, is_some, unwrap_or, Result, Ok, Err, refl, arith}
 use Rattle.std.specs.Option.{ForSome, option_or}
 use Rattle.std.specs.Result.{result_unwrap_or}
 use Rattle.std.proofs.lemmas.Bool.{or_parts}
@@ -17,7 +17,6 @@ use Rattle.pl_bars.specs.Bars.{bars_of}
 use Rattle.pl_adjust.specs.Walk as rows
 use Rattle.pl_adjust.specs.Revisions.{revisions_of}
 use Rattle.pl_outside.specs.declared.keeper.Table.{Table}
-use Rattle.pl_words.specs.declared.request.InputFile.{InputFile}
 use Rattle.pl_words.specs.declared.request.InputFile.TheVariants.{Sessions, Assets, Labels, Numbers, Bars, Revisions}
 use Rattle.pl_words.specs.Request.{Dated, WorldNames}
 use Rattle.pl_load.specs.declared.fault.Fault.{Fault}
@@ -25,7 +24,7 @@ use Rattle.pl_load.specs.Contents.{Contents}
 use Rattle.pl_load.specs.Held.{bytes_in, days_held, days_in, assets_held, assets_in, bars_held, bars_in, labels_in, numbers_in, no_numbers, revisions_in, adjustments_from, adjustments_of_rows}
 use Rattle.pl_load.specs.Range.{session_of, index_of, index_asked, is_unknown, are_backwards, dates_steps}
 use Rattle.pl_load.specs.Rules.{sessions_fault, assets_fault, labels_fault, numbers_fault, bars_fault, revisions_fault}
-use Rattle.pl_load.specs.Steps.{WorkStep, first_fault, rule, when}
+use Rattle.pl_load.specs.Steps.{WorkStep, first_fault, when}
 use Rattle.pl_load.specs.Work.{file_fault, fault_in, fault_of_rows, sessions_rule, assets_rule, labels_rule, numbers_rule, bars_rule, revisions_rule, rows_rule, labels_steps, numbers_steps, adjustments_steps, revisions_steps, data_steps}
 
 -- ---- steps without a fault

@@ -1,8 +1,6 @@
 -- Tables of commands that agree up to a session are the same bytes.
-use Rattle.std.proofs.Common.{◌≡◌, inl, inr, ◌⊎◌, ℕ, suc, ◌<◌, ◌≤◌, nat_lt, ◌||◌, Bool, true, false, cond, ℤ, ◌<ℤ◌, ◌≤ℤ◌, List, [], ◌∷◌, ◌++◌, map, filter, get_or, Option, Some, None, option_map, unwrap_or, refl, sym, ◌∙◌, ap, arith, slice_get}
+use Rattle.std.proofs.Common.{◌≡◌, inl, inr, ℕ, ◌≤◌, Bool, ℤ, ◌≤ℤ◌, List, ◌++◌, filter, get_or, Option, Some, None, option_map, unwrap_or, refl, sym, ◌∙◌, ap, arith, slice_get}
 use Rattle.std.specs.Ordering.{int_eq}
-use Rattle.std.proofs.lemmas.Bool.Decides.{nat_tests}
-use Rattle.std.proofs.lemmas.Int.{ints}
 use Rattle.std.proofs.lemmas.List.Elements.{filter-append}
 use Rattle.std.proofs.lemmas.List.Quantifiers.{position-Some}
 use Rattle.std.proofs.lemmas.Option.{slice_get-get_or}
@@ -13,12 +11,9 @@ use Rattle.pl_spec.specs.World.{World, Adjustment, events_of}
 use Rattle.pl_spec.proofs.Signed.{int_eq-true}
 use Rattle.pl_pipeline.specs.Table.{Pipeline, table}
 use Rattle.pl_pipeline.specs.Text.{text}
-use Rattle.pl_adjust.specs.Revised.{revised}
-use Rattle.pl_outside.specs.Taken.{TakesAll}
-use Rattle.pl_outside.specs.declared.keeper.Table.{Table}
 use Rattle.pl_outside.specs.declared.keeper.Table.TheVariants.{Splits, Mergers, Dividends}
 use Rattle.pl_words.specs.declared.request.InputFile.TheVariants.{Pipeline as PipelineFile}
-use Rattle.pl_words.specs.Request.{Request, Run, Daily, RunRequest, Dated, WorldNames}
+use Rattle.pl_words.specs.Request.{Request, RunRequest, WorldNames}
 use Rattle.pl_load.specs.declared.fault.Fault.{Fault}
 use Rattle.pl_load.specs.declared.fault.Fault.TheVariants.{Unwritten}
 use Rattle.pl_load.specs.Contents.{Contents}
@@ -28,7 +23,6 @@ use Rattle.pl_load.specs.Held.{days_held, pipeline_held, world_held}
 use Rattle.pl_load.specs.Range.{session_of, index_of, range_steps, dates_steps, plan_steps}
 use Rattle.pl_load.specs.Steps.{WorkStep, first_fault}
 use Rattle.pl_load.specs.Work.{work, run_work, evaluated_steps, data_steps}
-use Rattle.pl_cli.specs.Runs.{Observed, IsRun}
 use Rattle.pl_cli.specs.Texts.{text_of, run_text}
 use Rattle.pl_lookahead.specs.Agreement.{AgreeUpTo, is_of, of_table_held, revisions_held}
 use Rattle.pl_lookahead.specs.Laws.{AsksTable, AskAlike, HasNoFault, LaterDataChangeNoByte}
