@@ -26,7 +26,7 @@ use Rattle.pl_laws.proofs.Law.{SeenAlike, agree-seen}
 use Rattle.pl_laws.proofs.Permuted.{order-changes-nothing}
 use Rattle.pl_laws.proofs.TableLaw.{table_same}
 use Rattle.pl_laws.proofs.Texts.{text_same}
-use Rattle.pl_lookahead.specs.Agreement.{SameRowsUpTo}
+use Rattle.pl_lookahead.specs.Agreement.{SameRowsUpTo, is_before}
 
 -- each bar, each label row and each number of a world is there once
 pub record HasEachOnce (w : World) : Type 0 where
@@ -53,7 +53,7 @@ module _ (w v : World) (d : ℕ) (day : ℤ) (ok : HasEachOnce w) (ok' : IsWorld
 
   bars_once : BarsOnce (as_of w d day)
   bars_once b c in_b in_c =
-      ok.bars b c (filter-contains (λ b. nat_lt b.session d) w.bars b in_b).0 (filter-contains (λ b. nat_lt b.session d) w.bars c in_c).0
+      ok.bars b c (filter-contains (is_before d) w.bars b in_b).0 (filter-contains (is_before d) w.bars c in_c).0
 
   labels_once : LabelsOnce (as_of w d day)
   labels_once r q in_r in_q =

@@ -5,3 +5,4 @@ pub mod Dates
 pub mod Readable
 pub mod Held
 pub mod Texts
+pub mod Same

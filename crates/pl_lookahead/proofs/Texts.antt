@@ -77,7 +77,7 @@ judged held a q asks h = elim asks [
   | inr daily ↦ run-judged held q (rw daily at h)
 ]
 
-asked-text : (held : Contents) (a : Request) (q : RunRequest) → AsksTable a q → text_of held (Some a) ≡ run_text held q
+pub asked-text : (held : Contents) (a : Request) (q : RunRequest) → AsksTable a q → text_of held (Some a) ≡ run_text held q
 unfolding text_of
 asked-text held a q asks = elim asks [ inl run ↦ rw run refl | inr daily ↦ rw daily refl ]
 

@@ -1,5 +1,7 @@
 -- What comes later changes no byte.
 use Rattle.std.specs.Prelude.{◌≡◌, ◌⊎◌, ℕ, ℤ, ◌≤ℤ◌, List, Some, None}
+use Rattle.pl_outside.specs.Files.{Files}
+use Rattle.pl_outside.specs.Lists.{Lists}
 use Rattle.pl_outside.specs.Taken.{TakesAll}
 use Rattle.pl_words.specs.Request.{Request, Run, Daily, RunRequest}
 use Rattle.pl_load.specs.Contents.{Contents}
@@ -25,15 +27,44 @@ pub record AskAlike (q r : RunRequest) (day : ℤ) : Type 0 where
 abbrev pub HasNoFault : Contents → Request → Type 0
 HasNoFault held asked = first_fault (work held (Some asked)) ≡ None
 
+-- both took the same bytes after those that they took before, where they tell
+abbrev pub TookSame : Observed → Observed → Type 0
+TookSame o p = (bytes : List ℕ) × TakesAll o.taken o.taken_now bytes × TakesAll p.taken p.taken_now bytes
+
 -- Two commands that agree up to a session ask for the table of one range up to it. Then the bytes of the one
 -- are those of the other.
 pub record LaterDataChangeNoByte : Type 0 where
-  pub texts : (one other : Contents) (a b : Request) (q r : RunRequest) (d : ℕ) (day : ℤ) → AsksTable a q → AsksTable b r
-      → AskAlike q r day → AgreeUpTo one other q.world r.world d day → HasNoFault one a → HasNoFault other b
-      → text_of one (Some a) ≡ text_of other (Some b)
+  pub texts : (one other : Contents) (a b : Request) (q r : RunRequest) (d : ℕ) (day : ℤ)
+      → AsksTable a q → AsksTable b r → AskAlike q r day → AgreeUpTo one other q.world r.world d day
+      → HasNoFault one a → HasNoFault other b → text_of one (Some a) ≡ text_of other (Some b)
   -- so two runs of the program that end with status 0 took the same bytes
-  pub runs : (o p : Observed) (a b : Request) (q r : RunRequest) (d : ℕ) (day : ℤ) (line other_line numbers other_numbers : List ℕ)
+  pub runs : (o p : Observed) (a b : Request) (q r : RunRequest) (d : ℕ) (day : ℤ)
+      → (line other_line numbers other_numbers : List ℕ)
       → AsksTable a q → AsksTable b r → AskAlike q r day
       → (first : IsRun o (Some a) 0 line numbers) → (second : IsRun p (Some b) 0 other_line other_numbers)
-      → AgreeUpTo first.held second.held q.world r.world d day
-      → (bytes : List ℕ) × TakesAll o.taken o.taken_now bytes × TakesAll p.taken p.taken_now bytes
+      → AgreeUpTo first.held second.held q.world r.world d day → TookSame o p
+
+-- one range of one pipeline over files and tables of the same names, in one format
+pub record AskSame (q r : RunRequest) : Type 0 where
+  pub pipeline : q.pipeline ≡ r.pipeline
+  pub world : q.world ≡ r.world
+  pub from : q.from.day ≡ r.from.day
+  pub to : q.to.day ≡ r.to.day
+  pub format : q.options.format ≡ r.options.format
+
+-- both parts tell the same files and the same tables
+pub record TellSame (o p : Observed) : Type 0 where
+  pub files : Files
+  pub lists : Lists
+  pub first_files : o.files ≡ Some files
+  pub first_lists : o.lists ≡ Some lists
+  pub second_files : p.files ≡ Some files
+  pub second_lists : p.lists ≡ Some lists
+
+-- Two runs of status 0 over the same files and tables took the same bytes, by `run` or by `daily`, for all
+-- sizes of chunks.
+abbrev pub SameFilesSameBytes : Type 0
+SameFilesSameBytes = (o p : Observed) (a b : Request) (q r : RunRequest)
+    → (line other_line numbers other_numbers : List ℕ)
+    → AsksTable a q → AsksTable b r → AskSame q r → TellSame o p
+    → IsRun o (Some a) 0 line numbers → IsRun p (Some b) 0 other_line other_numbers → TookSame o p

@@ -1,9 +1,14 @@
-//! The law.
+//! The laws.
 
-ghost use Rattle.pl_lookahead.specs.Laws.{LaterDataChangeNoByte};
+ghost use Rattle.pl_lookahead.specs.Laws.{LaterDataChangeNoByte, SameFilesSameBytes};
 
-/// Where the files and tables of two commands agree up to a session, and no reader refuses them, the tables up to
-/// it are the same bytes, by `run` and by `daily`, for all sizes of chunks, whatever comes later in them.
+/// Where the files and tables of two commands agree up to a session, and no reader refuses them, the tables up
+/// to it are the same bytes, by `run` and by `daily`, for all sizes of chunks, whatever comes later in them.
 pub fn later_data_change_no_byte()
     ensures { LaterDataChangeNoByte }
+{}
+
+/// Runs over the same files and tables write the same bytes, by `run` and by `daily`, for all sizes of chunks.
+pub fn same_files_same_bytes()
+    ensures { SameFilesSameBytes }
 {}
