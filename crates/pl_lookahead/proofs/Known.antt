@@ -1,5 +1,5 @@
 -- Worlds of which the same rows are known by a session are seen alike up to it, and write the same text.
-use Rattle.std.proofs.Common.{◌≡◌, ℕ, suc, ◌≤◌, nat_lt, ℤ, pos, negsuc, ◌≤ℤ◌, ◌++◌, flat_map, Some, refl, sym, ◌∙◌, ap, arith, slice_get}
+use Rattle.std.proofs.Common.{◌≡◌, ℕ, suc, ◌≤◌, ℤ, pos, negsuc, ◌≤ℤ◌, ◌++◌, flat_map, Some, refl, sym, ◌∙◌, ap, arith, slice_get}
 use Rattle.std.proofs.lemmas.Int.{ints}
 use Rattle.pl_spec.specs.declared.Column.{Column}
 use Rattle.pl_spec.specs.declared.Format.{Format}
