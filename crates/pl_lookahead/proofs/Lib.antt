@@ -6,3 +6,4 @@ pub mod Readable
 pub mod Held
 pub mod Texts
 pub mod Same
+pub mod OwnDays

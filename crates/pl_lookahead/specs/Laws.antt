@@ -1,5 +1,7 @@
 -- What comes later changes no byte.
-use Rattle.std.specs.Prelude.{◌≡◌, ◌⊎◌, ℕ, ℤ, ◌≤ℤ◌, List, Some, None}
+use Rattle.std.specs.Prelude.{◌≡◌, ◌≢◌, ◌⊎◌, ℕ, ℤ, ◌≤ℤ◌, List, filter, AllPairs, IsPermutation, Some, None}
+use Rattle.pl_spec.specs.Agree.{is_known}
+use Rattle.pl_spec.specs.World.{Adjustment}
 use Rattle.pl_outside.specs.Files.{Files}
 use Rattle.pl_outside.specs.Lists.{Lists}
 use Rattle.pl_outside.specs.Taken.{TakesAll}
@@ -9,7 +11,7 @@ use Rattle.pl_load.specs.Steps.{first_fault}
 use Rattle.pl_load.specs.Work.{work}
 use Rattle.pl_cli.specs.Texts.{text_of}
 use Rattle.pl_cli.specs.Runs.{Observed, IsRun}
-use Rattle.pl_lookahead.specs.Agreement.{AgreeUpTo}
+use Rattle.pl_lookahead.specs.Agreement.{AgreeUpTo, is_of}
 
 -- the request asks for the table of a run, by `run` or by `daily`
 abbrev pub AsksTable : Request → RunRequest → Type 0
@@ -68,3 +70,14 @@ SameFilesSameBytes = (o p : Observed) (a b : Request) (q r : RunRequest)
     → (line other_line numbers other_numbers : List ℕ)
     → AsksTable a q → AsksTable b r → AskSame q r → TellSame o p
     → IsRun o (Some a) 0 line numbers → IsRun p (Some b) 0 other_line other_numbers → TookSame o p
+
+-- no two of the adjustments are of one asset and one day
+abbrev pub HaveOwnDays : List Adjustment → Type 0
+HaveOwnDays xs = AllPairs (λ x y. x.sid ≡ y.sid → x.event.day ≢ y.event.day) xs
+
+-- Rows of such a table that are effective by the day may stand in any order: it agrees, for each asset and day
+-- up to this one, with a table that has the same ones.
+abbrev pub OwnDaysInAnyOrder : Type 0
+OwnDaysInAnyOrder = (xs ys : List Adjustment) (day : ℤ) → HaveOwnDays xs
+    → IsPermutation (filter (λ x. is_known day x.event) xs) (filter (λ x. is_known day x.event) ys)
+    → (sid : ℕ) (x : ℤ) → x ≤ℤ day → filter (is_of sid x) xs ≡ filter (is_of sid x) ys

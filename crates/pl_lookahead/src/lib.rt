@@ -5,4 +5,4 @@
 
 mod laws;
 
-pub use laws::{later_data_change_no_byte, same_files_same_bytes};
+pub use laws::{later_data_change_no_byte, own_days_in_any_order, same_files_same_bytes};
