@@ -40,6 +40,7 @@ GREATEST_SID = 2**32 - 1
 PUBLISHED = ("labels", "numbers", "revisions")  # what becomes known on a day, perhaps after the close
 ADJUSTED = re.compile("adj|^raw|raw$")  # of names in small letters alone: another version of a price
 EVENTS = re.compile("^(stock)?split|^div|^capitalgain")
+NO_SYMBOL = "where the symbol is NA or NAN, read the file with keep_default_na=False"
 NEGATIVE = (
     "in CRSP such a price is a mean of bid and ask: give .abs()",
     "in CRSP a volume of -99 is a missing one: give NaN",
@@ -73,7 +74,7 @@ class Sids:
     def __call__(self, assets: pd.Series, what: str) -> pd.Series:
         codes, distinct = pd.factorize(assets.to_numpy())  # of objects, too, without a guess at their type
         if (codes < 0).any():
-            raise DataFault(f"{what}: an asset is missing", rows_of(assets, codes < 0))
+            raise DataFault(f"{what}: an asset is missing", f"{rows_of(assets, codes < 0)}; {NO_SYMBOL}")
         sids = np.empty(len(distinct), dtype="int64")
         for at, asset in enumerate(distinct):
             try:
@@ -114,11 +115,10 @@ def read_asset(asset: Any, what: str) -> Union[int, str]:
         return str(asset)
     sid = whole_number(asset)
     if sid is None:
-        missing = asset is None or asset is pd.NA or asset != asset
-        raise DataFault(
-            f"{what}: an asset is missing" if missing else f"{what}: {asset!r} is neither a sid nor a symbol",
-            f"a sid is a whole number from 0 to {GREATEST_SID}, a symbol is a text",
-        )
+        if asset is None or asset is pd.NA or asset != asset:
+            raise DataFault(f"{what}: an asset is missing", NO_SYMBOL)
+        hint = f"a sid is a whole number from 0 to {GREATEST_SID}, a symbol is a text"
+        raise DataFault(f"{what}: {asset!r} is neither a sid nor a symbol", hint)
     if not 0 <= sid <= GREATEST_SID:
         raise DataFault(f"{what}: {sid} is no sid", f"a sid is a whole number from 0 to {GREATEST_SID}")
     return sid
