@@ -11,7 +11,7 @@ top=$(dirname "$here")
 . "$top/tools/parts.sh"
 export TOHMERIL=${TOHMERIL:-$top/crates/pl_main/out/pl_main}
 export PYTHONDONTWRITEBYTECODE=1
-parts=(pandas pytest distributed graphviz matplotlib setuptools sqlite3 tqdm venv wheel)
+parts=(pandas pytest black distributed graphviz matplotlib mypy setuptools sqlite3 tqdm venv wheel)
 need_program python "$TOHMERIL"
 need python "${parts[@]}"
 if is_left_out pandas || is_left_out pytest; then

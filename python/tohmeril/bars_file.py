@@ -15,11 +15,11 @@ import numpy as np
 import pandas as pd
 
 from .faults import DataFault
-from .frames import NEGATIVE, NO_SYMBOL, Frame, and_others, long_bars, to_numbers
+from .frames import NEGATIVE, NO_SYMBOL, and_others, long_bars, to_numbers
 from .pipeline.script import BARS
 from .pipeline.term import GREATEST
 
-AnyBars = Union[Frame, Mapping[str, Frame], Iterable[Frame]]
+AnyBars = Union[pd.DataFrame, Mapping[str, pd.DataFrame], Iterable[pd.DataFrame]]
 RECORD = np.dtype([("asset", "i4"), ("day", "i4"), ("row", "i4"), ("cells", "i8", len(BARS))])
 MISSING = np.iinfo("i8").min  # of a cell, which is in millionths
 BATCH = 1 << 22  # records in memory
@@ -75,7 +75,7 @@ class Bars:
             index = pd.RangeIndex(len(index))  # an index of each frame would take memory
         self.frames.append((self.rows, index))
 
-    def add(self, rows: Frame, kept: Optional[np.ndarray] = None) -> None:
+    def add(self, rows: pd.DataFrame, kept: Optional[np.ndarray] = None) -> None:
         """Take in the next bars of the frame: sid, session (as YYYY-MM-DD) and the five columns, of any type.
 
         Of the rows those that are kept, or all.
@@ -101,7 +101,7 @@ class Bars:
                 part["cells"][:, at] = millionths(values[step])
             self.filled += len(part)
 
-    def _values(self, rows: Frame, places: np.ndarray, name: str) -> np.ndarray:
+    def _values(self, rows: pd.DataFrame, places: np.ndarray, name: str) -> np.ndarray:
         """A column as floats, which has no value that a bar can't have."""
         values = to_numbers(rows[name], "bars").to_numpy("float64")
         for wrong, hint in ((np.isinf(values), "give NaN for a missing value"), (values < 0, NEGATIVE[name == "volume"]),
@@ -110,7 +110,7 @@ class Bars:
                 self._refuse(rows, places, wrong, f"the {name} of {{}} is {values[wrong.argmax()]:.12g}", hint)
         return values
 
-    def _refuse(self, rows: Frame, places: np.ndarray, wrong: np.ndarray, told: str, hint: str = "") -> None:
+    def _refuse(self, rows: pd.DataFrame, places: np.ndarray, wrong: np.ndarray, told: str, hint: str = "") -> None:
         """Raise the fault of the first wrong row, where there is one."""
         if wrong.any():
             at = int(wrong.argmax())
@@ -236,7 +236,7 @@ def _keys(assets: np.ndarray, days: np.ndarray) -> np.ndarray:
 
 
 @contextmanager
-def gathered(folder: Path, bars: AnyBars, progress: bool = False, kept: Optional[Callable[[Frame], np.ndarray]] = None) -> Iterator[Bars]:
+def gathered(folder: Path, bars: AnyBars, progress: bool = False, kept: Optional[Callable[[pd.DataFrame], np.ndarray]] = None) -> Iterator[Bars]:
     """Bars of any form, whose batches are in the folder within the block; of the rows of frames those that `kept` says, or all."""
     found = Bars(folder)
     try:
@@ -254,17 +254,17 @@ def gathered(folder: Path, bars: AnyBars, progress: bool = False, kept: Optional
         found.close()
 
 
-def _frames(bars: AnyBars) -> Iterator[tuple[Optional[pd.Index], Iterable[Union[Frame, Mapping[str, Frame]]]]]:
+def _frames(bars: AnyBars) -> Iterator[tuple[Optional[pd.Index], Iterable[Union[pd.DataFrame, Mapping[str, pd.DataFrame]]]]]:
     """Each frame in slices, so that no copy of a whole one is made, with its index where its rows are the bars."""
     if isinstance(bars, Mapping):
         first = next(iter(bars.values()), None)
-        if bars and all(isinstance(frame, Frame) and frame.index.equals(first.index) for frame in bars.values()):
+        if bars and all(isinstance(frame, pd.DataFrame) and frame.index.equals(first.index) for frame in bars.values()):
             yield None, ({name: frame.iloc[step] for name, frame in bars.items()} for step in _steps(len(first), first.shape[1]))
         else:
             yield None, [bars]
         return
-    for frame in [bars] if isinstance(bars, Frame) else bars:
-        if not isinstance(frame, Frame):
+    for frame in [bars] if isinstance(bars, pd.DataFrame) else bars:
+        if not isinstance(frame, pd.DataFrame):
             raise DataFault(f"bars: {type(frame).__name__} is no frame", "one takes a frame, frames by name, or long frames one after the other")
         wide = frame.columns.nlevels == 2
         yield None if wide else frame.index, (frame.iloc[step] for step in _steps(len(frame), max(1, frame.shape[1] // 5) if wide else 1))

@@ -19,7 +19,7 @@ from .data import FILES, HEADERS, NEEDED, SECONDS, TABLES, Data, read_only
 from .days import Day, read_day
 from .faults import DataFault, LimitFault, ReadFault, StoreFault
 from .folder import writing
-from .frames import FOREVER, Frame, Sids, and_others, late_parts, read_symbols, require_unique, select_columns
+from .frames import FOREVER, Sids, and_others, late_parts, read_symbols, require_unique, select_columns
 from .ingest import add_adjustments, adjustments, beside_bars, calendar, of_parts, write_records
 from .odd import PROBE
 from .pipeline.script import BARS
@@ -32,12 +32,12 @@ class Store(NamedTuple):
     """What a folder has before news are added: its data, its last session, its lifetimes by sid."""
     data: Data
     last: str
-    lives: Frame
+    lives: pd.DataFrame
 
 
-def append(folder: Union[str, Path], bars: Optional[AnyBars] = None, *, sessions: Optional[Iterable] = None, assets: Optional[Frame] = None,
-           splits: Optional[Frame] = None, mergers: Optional[Frame] = None, dividends: Optional[Frame] = None,
-           labels: Union[Frame, Mapping, None] = None, revisions: Optional[Frame] = None, numbers: Union[Frame, Mapping, None] = None,
+def append(folder: Union[str, Path], bars: Optional[AnyBars] = None, *, sessions: Optional[Iterable] = None, assets: Optional[pd.DataFrame] = None,
+           splits: Optional[pd.DataFrame] = None, mergers: Optional[pd.DataFrame] = None, dividends: Optional[pd.DataFrame] = None,
+           labels: Union[pd.DataFrame, Mapping, None] = None, revisions: Optional[pd.DataFrame] = None, numbers: Union[pd.DataFrame, Mapping, None] = None,
            symbols: Optional[Mapping[str, int]] = None, after_close: Union[bool, str, Iterable[str]] = (), late: Optional[Day] = None) -> Data:
     """Add what came since the last session of a folder, at once, and as seen from then on alone.
 
@@ -79,7 +79,7 @@ def append(folder: Union[str, Path], bars: Optional[AnyBars] = None, *, sessions
     folder, given = Path(folder), {"splits": splits, "mergers": mergers, "dividends": dividends}
     with writing(folder, list(FILES.values())) as new:
         store = _opened(folder)
-        early: list[Frame] = []
+        early: list[pd.DataFrame] = []
         with gathered(new, () if bars is None else bars, kept=lambda rows: _kept(rows, store, late, early)) as found:
             lives = None if assets is None else select_columns(assets, "assets")
             sids = _sids(store, [*found.assets, *(sid for rows in early for sid in rows.sid), *([] if lives is None else lives.sid)], symbols)
@@ -112,7 +112,7 @@ def _opened(folder: Path) -> Store:
     return Store(data, data.sessions[-1], lives)
 
 
-def _kept(rows: Frame, store: Store, late: Optional[Day], early: list[Frame]) -> np.ndarray:
+def _kept(rows: pd.DataFrame, store: Store, late: Optional[Day], early: list[pd.DataFrame]) -> np.ndarray:
     """Which bars are no earlier than the last session; the others are put to the early ones, where they may be late."""
     kept = (rows.session >= store.last).to_numpy()
     if not kept.all():
@@ -180,7 +180,7 @@ def _next_sessions(store: Store, found: Bars, sessions: Optional[Iterable]) -> l
     return days
 
 
-def _lives(store: Store, found: Bars, own: np.ndarray, early: list[Frame], sids: Sids, given: Optional[Frame]) -> Frame:
+def _lives(store: Store, found: Bars, own: np.ndarray, early: list[pd.DataFrame], sids: Sids, given: Optional[pd.DataFrame]) -> pd.DataFrame:
     """The lifetimes that are new or others, where they change no row up to the last session."""
     there = found.first <= found.last
     starts = {**{int(sid): store.last for rows in early for sid in sids(rows.sid, "bars")},
@@ -197,11 +197,11 @@ def _lives(store: Store, found: Bars, own: np.ndarray, early: list[Frame], sids:
                                     "an asset starts on the last session or later, and its end is changed before it is reached")
             if (start, end) != before:
                 lives[int(sid)] = (start, end)
-    return Frame([(sid, *days) for sid, days in sorted(lives.items())], columns=HEADERS["assets"])
+    return pd.DataFrame([(sid, *days) for sid, days in sorted(lives.items())], columns=HEADERS["assets"])
 
 
-def _beside(store: Store, sids: Sids, days: list[str], labels, revisions, numbers, after_close: Container[str], early: list[Frame],
-            late: Optional[Day]) -> dict[str, Frame]:
+def _beside(store: Store, sids: Sids, days: list[str], labels, revisions, numbers, after_close: Container[str], early: list[pd.DataFrame],
+            late: Optional[Day]) -> dict[str, pd.DataFrame]:
     """The new records of the other files, which are seen after the last session alone."""
     first = days[0] if days else as_text(as_number(store.last) + 1)
     files = beside_bars(sids, first, labels, revisions, numbers, after_close)
@@ -236,7 +236,7 @@ def copied(source: Path, target: Path) -> None:
             file.write(b"\n")
 
 
-def _add(store: Store, new: Path, part: str, frame: Optional[Frame], days: list[str]) -> int:
+def _add(store: Store, new: Path, part: str, frame: Optional[pd.DataFrame], days: list[str]) -> int:
     """Write the records of a part after those that were there; lifetimes replace those of their assets. Their count."""
     path = new / FILES[part]
     if part == "assets":
@@ -256,7 +256,7 @@ def _add(store: Store, new: Path, part: str, frame: Optional[Frame], days: list[
     return len(days) if part == "sessions" else 0 if frame is None else len(frame)
 
 
-def _add_adjustments(store: Store, new: Path, given: Mapping[str, Optional[Frame]], sids: Sids) -> dict[str, int]:
+def _add_adjustments(store: Store, new: Path, given: Mapping[str, Optional[pd.DataFrame]], sids: Sids) -> dict[str, int]:
     """Add rows to the tables of adjustments, which act after the last session alone. Their counts."""
     path = store.data.files["adjustments"]
     try:
@@ -292,7 +292,7 @@ def _judge(new: Path) -> None:
         pass
 
 
-def _warn(store: Store, sids: Sids, lives: Frame, found: Bars, own: np.ndarray, days: list[str]) -> None:
+def _warn(store: Store, sids: Sids, lives: pd.DataFrame, found: Bars, own: np.ndarray, days: list[str]) -> None:
     """Warn of assets whose end is reached, and of bars of those that have ended."""
     ends = store.lives["end"].to_dict()
     ends.update(zip(lives.sid, lives.end))
