@@ -33,7 +33,7 @@ class Span(NamedTuple):
     folder: Path
     first: str
     last: str
-    sids: frozenset
+    sids: frozenset[str]
 
 
 def cut_files(script: Script, data: Data, ranges: Sequence[tuple[str, str]], folder: Path) -> list[Data]:
