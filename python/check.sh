@@ -11,7 +11,7 @@ top=$(dirname "$here")
 . "$top/tools/parts.sh"
 export TOHMERIL=${TOHMERIL:-$top/crates/pl_main/out/pl_main}
 export PYTHONDONTWRITEBYTECODE=1
-parts=(pandas pytest distributed graphviz matplotlib setuptools sqlite3 tqdm venv wheel)
+parts=(pandas pytest black distributed graphviz matplotlib mypy setuptools sqlite3 tqdm venv wheel)
 need_program python "$TOHMERIL"
 need python "${parts[@]}"
 if is_left_out pandas || is_left_out pytest; then
@@ -26,10 +26,10 @@ cd "$here"
 # all that the tests write, and what matplotlib and dask keep of their own, goes into the folder
 export TMPDIR=$folder MPLCONFIGDIR=$folder DASK_CONFIG=$folder DASK_TEMPORARY_DIRECTORY=$folder
 status=0
-timeout 900 "$python" -m pytest -q -rs -p no:cacheprovider --basetemp "$folder/pytest" "$@" > "$folder/log" 2>&1 || status=$?
-lines=1
-[ $status = 0 ] || lines=200
-tail -n $lines "$folder/log"
+timeout 1800 "$python" -m pytest -q -rsfE -p no:cacheprovider --basetemp "$folder/pytest" "$@" > "$folder/log" 2>&1 || status=$?
+# of a failure the warnings are not shown, which may be hundreds of lines
+[ $status = 0 ] || sed '/= warnings summary =/,/^-- Docs: /d' "$folder/log" | tail -n 300 | head -n -1
+tail -n 1 "$folder/log"
 
 # count WORD: how many tests the last line of pytest gives that word.
 count() {

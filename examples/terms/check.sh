@@ -8,6 +8,7 @@ folder=$(mktemp -d)
 trap 'rm -rf "$folder"' EXIT
 examples=0
 refused=0
+# shellcheck disable=SC2016  # backquotes of the page
 while IFS= read -r line; do
     # a screen alone is no pipeline
     printf 'pipeline 3;\n%s\ncolumn one = 1;\n' "$line" > "$folder/p.pl"

@@ -18,18 +18,28 @@ DAYS = pd.bdate_range("2024-01-01", periods=12)
 def frame(tmp_path_factory):
     """Two assets that rise by a tenth and fall by a tenth each day, the first with a split of 2:1 in the middle."""
     close = pd.DataFrame({1: 100 * 1.1 ** np.arange(12), 2: 100 * 0.9 ** np.arange(12)}, index=DAYS)
-    close.loc[DAYS[6]:, 1] /= 2
-    data = Data.write(tmp_path_factory.mktemp("data"), {"close": close},
-                      splits=pd.DataFrame({"sid": [1], "effective_date": DAYS[6:7], "ratio": [0.5]}))
+    close.loc[DAYS[6] :, 1] /= 2
+    data = Data.write(
+        tmp_path_factory.mktemp("data"),
+        {"close": close},
+        splits=pd.DataFrame({"sid": [1], "effective_date": DAYS[6:7], "ratio": [0.5]}),
+    )
     change = Returns(window_length=2)
-    pipe = Pipeline({"change": change, "half": change.quantiles(2), "ahead": Returns(window_length=4), "price": EquityPricing.close.latest})
+    pipe = Pipeline(
+        {
+            "change": change,
+            "half": change.quantiles(2),
+            "ahead": Returns(window_length=4),
+            "price": EquityPricing.close.latest,
+        }
+    )
     return run_pipeline(pipe, DAYS[4], DAYS[11], data)
 
 
 def test_forward_returns_are_adjusted(frame):
     ahead = plots.forward_returns(frame, "ahead", 3).unstack("asset")
-    np.testing.assert_allclose(ahead[1].iloc[:5], 1.1 ** 3 - 1, atol=1e-6)
-    np.testing.assert_allclose(ahead[2].iloc[:5], 0.9 ** 3 - 1, atol=1e-6)
+    np.testing.assert_allclose(ahead[1].iloc[:5], 1.1**3 - 1, atol=1e-6)
+    np.testing.assert_allclose(ahead[2].iloc[:5], 0.9**3 - 1, atol=1e-6)
     assert ahead.iloc[5:].isna().all(axis=None)
     raw = frame.price.unstack("asset")[1]
     assert raw.shift(-3).div(raw).sub(1).min() < -0.3  # what raw closes would show
@@ -56,6 +66,7 @@ def test_turnover():
 def drawn(figure):
     """The figure as it is drawn on a canvas."""
     from matplotlib.backends.backend_agg import FigureCanvasAgg
+
     FigureCanvasAgg(figure).draw()
     return figure.axes[0]
 
@@ -74,20 +85,44 @@ def test_days_can_be_read(sessions):
 
 
 def test_titles_say_what_is_shown(frame):
-    assert plots.turnover(frame, "half", sessions=3).axes[0].get_title() == "turnover of the top bin of half, 1, within 3 sessions, percent"
+    assert (
+        plots.turnover(frame, "half", sessions=3).axes[0].get_title()
+        == "turnover of the top bin of half, 1, within 3 sessions, percent"
+    )
     assert plots.turnover(frame, "half").axes[0].get_title().endswith("within 1 session, percent")
-    assert plots.factor(frame, "change", [2]).axes[0].get_title() == "change of 1 of 2 assets, and where the middle half of all is"
+    assert (
+        plots.factor(frame, "change", [2]).axes[0].get_title()
+        == "change of 1 of 2 assets, and where the middle half of all is"
+    )
     below = plots.quantile_returns(frame, "half", "ahead", sessions=3).axes[0].get_xlabel()
-    assert below == "bin of half, from 0, the least values, to 1, the greatest\nmean of 5 sessions from 2024-01-05 to 2024-01-11"
+    assert (
+        below
+        == "bin of half, from 0, the least values, to 1, the greatest\nmean of 5 sessions from 2024-01-05 to 2024-01-11"
+    )
 
 
-@pytest.mark.parametrize("call, sort, told", [
-    (lambda frame: plots.quantile_returns(frame, "change", "ahead", 3), TypeError, "'change' is a column of float64, and bins are whole numbers"),
-    (lambda frame: plots.turnover(frame, "price"), TypeError, "'price' is a column of float64"),
-    (lambda frame: plots.factor(frame, "changes"), KeyError, "no column 'changes'; there are change, half, ahead, price"),
-    (lambda frame: plots.factor(frame, "change", [7]), KeyError, "no asset 7; there are 1, 2"),
-    (lambda frame: plots.quantile_returns(frame.iloc[-2:], "half", "ahead", 3), ValueError, "no asset has both a bin of 'half' and a return"),
-])
+@pytest.mark.parametrize(
+    "call, sort, told",
+    [
+        (
+            lambda frame: plots.quantile_returns(frame, "change", "ahead", 3),
+            TypeError,
+            "'change' is a column of float64, and bins are whole numbers",
+        ),
+        (lambda frame: plots.turnover(frame, "price"), TypeError, "'price' is a column of float64"),
+        (
+            lambda frame: plots.factor(frame, "changes"),
+            KeyError,
+            "no column 'changes'; there are change, half, ahead, price",
+        ),
+        (lambda frame: plots.factor(frame, "change", [7]), KeyError, "no asset 7; there are 1, 2"),
+        (
+            lambda frame: plots.quantile_returns(frame.iloc[-2:], "half", "ahead", 3),
+            ValueError,
+            "no asset has both a bin of 'half' and a return",
+        ),
+    ],
+)
 def test_what_cannot_be_shown(call, sort, told, frame):
     with pytest.raises(sort, match=told):
         call(frame)

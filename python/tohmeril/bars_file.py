@@ -15,7 +15,7 @@ import numpy as np
 import pandas as pd
 
 from .faults import DataFault
-from .frames import NEGATIVE, and_others, long_bars, to_numbers
+from .frames import NEGATIVE, NO_SYMBOL, and_others, long_bars, to_numbers
 from .pipeline.script import BARS
 from .pipeline.term import GREATEST
 
@@ -88,7 +88,7 @@ class Bars:
         if kept is not None:
             rows, places = rows[kept], places[kept]
         local, found = pd.factorize(rows.sid.to_numpy())
-        self._refuse(rows, places, local < 0, "an asset is missing")
+        self._refuse(rows, places, local < 0, "an asset is missing", NO_SYMBOL)
         numbers = np.array([self.numbers.setdefault(asset, len(self.numbers)) for asset in found.tolist()], "i4")[local]
         codes, days = pd.factorize(rows.session.to_numpy())
         days = np.array(list(days), "datetime64[D]").astype("i4")[codes]

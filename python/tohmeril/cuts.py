@@ -14,7 +14,7 @@ from contextlib import closing, contextmanager
 from itertools import islice
 from pathlib import Path
 from tempfile import TemporaryDirectory
-from typing import Container, Iterator, NamedTuple, Sequence, Union
+from typing import Any, Container, Iterator, NamedTuple, Sequence, Union
 
 import numpy as np
 import pandas as pd
@@ -45,7 +45,7 @@ def cut_files(script: Script, data: Data, ranges: Sequence[tuple[str, str]], fol
     assets = tables["assets"]
     spans = []
     for at, (start, end) in enumerate(ranges):
-        first = plan(script, start, end, data).first_session
+        first = data.sessions[plan(script, start, end, data).reach]
         spans.append(Span(folder / str(at), first, end, frozenset(assets.sid[(assets.start < end) & (assets.end >= first)])))
     for span in spans:
         span.folder.mkdir()
@@ -62,9 +62,10 @@ def cut_files(script: Script, data: Data, ranges: Sequence[tuple[str, str]], fol
 
 def of_whole(fault: DataFault, data: Data, piece: Data) -> DataFault:
     """A fault of a piece's file, as one of the file that this was cut from."""
+    assert fault.path is not None and fault.record is not None  # it is the program's
     part = {name: part for part, name in FILES.items()}[Path(fault.path).name]
     records = piece.folder / f"{part}.records"
-    return fault.moved(data.files[part], np.fromfile(records, "i8")[fault.record - 1] if records.exists() else fault.record)
+    return fault.moved(data.files[part], int(np.fromfile(records, "i8")[fault.record - 1]) if records.exists() else fault.record)
 
 
 def packed(data: Data) -> dict[str, bytes]:
@@ -148,13 +149,15 @@ def _bars(data: Data, spans: Sequence[Span], assets: pd.Index) -> None:
                 kept = is_record & (mine[asset] & (session >= first) & (session < end) | unknown)
                 if kept.any():
                     with open(folder / FILES["bars"], "ab") as out, open(folder / "bars.records", "ab") as whole:
-                        text[np.repeat(kept, lengths)].tofile(out)
-                        numbers[kept].tofile(whole)
+                        out.write(memoryview(text[np.repeat(kept, lengths)]))  # tofile turns Ctrl-C into a TypeError
+                        whole.write(memoryview(numbers[kept]))
 
 
-def _places(keys: pd.Series, known: pd.Index) -> np.ndarray:
+def _places(keys: pd.Series, known: pd.Index) -> np.ndarray[Any, Any]:
     """The places of keys among the known ones; -1 for one that is not."""
-    return np.append(known.get_indexer([str(key).strip('"') for key in keys.cat.categories]), -1)[keys.cat.codes]
+    places: np.ndarray[Any, Any] = np.append(known.get_indexer([str(key).strip('"') for key in keys.cat.categories]), -1)
+    found: np.ndarray[Any, Any] = places[keys.cat.codes.to_numpy()]
+    return found
 
 
 def _adjustments(source: Path, span: Span) -> None:
@@ -168,4 +171,4 @@ def _adjustments(source: Path, span: Span) -> None:
                 store.execute(f"INSERT INTO {table} SELECT id, effective_date, num, den, sid FROM source.{table} "
                               "WHERE effective_date >= ? AND effective_date < ?", days)
     except sqlite3.Error as error:
-        raise StoreFault(f"store: {source}", str(error)) from None
+        raise StoreFault(f"store: {source}") from error

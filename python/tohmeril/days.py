@@ -5,11 +5,15 @@ import calendar
 import re
 from datetime import date, datetime, time, timedelta
 from numbers import Integral
-from typing import Any, Callable, Iterable, Union
+from typing import TYPE_CHECKING, Any, Callable, Sequence, Union
 
 import numpy as np
 import pandas as pd
+from numpy.typing import NDArray
 from pandas.api.types import infer_dtype, is_datetime64_any_dtype, is_numeric_dtype, is_scalar
+
+if TYPE_CHECKING:
+    from .faults import DataFault
 
 Day = Union[str, int, date, datetime, pd.Timestamp, np.datetime64]
 YEARS = range(1900, 2200)  # of the days that the program knows
@@ -108,8 +112,8 @@ def read_known(values: pd.Series, what: str, after_close: bool) -> pd.Series:
     Raises
     ------
     DataFault
-        As `read_days`, and where a value has a time of day, but for midnight, without `after_close`: it may be before the
-        open of that session or after it.
+        As `read_days`, and where a value has a time of day, but for midnight, without `after_close`: it may be before
+        the open of that session or after it.
     """
     if after_close:
         return _taken(*_distinct(values, what), lambda value: _date(value) + timedelta(days=1), values, what)
@@ -117,9 +121,14 @@ def read_known(values: pd.Series, what: str, after_close: bool) -> pd.Series:
     timed = np.array([_has_time(value) for value in distinct], dtype=bool)
     if timed.any():
         at = timed[codes].argmax()
-        raise _fault(f"{what}: {_shown(distinct[codes[at]])} of {values.name} has a time of day, and a table is as of the morning",
-                     f'give after_close="{what}" where it comes during the session or after it, and the next session sees it; '
-                     "or the day alone where all come before the open", values, timed[codes])
+        shown = _shown(distinct[codes[at]])
+        raise _fault(
+            f"{what}: {shown} of {values.name} has a time of day, and a table is as of the morning",
+            f'give after_close="{what}" where it comes during the session or after it, and the next session '
+            "sees it; or the day alone where all come before the open",
+            values,
+            timed[codes],
+        )
     return read_days(values, what)
 
 
@@ -144,8 +153,10 @@ def _date(value: Any) -> date:
     if isinstance(value, pd.Period):
         raise NoDay(f"{value} is a period", "give its first day, .start_time, or its last one, .end_time")
     if isinstance(value, np.floating) and not isinstance(value, float):
-        raise NoDay(f"{value} is a number of {8 * value.itemsize} bits, which do not hold all days as YYYYMMDD",
-                    "give days as float64, int64 or texts")
+        raise NoDay(
+            f"{value} is a number of {8 * value.itemsize} bits, which do not hold all days as YYYYMMDD",
+            "give days as float64, int64 or texts",
+        )
     raise NoDay(f"{value!r} is no day", FORMS)
 
 
@@ -158,7 +169,8 @@ def _known(day: date, value: Any) -> date:
 def _datetime64(value: np.datetime64) -> date:
     if np.datetime_data(value.dtype)[0] in ("Y", "M", "W"):
         raise NoDay(f"{value} is a period", "give one of its days")
-    return value.astype("datetime64[D]").item()
+    day: date = value.astype("datetime64[D]").item()
+    return day
 
 
 def _text(value: str) -> date:
@@ -206,7 +218,9 @@ def _number(value: int) -> date:
             raise NoDay(f"{value} is no day of the calendar", "a whole number is a day as YYYYMMDD") from None
     unit = next((unit for least, unit in UNITS.items() if value >= least), "")
     if unit:
-        raise NoDay(f"{value} is no day as YYYYMMDD", f'if it counts since 1970, give pd.to_datetime(days, unit="{unit}")')
+        raise NoDay(
+            f"{value} is no day as YYYYMMDD", f'if it counts since 1970, give pd.to_datetime(days, unit="{unit}")'
+        )
     if 10_000 <= value < 100_000:
         raise NoDay(f"{value} may be days since 1899, 1960 or 1970", SINCE)
     raise NoDay(f"{value} is no day", FORMS)
@@ -214,8 +228,8 @@ def _number(value: int) -> date:
 
 def _second(value: Any) -> date:
     """The day of a value of which whole numbers may be seconds since 1970."""
-    whole = isinstance(value, Integral) and not isinstance(value, bool) or isinstance(value, float) and value.is_integer()
-    if whole and FIRST_SECOND <= value < LAST_SECOND:
+    whole = isinstance(value, Integral) or isinstance(value, float) and value.is_integer()
+    if whole and FIRST_SECOND <= int(value) < LAST_SECOND:
         return (datetime(1970, 1, 1) + timedelta(seconds=int(value))).date()
     return _date(value)
 
@@ -226,11 +240,11 @@ def _has_time(value: Any) -> bool:
         found = ISO.fullmatch(value.strip())
         return bool(found and found[4] and found[4].strip("0:.,"))
     if isinstance(value, np.datetime64):
-        return value != value.astype("datetime64[D]")
+        return bool(value != value.astype("datetime64[D]"))
     return isinstance(value, datetime) and value.time() != time()
 
 
-def _distinct(values: pd.Series, what: str, keep_times: bool = False) -> tuple[np.ndarray, Iterable]:
+def _distinct(values: pd.Series, what: str, keep_times: bool = False) -> tuple[NDArray[Any], Sequence[Any]]:
     """The codes of a column's values, and the values that they stand for.
 
     Stamps with time zones are first set on their own clocks, since two of one moment may be of two days.
@@ -245,17 +259,20 @@ def _distinct(values: pd.Series, what: str, keep_times: bool = False) -> tuple[n
         return codes[values.cat.codes.to_numpy()], distinct
     if is_datetime64_any_dtype(values):
         values = values.dt.tz_localize(None)
-        return pd.factorize(values if keep_times else values.dt.normalize())
-    if not is_numeric_dtype(values):
+        values = values if keep_times else values.dt.normalize()
+    elif not is_numeric_dtype(values):
         values = values.astype(object)
         if infer_dtype(values) not in ("string", "date", "integer"):  # equal values of other types may be other days
             return np.arange(len(values)), values.to_numpy()
-    return pd.factorize(values)
+    codes, distinct = pd.factorize(values)
+    return codes, distinct
 
 
-def _taken(codes: np.ndarray, distinct: Iterable, read: Callable[[Any], date], values: pd.Series, what: str) -> pd.Series:
+def _taken(
+    codes: NDArray[Any], distinct: Sequence[Any], read: Callable[[Any], date], values: pd.Series, what: str
+) -> pd.Series:
     """The days that `read` makes of the values of a column."""
-    texts = np.empty(len(distinct), dtype=object)
+    texts: NDArray[Any] = np.empty(len(distinct), dtype=object)
     for at, value in enumerate(distinct):
         try:
             texts[at] = _known(read(value), value).isoformat()
@@ -268,9 +285,11 @@ def _shown(value: Any) -> str:
     return repr(value) if isinstance(value, str) else str(value)
 
 
-def _fault(told: str, instead: str, values: pd.Series, wrong: np.ndarray):
+def _fault(told: str, instead: str, values: pd.Series, wrong: NDArray[Any]) -> DataFault:
     """The fault of a column, with its first wrong row."""
     from .faults import DataFault  # which needs this module first
+
     others = int(wrong.sum()) - 1
     more = f", and {others} other{'s' * (others > 1)}" if others else ""
-    return DataFault(told, "; ".join(filter(None, (f"row {values.index[wrong.argmax()]} of {values.name}{more}", instead))))
+    place = f"row {values.index[wrong.argmax()]} of {values.name}{more}"
+    return DataFault(told, "; ".join(filter(None, (place, instead))))

@@ -1,4 +1,5 @@
-"""The program's statuses as exceptions. Each carries the line that the program printed, and how to mend what it names."""
+"""The program's statuses as exceptions. Each carries the line that the program printed, and how to mend what it names.
+"""
 from __future__ import annotations
 
 import csv
@@ -22,12 +23,17 @@ HINTS = {  # by the last word of the line; docs/FILES.md and docs/LANGUAGE.md in
     "BadByte": "a byte that no token can hold; texts are in double quotes",
     "Unexpected": "the text up to here begins no pipeline; give the name of a file as a Path",
     "UnknownName": "the language has no such name",
-    "usage": "the words above are of no command's form: an option is out of its range, or the program is older than this package",
+    "usage": (
+        "the words above are of no command's form: an option is out of its range, or the program is older than this "
+        "package"
+    ),
     "WrongKind": "one of bar column, factor, filter, classifier, number and text is where another is asked for",
     "BadArgument": "an argument is missing, unknown, given twice, out of its range or none of its list",
     "BadWindow": "a window is from 1 to 1,260 sessions, or from 2 where its term compares two values",
-    "NotWindowSafe": "a window can't be over this factor, which depends on adjustments that come between; it can be over "
-                     "Returns and ranks",
+    "NotWindowSafe": (
+        "a window can't be over this factor, which depends on adjustments that come between; it can be over "
+        "Returns and ranks"
+    ),
     "Redefined": "a column, a let or the screen is there twice, or a let has a name of the language",
     "NoColumn": "a pipeline has one column at least",
     "NoNumbers": "the data have no numbers; Data.write takes them as numbers=, or write numbers.csv into the folder",
@@ -35,13 +41,18 @@ HINTS = {  # by the last word of the line; docs/FILES.md and docs/LANGUAGE.md in
     "BadDate": "write YYYY-MM-DD; the sessions have no header",
     "NotAscending": "sort the sessions, each once",
     "Empty": "there is no session",
-    "BadField": "write plain decimals, dates as YYYY-MM-DD, sids as digits, labels in ASCII; leave a missing value empty",
+    "BadField": (
+        "write plain decimals, dates as YYYY-MM-DD, sids as digits, labels in ASCII; leave a missing value empty"
+    ),
     "StartAfterEnd": "an asset starts the day before its first session and ends on its last",
     "DuplicateSid": "keep one lifetime for an asset",
     "NotSession": "add the day to the sessions, or drop the record",
     "UnknownSid": "add the asset to the assets, or drop the record",
-    "Negative": "a bar has no values below 0; leave a missing one empty. In CRSP a minus says that the price is a mean of bid and ask: "
-                "give it without its sign",
+    "Negative": (
+        "a bar has no values below 0; leave a missing one empty. In CRSP a minus says that the price is a mean of "
+        "bid and ask: "
+        "give it without its sign"
+    ),
     "Duplicate": "keep one of the two records",
     "LabelTooLong": "a label has at most 64 bytes",
     "DuplicateStart": "keep one label for an asset, a name and a day",
@@ -79,11 +90,27 @@ ARGUMENTS = {  # what the arguments of a function or a member may be, for BadArg
     "latest": "latest has no parentheses",
 }
 DATE, SID, DECIMAL = r"\d{4}-\d\d-\d\d", r"0|[1-9]\d{0,9}", r"-?\d+(\.\d{1,18})?"
-FORMS = {"sid": SID, **dict.fromkeys(("session", "start", "end", "known", "ex"), DATE), "column": "open|high|low|close|volume",
-         "name": r"[A-Za-z_]\w{0,31}", "label": r"[ -~]{0,64}", "amount": DECIMAL,
-         **dict.fromkeys(("open", "high", "low", "close", "volume", "value"), f"({DECIMAL})?")}
-WRONG = {"NotSession": "session", "UnknownSid": "sid", "DuplicateSid": "sid", "Duplicate": "session known", "StartAfterEnd": "start",
-         "LabelTooLong": "label", "DuplicateStart": "start", "TooSoon": "known", "NotPositive": "amount", "BadEffective": "effective_date"}
+FORMS = {
+    "sid": SID,
+    **dict.fromkeys(("session", "start", "end", "known", "ex"), DATE),
+    "column": "open|high|low|close|volume",
+    "name": r"[A-Za-z_]\w{0,31}",
+    "label": r"[ -~]{0,64}",
+    "amount": DECIMAL,
+    **dict.fromkeys(("open", "high", "low", "close", "volume", "value"), f"({DECIMAL})?"),
+}
+WRONG = {
+    "NotSession": "session",
+    "UnknownSid": "sid",
+    "DuplicateSid": "sid",
+    "Duplicate": "session known",
+    "StartAfterEnd": "start",
+    "LabelTooLong": "label",
+    "DuplicateStart": "start",
+    "TooSoon": "known",
+    "NotPositive": "amount",
+    "BadEffective": "effective_date",
+}
 
 
 COLUMNS = ("id", "effective_date", "num", "den", "sid")  # of the tables of adjustments
@@ -99,6 +126,7 @@ class Fault(Exception):
     note : str
         What is known beside it: the line of the pipeline, the record, the first session.
     """
+
     status = 0
 
     def __init_subclass__(cls, status: int):
@@ -133,6 +161,7 @@ class PipelineError(Fault, status=3):
     word : str
         The word of the text there, as the name of a function.
     """
+
     term: Optional[Term] = None
     word = ""
 
@@ -148,14 +177,20 @@ class PipelineError(Fault, status=3):
         self.term = script.term_at(line, column)
         self.line = re.sub(r"^.*?(?=:\d+:\d+: )", "pipeline", self.line)
         text = dict(enumerate(script.text.splitlines(), 1)).get(line, "")
-        word = re.match(r"\w+", text[column - 1:])
+        word = re.match(r"\w+", text[column - 1 :])
         self.word = word[0] if word else ""
-        self.note = f"    {text}\n    {'^':>{column}}" + (f"\nin the term {self.term!r}" if self.term is not None else "")
+        self.note = f"    {text}\n    {'^':>{column}}" + (
+            f"\nin the term {self.term!r}" if self.term is not None else ""
+        )
         return self
 
     def _hint(self) -> str:
         hint = super()._hint()
-        return f"{self.word}: {ARGUMENTS[self.word]}; or {hint}" if self.line.endswith("BadArgument") and self.word in ARGUMENTS else hint
+        return (
+            f"{self.word}: {ARGUMENTS[self.word]}; or {hint}"
+            if self.line.endswith("BadArgument") and self.word in ARGUMENTS
+            else hint
+        )
 
 
 class DataFault(Fault, status=4):
@@ -170,6 +205,7 @@ class DataFault(Fault, status=4):
     table : str or None
         The table of the row.
     """
+
     path: Optional[str] = None
     rule: Optional[str] = None
     record: Optional[int] = None
@@ -197,7 +233,8 @@ class DataFault(Fault, status=4):
         rules: dict[str, Callable[[str, str], object]] = {
             "BadField": lambda name, field: not re.fullmatch(FORMS.get(name, ".*"), field),
             "Negative": lambda name, field: field.startswith("-"),
-            "BadRatio": lambda name, field: name in ("num", "den") and not 1 <= int(field) <= 10**9}
+            "BadRatio": lambda name, field: name in ("num", "den") and not 1 <= int(field) <= 10**9,
+        }
         breaks = rules.get(self.rule, lambda name, field: name in WRONG.get(self.rule or "", "").split())
         shown = f"    {'row' if self.table else 'record'} {self.record}: {','.join(fields)}"
         for at, (name, field) in enumerate(zip(names, fields)):
@@ -222,6 +259,7 @@ def _row(path: str, table: str, number: int) -> tuple[Sequence[str], Sequence[st
 
 class RangeFault(Fault, status=5):
     """The range, or the cell of `explain`, is none of the data; `first_session` is the first that can be asked for."""
+
     first_session: Optional[str] = None
 
 
@@ -256,7 +294,7 @@ def _broken(path: str) -> str:
                     return f"the table {table} has no column {lacking[0]}" if there else f"there is no table {table}"
                 kinds = ", ".join(f"typeof({name})" for name in COLUMNS)
                 for row in store.execute(f"SELECT {', '.join(COLUMNS)}, {kinds} FROM {table}"):
-                    for name, value, kind in zip(COLUMNS, row, row[len(COLUMNS):]):
+                    for name, value, kind in zip(COLUMNS, row, row[len(COLUMNS) :]):
                         if kind != "integer":
                             return f"the table {table} has {value!r} as {name}, which has to be an INTEGER"
     except sqlite3.Error as error:
@@ -282,6 +320,10 @@ def fault(status: int, line: str, note: str = "") -> Fault:
     if status < 0:
         name = signal.Signals(-status).name if -status in set(signal.Signals) else "a signal"
         line = f"the program was ended by {name}, the signal {-status}"
-        note = note or ("as the system does where memory runs out, and jobs that are stopped: give less to one run, by pieces= and "
-                        "cut=True, or use fewer workers" if -status == signal.SIGKILL else "")
+        note = note or (
+            "as the system does where memory runs out, and jobs that are stopped: give less to one run, by pieces= and "
+            "cut=True, or use fewer workers"
+            if -status == signal.SIGKILL
+            else ""
+        )
     return sort(line.strip() or f"the program ended with status {status}", note)

@@ -11,6 +11,7 @@ from typing import Any, Callable, Iterable, Mapping, Optional, Sequence, Union
 
 import numpy as np
 import pandas as pd
+from numpy.typing import NDArray
 
 from . import program
 from .data import FILES, HEADERS, NEEDED
@@ -19,16 +20,27 @@ from .faults import DataFault
 from .pipeline.script import BARS, is_name
 from .pipeline.term import GREATEST
 
-Frame = pd.DataFrame
-OTHER = {"sid": ("asset", "symbol", "ticker"), "session": ("date", "day"), "start": ("start_date",), "end": ("end_date",),
-         "effective_date": ("date", "ex_date"), "ex": ("ex_date", "date"), "amount": ("dividend",), "known": ("known_date",)}
+OTHER = {
+    "sid": ("asset", "symbol", "ticker"),
+    "session": ("date", "day"),
+    "start": ("start_date",),
+    "end": ("end_date",),
+    "effective_date": ("date", "ex_date"),
+    "ex": ("ex_date", "date"),
+    "amount": ("dividend",),
+    "known": ("known_date",),
+}
 DAYS = ("session", "start", "end", "known", "ex", "effective_date")
 FOREVER = "2199-12-31"  # the last day that the program knows
 GREATEST_SID = 2**32 - 1
 PUBLISHED = ("labels", "numbers", "revisions")  # what becomes known on a day, perhaps after the close
 ADJUSTED = re.compile("adj|^raw|raw$")  # of names in small letters alone: another version of a price
 EVENTS = re.compile("^(stock)?split|^div|^capitalgain")
-NEGATIVE = ("in CRSP such a price is a mean of bid and ask: give .abs()", "in CRSP a volume of -99 is a missing one: give NaN")
+NO_SYMBOL = "where the symbol is NA or NAN, read the file with keep_default_na=False"
+NEGATIVE = (
+    "in CRSP such a price is a mean of bid and ask: give .abs()",
+    "in CRSP a volume of -99 is a missing one: give NaN",
+)
 
 
 class Sids:
@@ -42,13 +54,15 @@ class Sids:
         The sids of symbols. Without it symbols are numbered in alphabetic order.
     """
 
-    def __init__(self, assets: Iterable, symbols: Optional[Mapping[str, int]]):
+    def __init__(self, assets: Iterable[Any], symbols: Optional[Mapping[str, int]]):
         assets = [read_asset(asset, "bars") for asset in assets]
         texts = sorted({asset for asset in assets if isinstance(asset, str)})
         if symbols is None and texts and len(texts) < len(assets):
             number = next(asset for asset in assets if not isinstance(asset, str))
-            raise DataFault(f"bars: assets go by symbols, as {texts[0]!r}, and by numbers, as {number}",
-                            "make them of one kind, by .astype(str), or give symbols=")
+            raise DataFault(
+                f"bars: assets go by symbols, as {texts[0]!r}, and by numbers, as {number}",
+                "make them of one kind, by .astype(str), or give symbols=",
+            )
         numbered = {symbol: at for at, symbol in enumerate(texts)} if texts else None
         self.known = numbered if symbols is None else read_symbols(symbols)
         self.there = frozenset(self._sid(asset, "bars") for asset in assets)
@@ -56,7 +70,7 @@ class Sids:
     def __call__(self, assets: pd.Series, what: str) -> pd.Series:
         codes, distinct = pd.factorize(assets.to_numpy())  # of objects, too, without a guess at their type
         if (codes < 0).any():
-            raise DataFault(f"{what}: an asset is missing", rows_of(assets, codes < 0))
+            raise DataFault(f"{what}: an asset is missing", f"{rows_of(assets, codes < 0)}; {NO_SYMBOL}")
         sids = np.empty(len(distinct), dtype="int64")
         for at, asset in enumerate(distinct):
             try:
@@ -72,12 +86,14 @@ class Sids:
         if isinstance(asset, int):
             return asset
         if self.known is None:
-            raise DataFault(f"{what}: {asset!r} is a symbol, and the bars go by sids", "give symbols=, with the sid of each symbol")
+            raise DataFault(
+                f"{what}: {asset!r} is a symbol, and the bars go by sids", "give symbols=, with the sid of each symbol"
+            )
         if asset not in self.known:
             raise DataFault(f"{what}: no asset has the symbol {asset!r}")
         return self.known[asset]
 
-    def records(self, frame: Frame, what: str) -> Frame:
+    def records(self, frame: pd.DataFrame, what: str) -> pd.DataFrame:
         """A frame with sids and days as the program writes them."""
         days = {name: read_days(frame[name], what, seconds=name == "effective_date") for name in DAYS if name in frame}
         return frame.assign(sid=self(frame.sid, what), **days)
@@ -95,9 +111,10 @@ def read_asset(asset: Any, what: str) -> Union[int, str]:
         return str(asset)
     sid = whole_number(asset)
     if sid is None:
-        missing = asset is None or asset is pd.NA or asset != asset
-        raise DataFault(f"{what}: an asset is missing" if missing else f"{what}: {asset!r} is neither a sid nor a symbol",
-                        f"a sid is a whole number from 0 to {GREATEST_SID}, a symbol is a text")
+        if asset is None or asset is pd.NA or asset != asset:
+            raise DataFault(f"{what}: an asset is missing", NO_SYMBOL)
+        hint = f"a sid is a whole number from 0 to {GREATEST_SID}, a symbol is a text"
+        raise DataFault(f"{what}: {asset!r} is neither a sid nor a symbol", hint)
     if not 0 <= sid <= GREATEST_SID:
         raise DataFault(f"{what}: {sid} is no sid", f"a sid is a whole number from 0 to {GREATEST_SID}")
     return sid
@@ -111,10 +128,15 @@ def read_symbols(symbols: Mapping[str, int]) -> dict[str, int]:
             raise DataFault(f"symbols: {symbol!r} is no symbol", "a symbol is a text")
         sid = whole_number(given)
         if sid is None or not 0 <= sid <= GREATEST_SID:
-            raise DataFault(f"symbols: {symbol} has {given!r} in place of a sid", f"a sid is a whole number from 0 to {GREATEST_SID}")
+            raise DataFault(
+                f"symbols: {symbol} has {given!r} in place of a sid",
+                f"a sid is a whole number from 0 to {GREATEST_SID}",
+            )
         if sid in owners:
-            raise DataFault(f"symbols: {owners[sid]} and {symbol} have the sid {sid}",
-                            "where the symbol changed, give sids in the frames and the newest symbol alone here")
+            raise DataFault(
+                f"symbols: {owners[sid]} and {symbol} have the sid {sid}",
+                "where the symbol changed, give sids in the frames and the newest symbol alone here",
+            )
         owners[sid] = symbol
     return {symbol: sid for sid, symbol in owners.items()}
 
@@ -132,7 +154,7 @@ def whole_number(value: Any) -> Optional[int]:
     return None
 
 
-def rows_of(rows: Union[pd.Series, Frame], wrong: np.ndarray) -> str:
+def rows_of(rows: Union[pd.Series, pd.DataFrame], wrong: NDArray[Any]) -> str:
     """The first wrong row of a column, and how many others there are."""
     return f"row {rows.index[wrong.argmax()]}{and_others(int(wrong.sum()) - 1)}"
 
@@ -145,7 +167,8 @@ def and_others(count: int, verb: bool = False) -> str:
     """
     if not count:
         return ""
-    return f", and {('so is ', 'so are ')[count > 1] * verb}{count} other{'s' * (count > 1)}"
+    many = count > 1
+    return f", and {('so is ', 'so are ')[many] * verb}{count} other{'s' * many}"
 
 
 def either(names: Sequence[str]) -> str:
@@ -172,43 +195,49 @@ def late_parts(after_close: Union[bool, str, Iterable[str]]) -> frozenset[str]:
     return frozenset(parts)
 
 
-def has_column(frame: Frame, name: str) -> bool:
+def has_column(frame: pd.DataFrame, name: str) -> bool:
     """Whether a frame has a column of this name or of another one for it."""
     return not {name, *OTHER.get(name, ())}.isdisjoint(str(each).lower() for each in frame.columns)
 
 
-def select_columns(frame: Frame, what: str, *wanted: str, optional: Iterable[str] = ()) -> Frame:
+def select_columns(frame: pd.DataFrame, what: str, *wanted: str, optional: Iterable[str] = ()) -> pd.DataFrame:
     """These columns of a frame, or those of its file.
 
-    They may have other names, in letters of any size, and may be in the frame's index. Those that are optional and not there
-    are missing values. The own name of a column comes before another one for it; two other ones are a fault.
+    They may have other names, in letters of any size, and may be in the frame's index. Those that are optional and not
+    there are missing values. The own name of a column comes before another one for it; two other ones are a fault.
     """
     frame = frame.reset_index() if any(name is not None for name in frame.index.names) else frame
-    there: dict[str, list] = {}
+    there: dict[str, list[Any]] = {}
     for name in frame.columns:
         there.setdefault(str(name).lower(), []).append(name)
     chosen = {}
     for name in wanted or HEADERS[what]:
         own = there.get(name) or [each for other in OTHER.get(name, ()) for each in there.get(other, [])]
         if len(own) > 1:
-            raise DataFault(f"{what}: each of the columns {' and '.join(map(str, own))} may be {name}", "drop or rename all but one")
+            raise DataFault(
+                f"{what}: each of the columns {' and '.join(map(str, own))} may be {name}", "drop or rename all but one"
+            )
         if not own and name not in optional:
-            raise DataFault(f"{what}: there is no column {either([name, *OTHER.get(name, ())])}", f"there are {listed(frame.columns)}")
+            raise DataFault(
+                f"{what}: there is no column {either([name, *OTHER.get(name, ())])}",
+                f"there are {listed(frame.columns)}",
+            )
         chosen[name] = frame[own[0]] if own else np.nan
-    return Frame(chosen, index=frame.index)
+    return pd.DataFrame(chosen, index=frame.index)
 
 
-def listed(names: Iterable) -> str:
+def listed(names: Iterable[Any]) -> str:
     return ", ".join(map(str, names)) or "none"
 
 
-def require_unique(frame: Frame, key: list[str], what: str) -> Frame:
+def require_unique(frame: pd.DataFrame, key: list[str], what: str) -> pd.DataFrame:
     """The frame, in which no two rows have one key."""
     doubled = frame[frame.duplicated(key, keep=False)]
     if len(doubled):
         same = (doubled[key] == doubled[key].iloc[0]).all(axis=1)
         others = and_others(len(doubled[~same].drop_duplicates(key)), verb=True)
-        raise DataFault(f"{what}: {' '.join(map(str, doubled[key].iloc[0]))} is there twice, in the rows {list(doubled.index[same])}{others}")
+        named = " ".join(map(str, doubled[key].iloc[0]))
+        raise DataFault(f"{what}: {named} is there twice, in the rows {list(doubled.index[same])}{others}")
     return frame
 
 
@@ -223,26 +252,26 @@ def to_numbers(values: pd.Series, what: str) -> pd.Series:
     return numbers
 
 
-def to_long(frame: Frame, row: str, name: str) -> Frame:
+def to_long(frame: pd.DataFrame, row: str, name: str) -> pd.DataFrame:
     """A wide frame, with a column for each asset, as rows of `row`, sid and value."""
     return frame.rename_axis(index=row, columns="sid").reset_index().melt(row, var_name="sid", value_name=name)
 
 
-def by_day(frame: Any, part: str, name: Any, read: Callable[[pd.Series, str], pd.Series]) -> Frame:
+def by_day(frame: Any, part: str, name: Any, read: Callable[[pd.Series, str], pd.Series]) -> pd.DataFrame:
     """A wide frame with its days as `read` gives them, each once."""
-    if not isinstance(frame, Frame):
+    if not isinstance(frame, pd.DataFrame):
         raise DataFault(f"{part}: {name} is no frame", "one has a row for each day and a column for each asset")
-    days = read(pd.Series(frame.index, name=f"the index of {name}"), part)
-    require_unique(Frame({"day": days}), ["day"], f"{part}: {name}")
+    days = read(pd.Series(frame.index, dtype=frame.index.dtype, name=f"the index of {name}"), part)
+    require_unique(pd.DataFrame({"day": days}), ["day"], f"{part}: {name}")
     return frame.set_axis(days.to_numpy(), axis=0)
 
 
-def long_bars(bars: Union[Frame, Mapping[str, Frame]]) -> Frame:
+def long_bars(bars: Union[pd.DataFrame, Mapping[str, pd.DataFrame]]) -> pd.DataFrame:
     """Bars of any of the forms as sid, session and the five columns."""
-    if isinstance(bars, Frame) and bars.columns.nlevels == 2:
+    if isinstance(bars, pd.DataFrame) and bars.columns.nlevels == 2:
         level = int(bool({str(name).lower() for name in bars.columns.unique(1)} & set(BARS)))
         bars = {name: bars.xs(name, axis=1, level=level) for name in bars.columns.unique(level)}
-    if isinstance(bars, Frame):
+    if isinstance(bars, pd.DataFrame):
         if not (has_column(bars, "open") or has_column(bars, "close")):
             raise DataFault("bars: there is neither open nor close", f"there are {listed(bars.columns)}")
         refuse_versions(bars.columns)
@@ -255,21 +284,25 @@ def long_bars(bars: Union[Frame, Mapping[str, Frame]]) -> Frame:
     return frame
 
 
-def refuse_versions(columns: Iterable) -> None:
+def refuse_versions(columns: Iterable[Any]) -> None:
     """Refuse a frame of bars that has another version of a price, or splits and dividends, which would be dropped."""
     plain = {name: re.sub("[^a-z]", "", str(name).lower()) for name in columns}
     versions = [name for name, letters in plain.items() if ADJUSTED.search(letters)]
     if versions:
-        raise DataFault(f"bars: beside the prices there is {versions[0]!r}, another version of them",
-                        f"keep the prices that were quoted on their day, as by frame.drop(columns={versions}); tohmeril.vendors has readers "
-                        "for vendors whose closes are adjusted")
+        raise DataFault(
+            f"bars: beside the prices there is {versions[0]!r}, another version of them",
+            f"keep the prices that were quoted on their day, as by frame.drop(columns={versions}); "
+            "tohmeril.vendors has readers for vendors whose closes are adjusted",
+        )
     events = [name for name, letters in plain.items() if EVENTS.search(letters)]
     if events:
-        raise DataFault(f"bars: {events[0]!r} is no part of a bar",
-                        f"give splits= and dividends=, and frame.drop(columns={events}); tohmeril.vendors has readers that do it")
+        raise DataFault(
+            f"bars: {events[0]!r} is no part of a bar",
+            f"give splits= and dividends=, and frame.drop(columns={events}); tohmeril.vendors has readers that do it",
+        )
 
 
-def bars_by_name(bars: Mapping[str, Frame]) -> Frame:
+def bars_by_name(bars: Mapping[str, pd.DataFrame]) -> pd.DataFrame:
     """Bars that are given by name, as wide frames, as one long frame."""
     wide: dict[str, pd.Series] = {}
     for given, frame in bars.items():
@@ -283,101 +316,113 @@ def bars_by_name(bars: Mapping[str, Frame]) -> Frame:
         wide[name] = rows.set_index(["session", "sid"])[name]
     if not wide:
         raise DataFault("bars: there is none", f"give frames by name: {listed(BARS)}")
-    return pd.concat(wide, axis=1).reindex(columns=list(BARS)).rename_axis(["session", "sid"]).reset_index()[HEADERS["bars"]]
+    return (
+        pd.concat(wide, axis=1)
+        .reindex(columns=list(BARS))
+        .rename_axis(["session", "sid"])
+        .reset_index()[HEADERS["bars"]]
+    )
 
 
-def bar_values(rows: Frame) -> Frame:
-    """The rows with their five columns as floats; those without any value are left out."""
-    cells = {name: to_numbers(rows[name], "bars") for name in BARS}
-    for name, values in cells.items():
-        for wrong, hint in ((np.isinf(values), "give NaN for a missing value"), (values < 0, NEGATIVE[name == "volume"])):
-            if wrong.any():
-                at = wrong.to_numpy().argmax()
-                raise DataFault(f"bars: the {name} of {rows.sid.iloc[at]} on {rows.session.iloc[at]} is {values.iloc[at]:.12g}",
-                                f"{rows_of(rows, wrong.to_numpy())}; {hint}")
-    rows = rows.assign(**cells)
-    rows = rows[rows[list(BARS)].notna().any(axis=1)]
-    if rows.empty:
-        raise DataFault("bars: there is none", "each value is missing")
-    return rows
-
-
-def long_labels(labels: Union[Frame, Mapping], first: str, late: bool = False) -> Frame:
+def long_labels(labels: Union[pd.DataFrame, Mapping[Any, Any]], first: str, late: bool = False) -> pd.DataFrame:
     """Labels of any of the forms as name, sid, start and label; those without a day start with the first session."""
+
     def read(values: pd.Series, what: str) -> pd.Series:
         return read_known(values, what, late)
-    if isinstance(labels, Frame):
+
+    if isinstance(labels, pd.DataFrame):
         found = select_columns(labels, "labels")
-        return found.assign(label=found.label.astype(object).where(found.label.notna(), ""), start=read(found.start, "labels"))
+        return found.assign(
+            label=found.label.astype(object).where(found.label.notna(), ""), start=read(found.start, "labels")
+        )
     parts = []
     for name, given in labels.items():
-        frame = by_day(given, "labels", name, read) if isinstance(given, Frame) else pd.Series(given).to_frame(first).T
+        frame = (
+            by_day(given, "labels", name, read)
+            if isinstance(given, pd.DataFrame)
+            else pd.Series(given).to_frame(first).T
+        )
         rows = to_long(frame.astype(object).where(frame.notna(), ""), "start", "label")
         changed = rows.label.ne(rows.groupby("sid", sort=False).label.shift(fill_value=""))
         parts.append(rows[changed].sort_values("start", kind="stable").assign(name=name))
-    return pd.concat(parts or [Frame(columns=HEADERS["labels"])], ignore_index=True)[HEADERS["labels"]]
+    return pd.concat(parts or [pd.DataFrame(columns=HEADERS["labels"])], ignore_index=True)[HEADERS["labels"]]
 
 
-def long_revisions(revisions: Frame, late: bool = False) -> Frame:
+def long_revisions(revisions: pd.DataFrame, late: bool = False) -> pd.DataFrame:
     """Revisions as sid, session, column, value and known."""
     found = select_columns(revisions, "revisions")
     names = found.column.astype(str).str.lower()
     wrong = ~names.isin(BARS).to_numpy()
     if wrong.any():
-        raise DataFault(f"revisions: there is nothing called {found.column.iloc[wrong.argmax()]!r}", f"{rows_of(found, wrong)}: {listed(BARS)}")
-    return found.assign(column=names, value=to_numbers(found.value, "revisions"), known=read_known(found.known, "revisions", late))
+        raise DataFault(
+            f"revisions: there is nothing called {found.column.iloc[wrong.argmax()]!r}",
+            f"{rows_of(found, wrong)}: {listed(BARS)}",
+        )
+    return found.assign(
+        column=names, value=to_numbers(found.value, "revisions"), known=read_known(found.known, "revisions", late)
+    )
 
 
-def long_numbers(numbers: Union[Frame, Mapping], late: bool = False) -> Frame:
+def long_numbers(numbers: Union[pd.DataFrame, Mapping[Any, Any]], late: bool = False) -> pd.DataFrame:
     """Numbers of either form as name, sid, known and value."""
-    if isinstance(numbers, Frame):
+    if isinstance(numbers, pd.DataFrame):
         found = select_columns(numbers, "numbers")
         found = found.assign(known=read_known(found.known, "numbers", late))
     else:
         names = [getattr(key, "name", key) for key in numbers]  # of texts and of a DataSet's columns
-        require_unique(Frame({"name": names}), ["name"], "numbers")
+        require_unique(pd.DataFrame({"name": names}), ["name"], "numbers")
         parts = [changes(name, frame, late) for name, frame in zip(names, numbers.values())]
-        found = pd.concat(parts or [Frame(columns=HEADERS["numbers"])], ignore_index=True)
+        found = pd.concat(parts or [pd.DataFrame(columns=HEADERS["numbers"])], ignore_index=True)
     found = found.assign(value=to_numbers(found.value, "numbers"))
     names = [name for name in found["name"].unique() if isinstance(name, str) and is_name(name)]
-    fine = {"{name!r} is no name; one is a letter or _, and then letters, digits or _, at most 32 in all": found["name"].isin(names),
-            "{name} of {sid}, known on {known}, is {value:.12g}; the greatest is 100000000000: give it in thousands or millions":
-                ~(found.value.abs() > float(GREATEST))}
-    for told, good in fine.items():
-        if not good.all():
-            raise DataFault("numbers: " + told.format(**found[~good].iloc[0]), rows_of(found, ~good.to_numpy()))
-    if isinstance(numbers, Frame) and has_column(numbers, "period"):
+    named, great = found["name"].isin(names).to_numpy(), (found.value.abs() > float(GREATEST)).to_numpy()
+    if not named.all():
+        told = "is no name; one is a letter or _, and then letters, digits or _, at most 32 in all"
+        raise DataFault(f"numbers: {found['name'].iloc[named.argmin()]!r} {told}", rows_of(found, ~named))
+    if great.any():
+        row = found.iloc[great.argmax()]
+        told = f"is {row.value:.12g}; the greatest is {GREATEST}: give it in thousands or millions"
+        raise DataFault(f"numbers: {row['name']} of {row.sid}, known on {row.known}, {told}", rows_of(found, great))
+    if isinstance(numbers, pd.DataFrame) and has_column(numbers, "period"):
         given = select_columns(numbers, "numbers", "known", "period")
         warn_of_periods(found.assign(known=read_days(given.known, "numbers"), period=given.period))
     return require_unique(found, ["name", "sid", "known"], "numbers")
 
 
-def changes(name: str, frame: Frame, late: bool = False) -> Frame:
+def changes(name: str, frame: pd.DataFrame, late: bool = False) -> pd.DataFrame:
     """The values of a wide frame that differ from those of its row before."""
-    rows = to_long(by_day(frame, "numbers", name, lambda values, what: read_known(values, what, late)).sort_index(), "known", "value")
+    rows = to_long(
+        by_day(frame, "numbers", name, lambda values, what: read_known(values, what, late)).sort_index(),
+        "known",
+        "value",
+    )
     before = rows.groupby("sid", sort=False).value.shift()
     rows = rows[rows.value.ne(before) & (rows.value.notna() | before.notna())]
     return rows.sort_values("known", kind="stable").assign(name=name)[HEADERS["numbers"]]
 
 
-def warn_of_periods(found: Frame) -> None:
+def warn_of_periods(found: pd.DataFrame) -> None:
     """Warn of numbers that are known by the end of the period that they are of."""
     ends = {period: last_day(period) for period in found.period.dropna().drop_duplicates()}
     found = found.assign(end=found.period.map(ends).fillna(""))
     early = found[found.known <= found.end]
     if len(early):
         first = early.iloc[0]
-        warnings.warn(f"{len(early)} of {len(found)} numbers are known by the last day of the period that they are of, as {first['name']} "
-                      f"of {first.sid} on {first.known}, of the period to {first.end}. So pipelines see them before anybody could: "
-                      "vendors often give the period's end in place of the day of publication. Give the latter as known, or the "
-                      "period's end and the longest time that publication takes, as pd.Timedelta(days=90)", stacklevel=5)
+        warnings.warn(
+            f"{len(early)} of {len(found)} numbers are known by the last day of the period that they are of, as "
+            f"{first['name']} of {first.sid} on {first.known}, of the period to {first.end}. So pipelines see them "
+            "before anybody could: vendors often give the period's end in place of the day of publication. Give "
+            "the latter as known, or the period's end and the longest time that publication takes, as "
+            "pd.Timedelta(days=90)",
+            stacklevel=5,
+        )
 
 
 def last_day(period: Any) -> str:
-    """The last day of a period, which is one of pandas, or its text or number, or a day; empty where it is none of these.
+    """The last day of a period, which is one of pandas, its text or number, or a day; empty where it is none of these.
 
-    >>> last_day("2024Q1"), last_day(pd.Period("2024-02")), last_day(20240430), last_day(pd.Timestamp("2024-06-29")), last_day("FY")
-    ('2024-03-31', '2024-02-29', '2024-04-30', '2024-06-29', '')
+    >>> last_day("2024Q1"), last_day(pd.Period("2024-02")), last_day(20240430), last_day("FY")
+    ('2024-03-31', '2024-02-29', '2024-04-30', '')
     """
     if isinstance(period, (str, int, float, np.number)):
         text = period.strip() if isinstance(period, str) else str(whole_number(period))
@@ -393,7 +438,7 @@ def last_day(period: Any) -> str:
     return read_day(getattr(period, "end_time", period))
 
 
-def ratio(value, inverse: bool = False) -> Fraction:
+def ratio(value: Any, inverse: bool = False) -> Fraction:
     """The ratio that multiplies prices. With `inverse` a number gives new shares for an old one.
 
     >>> ratio("2:1"), ratio(0.5), ratio(3.0, inverse=True), ratio(1 / 3), ratio("7514/7609")
@@ -408,11 +453,13 @@ def ratio(value, inverse: bool = False) -> Fraction:
     return 1 / exact if inverse else exact
 
 
-def ratios(frame: Frame, what: str, sids: Sids) -> Iterable[tuple[int, int, int, int]]:
-    """The rows of a table of adjustments: the effective date in seconds since 1970, the two numbers of the ratio, and the sid."""
+def ratios(frame: pd.DataFrame, what: str, sids: Sids) -> Iterable[tuple[int, int, int, int]]:
+    """The rows of a table of adjustments: effective date in seconds since 1970, the ratio's two numbers, sid."""
     kinds = [kind for kind in (["num", "den"], ["split"], ["ratio"]) if all(has_column(frame, name) for name in kind)]
     if len(kinds) > 1:
-        raise DataFault(f"{what}: there are both {listed(kinds[0])} and {listed(kinds[1])}", "drop or rename all but one")
+        raise DataFault(
+            f"{what}: there are both {listed(kinds[0])} and {listed(kinds[1])}", "drop or rename all but one"
+        )
     kind = kinds[0] if kinds else ["ratio"]
     given = select_columns(frame, what, "sid", "effective_date", *kind)
     clean = sids.records(given, what)
@@ -422,36 +469,44 @@ def ratios(frame: Frame, what: str, sids: Sids) -> Iterable[tuple[int, int, int,
     values = zip(*(given[name] for name in kind))
     for at, asset, sid, date, value in zip(given.index, given.sid, clean.sid, seconds, values):
         try:
-            exact = ratio(value[0]) / ratio(value[1]) if len(value) == 2 else ratio(*value, inverse=kind == ["split"])
+            exact = ratio(value[0]) / ratio(value[1]) if len(value) == 2 else ratio(value[0], kind == ["split"])
         except (TypeError, ValueError, ArithmeticError):
             exact = Fraction(0)
         if not 0 < exact or max(exact.numerator, exact.denominator) > 10**9:
-            raise DataFault(f"{what}: the ratio {':'.join(map(str, value))} of {asset} is none of numbers from 1 to 1,000,000,000",
-                            f"row {at}")
+            shown = ":".join(map(str, value))
+            raise DataFault(
+                f"{what}: the ratio {shown} of {asset} is none of numbers from 1 to 1,000,000,000", f"row {at}"
+            )
         yield date, exact.numerator, exact.denominator, int(sid)
 
 
-def payouts(folder: Path, frame: Frame, sids: Sids) -> list[tuple[int, int, int, int]]:
-    """Payouts in cash as rows of the table of dividends, by the program; a warning lists those that it skips, and why."""
+def payouts(folder: Path, frame: pd.DataFrame, sids: Sids) -> list[tuple[int, int, int, int]]:
+    """Payouts in cash as rows of the table of dividends, by the program; a warning lists those that it skips."""
     given = select_columns(frame, "dividends", "sid", "ex", "amount")
     assets, given = given.sid, sids.records(given, "dividends").assign(amount=to_numbers(given.amount, "dividends"))
     wrong = ~given.amount.between(5e-7, float(GREATEST)).to_numpy()
     if wrong.any():
         at = wrong.argmax()
-        raise DataFault(f"dividends: the amount of {assets.iloc[at]} on {given.ex.iloc[at]} is {given.amount.iloc[at]:.12g}",
-                        f"{rows_of(given, wrong)}; drop payouts of nothing")
+        raise DataFault(
+            f"dividends: the amount of {assets.iloc[at]} on {given.ex.iloc[at]} is {given.amount.iloc[at]:.12g}",
+            f"{rows_of(given, wrong)}; drop payouts of nothing",
+        )
     with program.file(given.to_csv(index=False, float_format="%.6f"), ".csv") as name:
         try:
             answer = program.call("payouts", *(str(folder / FILES[part]) for part in NEEDED), name)
         except DataFault as fault:
-            if fault.path != name:
+            if fault.path != name or fault.record is None:
                 raise
             at = fault.record - 2
-            raise DataFault(f"dividends: row {given.index[at]}: {fault.rule}", f"{assets.iloc[at]} {given.ex.iloc[at]}") from None
+            named = f"{assets.iloc[at]} {given.ex.iloc[at]}"
+            raise DataFault(f"dividends: row {given.index[at]}: {fault.rule}", named) from None
     rows = pd.read_csv(io.BytesIO(answer), keep_default_na=False)
     kept, skipped = rows[rows.reason == ""], rows[rows.reason != ""]
     if len(skipped):
         reasons = ", ".join(f"{reason} {count}" for reason, count in skipped.reason.value_counts().items())
         shown = [f"row {given.index[at - 1]}: {reason}" for at, reason in zip(skipped.record[:5], skipped.reason)]
-        warnings.warn(f"{len(skipped)} of {len(rows)} dividends are skipped: {reasons}\n" + "\n".join(shown), stacklevel=4)
-    return [tuple(map(int, row)) for row in zip(kept.effective_date, kept.num, kept.den, kept.sid)]
+        warnings.warn(
+            f"{len(skipped)} of {len(rows)} dividends are skipped: {reasons}\n" + "\n".join(shown), stacklevel=4
+        )
+    columns = (kept[name].astype(int) for name in ("effective_date", "num", "den", "sid"))
+    return list(zip(*(column.tolist() for column in columns)))

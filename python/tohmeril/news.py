@@ -19,7 +19,7 @@ from .data import FILES, HEADERS, NEEDED, SECONDS, TABLES, Data, read_only
 from .days import Day, read_day
 from .faults import DataFault, LimitFault, ReadFault, StoreFault
 from .folder import writing
-from .frames import FOREVER, Sids, and_others, late_parts, require_unique, select_columns
+from .frames import FOREVER, Sids, and_others, late_parts, read_symbols, require_unique, select_columns
 from .ingest import add_adjustments, adjustments, beside_bars, calendar, of_parts, write_records
 from .odd import PROBE
 from .pipeline.script import BARS
@@ -136,13 +136,14 @@ def _sids(store: Store, assets: Sequence[Union[int, str]], symbols: Optional[Map
             raise DataFault(f"bars: the data have no symbols, so no {fresh[0]!r}", "give sids, as the folder was written with them")
         return Sids([*store.lives.index, *assets], None)
     known = dict(zip(store.data.symbols, map(int, store.data.symbols.index)))
+    symbols = None if symbols is None else read_symbols(symbols)
     fresh = [symbol for symbol in fresh if symbol not in known]
     after = max([*known.values(), *store.lives.index], default=-1) + 1
     for at, symbol in enumerate(fresh, after):
         sid = at if symbols is None else symbols.get(symbol)
         if sid is None or sid in known.values():
             raise DataFault(f"symbols: there is no sid of {symbol!r}" if sid is None else f"symbols: the sid {sid} of {symbol!r} is of another")
-        known[symbol] = int(sid)
+        known[symbol] = sid
     return Sids([*known, *store.lives.index], known)
 
 
@@ -210,7 +211,7 @@ def _beside(store: Store, sids: Sids, days: list[str], labels: Union[pd.DataFram
     files = beside_bars(sids, first, labels, revisions, numbers, after_close)
     if early:
         cells = pd.concat(early).melt(["sid", "session"], list(BARS), "column", "value").dropna(subset=["value"])
-        cells = sids.records(cells.assign(known=read_day(late), value=pd.to_numeric(cells.value).astype("float64")), "bars")
+        cells = sids.records(cells.assign(known=read_day(late, "late"), value=pd.to_numeric(cells.value).astype("float64")), "bars")
         files["revisions"] = pd.concat([*filter(None.__ne__, [files.get("revisions")]), cells])[HEADERS["revisions"]]
     for part, name in FIRST.items():
         wrong = files[part][files[part][name] <= store.last] if part in files else ()

@@ -1,9 +1,11 @@
-"""What looks odd in data though it is lawful: most of it shows later as an empty or a wrong column, and the program is silent."""
+"""What looks odd in data though it is lawful: most of it shows later as an empty or a wrong column, and the program is
+silent.
+"""
 from __future__ import annotations
 
 import sqlite3
 from contextlib import closing
-from typing import TYPE_CHECKING, Any, Iterator, NamedTuple, Optional, Sequence
+from typing import TYPE_CHECKING, Any, Container, Iterator, NamedTuple, Optional, Sequence
 
 import numpy as np
 import pandas as pd
@@ -12,7 +14,7 @@ from . import program
 from .data import SECONDS, TABLES, Data, read_only
 from .faults import LimitFault, StoreFault
 from .pipeline.script import BARS
-from .plans import Piped, Source, named_in, opened, scripted
+from .plans import Piped, Source, as_data, as_script, named_in
 
 if TYPE_CHECKING:
     Array = np.ndarray[Any, Any]
@@ -27,7 +29,9 @@ PLAIN = 1.2  # the least factor of a split that a usual day does not hide
 NO_NAMES = {"", "nan", "NaN", "NaT", "None", "<NA>"}  # what a missing symbol becomes as a text
 
 
-def check(data: Source, pipelines: Sequence[Piped] = (), table: Optional[pd.DataFrame] = None) -> list[str]:
+def check(
+    data: Source, pipelines: Sequence[Piped] = (), table: Optional[pd.DataFrame] = None, lacking: Container[str] = ()
+) -> list[str]:
     """Let the program judge all files, whose fault is raised, and list what looks odd.
 
     It reads the bars in blocks, while the program does, and keeps of each asset the newest close.
@@ -37,10 +41,12 @@ def check(data: Source, pipelines: Sequence[Piped] = (), table: Optional[pd.Data
     data : Data, str or Path
         The data, or their folder, which need not be in its place yet.
     pipelines : sequence of Pipeline, str or Path
-        All pipelines that are run over the data: with them, labels and numbers that none of them names, and names without labels
-        or numbers, are listed.
+        All pipelines that are run over the data: with them, labels and numbers that none of them names, and names
+        without labels or numbers, are listed.
     table : DataFrame, optional
         A frame of `run_pipeline`: its columns without any value are listed.
+    lacking : sequence of str
+        The columns of bars that may be empty, as those are that were not given.
 
     Returns
     -------
@@ -54,14 +60,16 @@ def check(data: Source, pipelines: Sequence[Piped] = (), table: Optional[pd.Data
     StoreFault
         Where the tables of the adjustments can't be read.
     """
-    data = opened(data)
+    data = as_data(data)
     found: list[str] = []
     failed: Optional[Exception] = None
     last = data.sessions[-1] if data.sessions else "1970-01-01"
     try:
-        with data.steady(), program.file(PROBE) as name, program.stream(["run", name, *data.names, last, last, *data.options]) as judged:
+        with data.steady(), program.file(PROBE) as name, program.stream(
+            ["run", name, *data.names, last, last, *data.options]
+        ) as judged:
             try:
-                found += _looked(data, pipelines)
+                found += _looked(data, pipelines, lacking)
             except Exception as error:  # the program says better what is wrong in a file
                 failed = error
             judged.read()
@@ -72,7 +80,7 @@ def check(data: Source, pipelines: Sequence[Piped] = (), table: Optional[pd.Data
     return [*found, *_columns(table)]
 
 
-def _looked(data: Data, pipelines: Sequence[Piped]) -> Iterator[str]:
+def _looked(data: Data, pipelines: Sequence[Piped], lacking: Container[str]) -> Iterator[str]:
     """What looks odd in the files."""
     if not data.sessions:
         return
@@ -84,7 +92,7 @@ def _looked(data: Data, pipelines: Sequence[Piped]) -> Iterator[str]:
     yield from _sessions(data)
     yield from _lives(data, assets)
     yield from _symbols(data)
-    yield from bars.oddities()
+    yield from bars.oddities(lacking)
     yield from _acting(data, assets, adjustments)
     for part in SINCE:
         yield from _dated(data, pipelines, part)
@@ -96,8 +104,11 @@ def _sessions(data: Data) -> Iterator[str]:
     for name, other in (("Saturday", "Sunday"), ("Sunday", "Saturday")):
         free = days[names == name]
         if len(free) and (names == other).mean() < 0.1:  # else it is a market that trades on all days
-            yield f"sessions: {len(free)} of {len(days)} are a {name}, as {free[0]:%Y-%m-%d}: a day in UTC is another one east of it, " \
-                  "so give days of the exchange's own clock"
+            yield (
+                f"sessions: {len(free)} of {len(days)} are a {name}, as {free[0]:%Y-%m-%d}: a day in UTC is another "
+                "one "
+                "east of it, so give days of the exchange's own clock"
+            )
 
 
 def _lives(data: Data, assets: pd.DataFrame) -> Iterator[str]:
@@ -105,29 +116,43 @@ def _lives(data: Data, assets: pd.DataFrame) -> Iterator[str]:
     never = assets[(assets.end < data.sessions[0]) | (assets.start >= last)]
     if len(never):
         first = never.iloc[0]
-        yield f"assets: {len(never)} of {len(assets)} exist on no session, as {_asset(data, first.sid)} after {first.start} up to {first.end}"
+        yield (
+            f"assets: {len(never)} of {len(assets)} exist on no session, as {_asset(data, first.sid)} after "
+            f"{first.start} "
+            f"up to {first.end}"
+        )
     ending = (assets["end"] == last).sum()
     if ending:
-        yield f"assets: {ending} of {len(assets)} end on the last session, {last}: they have no row on the next one; if they " \
-              "still trade, give an end far ahead"
+        yield (
+            f"assets: {ending} of {len(assets)} end on the last session, {last}: they have no row on the next one; "
+            "if they still trade, give an end far ahead"
+        )
     halted = assets[(assets.end < last) & (assets.end >= data.sessions[-6:][0]) & (assets.end >= data.sessions[0])]
     if len(halted):
-        yield f"assets: {len(halted)} of {len(assets)} end within the five sessions before the last one, as " \
-              f"{_asset(data, halted.sid.iloc[0])} on {halted.end.iloc[0]}: if trading was halted alone, give an end far ahead"
+        yield (
+            f"assets: {len(halted)} of {len(assets)} end within the five sessions before the last one, as "
+            f"{_asset(data, halted.sid.iloc[0])} on {halted.end.iloc[0]}: if trading was halted alone, give an end far "
+            "ahead"
+        )
 
 
 def _symbols(data: Data) -> Iterator[str]:
     if "symbols" not in data.files:
         return
     rows = pd.read_csv(data.files["symbols"], dtype=str, keep_default_na=False)
-    yield from (f"symbols: the sid {sid} is called {symbol!r}, as a missing value is"
-                for sid, symbol in zip(rows.sid, rows.symbol) if symbol in NO_NAMES)
+    yield from (
+        f"symbols: the sid {sid} is called {symbol!r}, as a missing value is"
+        for sid, symbol in zip(rows.sid, rows.symbol)
+        if symbol in NO_NAMES
+    )
     for name, other, told in (("sid", "symbol", "{1} have the sid {0}"), ("symbol", "sid", "{0} has the sids {1}")):
         twice = rows[rows.duplicated(name, keep=False)]
         if len(twice):
             same = twice[twice[name] == twice[name].iloc[0]]
             more = twice[name].nunique() - 1
-            yield f"symbols: {told.format(same[name].iloc[0], ' and '.join(same[other]))}" + (f", and so {more} more" if more else "")
+            yield f"symbols: {told.format(same[name].iloc[0], ' and '.join(same[other]))}" + (
+                f", and so {more} more" if more else ""
+            )
 
 
 def _asset(data: Data, sid: int) -> str:
@@ -144,6 +169,7 @@ def _blocks(data: Data) -> Iterator[pd.DataFrame]:
 
 class _Change(NamedTuple):
     """The closes of an asset on two sessions, one after the other as far as it has closes."""
+
     asset: int
     session: int
     before: float
@@ -151,11 +177,13 @@ class _Change(NamedTuple):
 
 
 class _Bars:
-    """What is odd in bars that are added block by block. Those of an asset come by session, else they are not compared."""
+    """What is odd in bars that are added block by block. Those of an asset are compared where they come by session."""
 
     def __init__(self, data: Data, sids: pd.Series, adjustments: pd.DataFrame):
         self.data, self.sids, self.sessions = data, pd.Index(np.unique(sids)), pd.Index(data.sessions)
-        self.close, self.place = np.full(len(self.sids), np.nan), np.full(len(self.sids), -1)  # the newest of each asset
+        self.close, self.place = np.full(len(self.sids), np.nan), np.full(
+            len(self.sids), -1
+        )  # the newest of each asset
         self.greatest: list[pd.Series] = []
         self.zeros, self.zero, self.steps, self.step = 0, "", 0, ""
         self.width = len(self.sessions) + 1  # a key is the place of the asset times this and that of the session
@@ -165,14 +193,20 @@ class _Bars:
         self.keys, self.logs = keys[order], np.append(0, np.cumsum(np.log(acting.ratio.to_numpy())[order]))
         plain = (acting.table == "splits").to_numpy() & (np.abs(np.log(acting.ratio.to_numpy())) > np.log(PLAIN))
         self.splits, self.split_keys = acting[plain], keys[plain]
-        self.seen, self.flat, self.first_flat = 0, 0, ""  # how many splits were seen, and how many without a fall or a rise
+        self.seen, self.flat, self.first_flat = (
+            0,
+            0,
+            "",
+        )  # how many splits were seen, and how many without a fall or a rise
 
     def add(self, block: pd.DataFrame) -> None:
         """Look at some bars."""
         self.greatest.append(block[list(BARS)].assign(**{"close * volume": block.close * block.volume}).max())
         zero = (block[list(BARS[:4])] == 0).to_numpy().any(axis=1)
         if zero.any():
-            self.zero = self.zero or "{} on {}".format(_asset(self.data, block.sid[zero].iloc[0]), block.session[zero].iloc[0])
+            self.zero = self.zero or "{} on {}".format(
+                _asset(self.data, block.sid[zero].iloc[0]), block.session[zero].iloc[0]
+            )
             self.zeros += zero.sum()
         asset = self.sids.get_indexer(block.sid)
         place = np.append(self.sessions.get_indexer(block.session.cat.categories), -1)[block.session.cat.codes]
@@ -206,37 +240,45 @@ class _Bars:
                 self.steps += 1
                 self.step = self.step or self._told(_Change(asset[at], place[at], before[at], close[at]))
         at = np.minimum(np.searchsorted(keys, self.split_keys), len(keys) - 1)
-        here = (asset[at] == self.split_keys // self.width) & (keys[at] >= self.split_keys) & \
-            (since[at] < self.split_keys % self.width) & ~np.isnan(before[at])
+        own = (asset[at] == self.split_keys // self.width) & (keys[at] >= self.split_keys)
+        here = own & (since[at] < self.split_keys % self.width) & ~np.isnan(before[at])
         for row, pair in zip(self.splits[here].itertuples(), at[here]):
             self.seen += 1
             if abs(np.log(change[pair])) < abs(np.log(change[pair] / row.ratio)):
                 self.flat += 1
-                self.first_flat = self.first_flat or \
-                    f"{self._told(_Change(asset[pair], place[pair], before[pair], close[pair]))}, with {row.den}:{row.num}"
+                told = self._told(_Change(asset[pair], place[pair], before[pair], close[pair]))
+                self.first_flat = self.first_flat or f"{told}, with {row.den}:{row.num}"
 
     def _told(self, change: _Change) -> str:
-        return f"{_asset(self.data, self.sids[change.asset])} on {self.sessions[change.session]} from {change.before:.12g} to " \
-               f"{change.after:.12g}"
+        asset = _asset(self.data, self.sids[change.asset])
+        return f"{asset} on {self.sessions[change.session]} from {change.before:.12g} to {change.after:.12g}"
 
-    def oddities(self) -> Iterator[str]:
+    def oddities(self, lacking: Container[str]) -> Iterator[str]:
         """What was seen."""
         for name, greatest in pd.DataFrame(self.greatest).max().items():
-            if pd.isna(greatest) and name != "close * volume":
+            if pd.isna(greatest) and name != "close * volume" and name not in lacking:
                 yield f"bars: the column {name} is empty"
             elif greatest > NEAR:
-                yield f"bars: {name} goes up to {greatest:.0f}, and what passes 100000000000 is missing: give the volume in thousands, " \
-                      "or prices in a greater unit"
+                yield (
+                    f"bars: {name} goes up to {greatest:.0f}, and what passes 100000000000 is missing: give the "
+                    "volume in "
+                    "thousands, or prices in a greater unit"
+                )
         if self.zeros:
             yield f"bars: {self.zeros} have a price of 0, as that of {self.zero}: leave a missing one empty"
         if self.steps:
-            yield f"bars: {self.steps} closes fall to about a half, a third, .. or rise to the double, the triple, .. without a split, " \
-                  f"as that of {self.step}: give the splits, or see whether the bar is of another asset"
+            yield (
+                f"bars: {self.steps} closes fall to about a half, a third, .. or rise to the double, the triple, .. "
+                "without "
+                f"a split, as that of {self.step}: give the splits, or see whether the bar is of another asset"
+            )
         if self.flat:
-            yield f"splits: {self.flat} of {self.seen} show no fall or rise on their day, as {self.first_flat}: " \
-                  + ("these prices are adjusted already, so that each split counts twice: give the raw close (in Sharadar closeunadj, in "
-                     "CRSP PRC), or leave out the splits" if self.flat > self.seen / 2 else
-                     "is the day another, are these prices adjusted already, or is the ratio turned?")
+            yield f"splits: {self.flat} of {self.seen} show no fall or rise on their day, as {self.first_flat}: " + (
+                "these prices are adjusted already, so that each split counts twice: give the raw close (in Sharadar "
+                "closeunadj, in CRSP PRC), or leave out the splits"
+                if self.flat > self.seen / 2
+                else "is the day another, are these prices adjusted already, or is the ratio turned?"
+            )
 
 
 def _adjustments(data: Data, sids: pd.Series) -> pd.DataFrame:
@@ -254,8 +296,12 @@ def _adjustments(data: Data, sids: pd.Series) -> pd.DataFrame:
     rows = np.concatenate([*parts.values(), np.empty((0, 4), "int64")])
     found = pd.DataFrame(rows, columns=["sid", "seconds", "num", "den"])
     days = (found.seconds // SECONDS).clip(-30_000, 100_000).to_numpy().astype("datetime64[D]").astype(str)
-    found = found.assign(table=np.repeat(list(parts), [len(each) for each in parts.values()]) if parts else "", day=days)
-    return found.assign(ratio=found.num.clip(lower=1) / found.den.clip(lower=1), asset=pd.Index(np.unique(sids)).get_indexer(found.sid))
+    found = found.assign(
+        table=np.repeat(list(parts), [len(each) for each in parts.values()]) if parts else "", day=days
+    )
+    return found.assign(
+        ratio=found.num.clip(lower=1) / found.den.clip(lower=1), asset=pd.Index(np.unique(sids)).get_indexer(found.sid)
+    )
 
 
 def _acting(data: Data, assets: pd.DataFrame, adjustments: pd.DataFrame) -> Iterator[str]:
@@ -264,34 +310,51 @@ def _acting(data: Data, assets: pd.DataFrame, adjustments: pd.DataFrame) -> Iter
         rows = adjustments[adjustments.table == name]
         unknown = ~rows.sid.isin(assets.sid)
         if unknown.any():
-            yield f"{name}: {unknown.sum()} of {len(rows)} are of unknown sids, as {rows.sid[unknown].iloc[0]}, and do nothing"
+            yield (
+                f"{name}: {unknown.sum()} of {len(rows)} are of unknown sids, as {rows.sid[unknown].iloc[0]}, and do "
+                "nothing"
+            )
         if (rows.seconds.abs() < 100_000).any():
-            yield f"{name}: effective dates as {rows.seconds.iloc[0]} look like days and are read as seconds since 1970-01-01"
-        elif len(rows) and not ((rows.day > data.sessions[0]) & (rows.day <= data.sessions[-1])).any():  # on bars of earlier days
+            yield (
+                f"{name}: effective dates as {rows.seconds.iloc[0]} look like days and are read as seconds since "
+                "1970-01-01"
+            )
+        elif (
+            len(rows) and not ((rows.day > data.sessions[0]) & (rows.day <= data.sessions[-1])).any()
+        ):  # on bars of earlier days
             yield f"{name}: none of {len(rows)} falls within the bars, so that none does anything"
         twice = rows[rows.duplicated(["sid", "day"] if name == "splits" else ["sid", "day", "num", "den"])]
         if len(twice):
-            yield f"{name}: {len(twice)} of {len(rows)} are there twice, as that of {_asset(data, twice.sid.iloc[0])} on {twice.day.iloc[0]}, " \
-                  "so that it acts twice"
+            yield (
+                f"{name}: {len(twice)} of {len(rows)} are there twice, as that of {_asset(data, twice.sid.iloc[0])} on "
+                f"{twice.day.iloc[0]}, so that it acts twice"
+            )
 
 
 def _dated(data: Data, pipelines: Sequence[Piped], part: str) -> Iterator[str]:
     """Labels or numbers that no pipeline names, names without any, and days that are none of publication."""
-    named = {name for pipeline in pipelines for name in named_in(scripted(pipeline).text, part)}
+    named = {name for pipeline in pipelines for name in named_in(as_script(pipeline).text, part)}
     rows = pd.DataFrame({"name": [], SINCE[part]: []}, dtype=str)
     if part in data.files:
-        blocks = pd.read_csv(data.files[part], usecols=["name", SINCE[part]], dtype="category", na_filter=False, chunksize=BLOCK)
+        blocks = pd.read_csv(
+            data.files[part], usecols=["name", SINCE[part]], dtype="category", na_filter=False, chunksize=BLOCK
+        )
         rows = pd.concat([block.drop_duplicates().astype(str) for block in blocks] or [rows]).drop_duplicates()
     there = set(rows["name"])
     if pipelines:
         yield from (f"{part}: no pipeline names {name!r}" for name in sorted(there - named))
-    yield from (f"{part}: there are none of the name {name!r}, so that its column is empty" for name in sorted(named - there))
+    yield from (
+        f"{part}: there are none of the name {name!r}, so that its column is empty" for name in sorted(named - there)
+    )
     sessions = pd.Series(data.sessions, dtype=str)
     closing_days = set(sessions.groupby(sessions.str[:7]).max())  # the last sessions of months
     for name, days in rows.groupby("name")[SINCE[part]]:
         later = days[days > sessions.min()] if part == "labels" else days  # labels often begin with the data
         if len(later) > 2 and (pd.to_datetime(later).dt.is_month_end | later.isin(closing_days)).all():
-            yield f"{part}: {name!r} is known on the last days of months alone, as periods end: give the days of publication"
+            yield (
+                f"{part}: {name!r} is known on the last days of months alone, as periods end: give the days of "
+                "publication"
+            )
         if (days.str[:4] == "1970").all() and sessions.min() > "1971":
             yield f"{part}: {name!r} has days of 1970 alone: whole numbers as 20240202 may have been read as seconds"
         elif (days > sessions.max()).all():
@@ -300,5 +363,11 @@ def _dated(data: Data, pipelines: Sequence[Piped], part: str) -> Iterator[str]:
 
 def _columns(table: Optional[pd.DataFrame]) -> Iterator[str]:
     for name, cells in {} if table is None else table.items():
-        if (cells == -1).all() if cells.dtype == "int64" else not cells.notna().any() if cells.dtype != bool else not cells.any():
+        if (
+            (cells == -1).all()
+            if cells.dtype == "int64"
+            else not cells.notna().any()
+            if cells.dtype != bool
+            else not cells.any()
+        ):
             yield f"table: the column {name!r} has no value"

@@ -1,8 +1,9 @@
 """Pictures of a factor. Each function takes a frame of `run_pipeline` and makes a figure of matplotlib.
 
-Forward returns come from a column of the pipeline itself: ``Returns(window_length=n + 1)`` over closes, shifted back by n
-sessions, is the return that begins at today's newest close, adjusted for all that becomes effective within it. Ratios of raw
-closes are not: a split would count as a return. Run without a screen, since an asset that leaves the screen has no later row.
+Forward returns come from a column of the pipeline itself: ``Returns(window_length=n + 1)`` over closes, shifted back by
+n sessions, is the return that begins at today's newest close, adjusted for all that becomes effective within it. Ratios
+of raw closes are not: a split would count as a return. Run without a screen, since an asset that leaves the screen has
+no later row.
 
 >>> import matplotlib
 >>> matplotlib.use("Agg")
@@ -71,8 +72,12 @@ def factor(frame: pd.DataFrame, column: str, assets: Optional[Iterable[Hashable]
     for asset in shown:
         if asset not in wide.columns:
             raise KeyError(f"the frame has no asset {asset!r}; there are {', '.join(map(str, wide.columns[:10]))} ..")
-    figure, axes = _figure(f"{column} of {len(shown)} of {len(wide.columns)} assets, and where the middle half of all is")
-    axes.fill_between(wide.index, wide.quantile(0.25, axis=1), wide.quantile(0.75, axis=1), alpha=0.2, label="middle half")
+    figure, axes = _figure(
+        f"{column} of {len(shown)} of {len(wide.columns)} assets, and where the middle half of all is"
+    )
+    axes.fill_between(
+        wide.index, wide.quantile(0.25, axis=1), wide.quantile(0.75, axis=1), alpha=0.2, label="middle half"
+    )
     for asset in shown:
         axes.plot(wide.index, wide[asset], label=str(asset))
     axes.set_ylabel(column)
@@ -114,8 +119,10 @@ def quantile_returns(frame: pd.DataFrame, bins: str, returns: str, sessions: int
     axes.bar(means.index.astype(str), means)
     axes.axhline(0, linewidth=0.8, color="black")
     days = rows.index.get_level_values("session").unique()
-    axes.set_xlabel(f"bin of {bins}, from {means.index[0]}, the least values, to {means.index[-1]}, the greatest\n"
-                    f"mean of {len(days)} sessions from {days.min():%Y-%m-%d} to {days.max():%Y-%m-%d}")
+    axes.set_xlabel(
+        f"bin of {bins}, from {means.index[0]}, the least values, to {means.index[-1]}, the greatest\n"
+        f"mean of {len(days)} sessions from {days.min():%Y-%m-%d} to {days.max():%Y-%m-%d}"
+    )
     axes.set_ylabel("percent")
     return figure
 
@@ -145,7 +152,9 @@ def turnover(frame: pd.DataFrame, bins: str, sessions: int = 1) -> Figure:
     greatest = frame[bins].max()
     top = wide == greatest
     new = (top & ~top.shift(sessions, fill_value=False)).sum(axis=1) / top.sum(axis=1).replace(0, np.nan) * 100
-    figure, axes = _figure(f"turnover of the top bin of {bins}, {greatest}, within {sessions} session{'s' * (sessions > 1)}, percent")
+    figure, axes = _figure(
+        f"turnover of the top bin of {bins}, {greatest}, within {sessions} session{'s' * (sessions > 1)}, percent"
+    )
     axes.plot(new.index[sessions:], new.iloc[sessions:])
     axes.set_ylim(bottom=0)
     axes.set_ylabel("percent of its assets that are new")
@@ -163,12 +172,16 @@ def _bins(frame: pd.DataFrame, name: str) -> pd.Series:
     """A column of the numbers of bins."""
     bins = _column(frame, name)
     if bins.dtype != "int64":
-        raise TypeError(f"{name!r} is a column of {bins.dtype}, and bins are whole numbers: give a column of quantiles, as y.quintiles()")
+        raise TypeError(
+            f"{name!r} is a column of {bins.dtype}, and bins are whole numbers: give a column of quantiles, as "
+            "y.quintiles()"
+        )
     return bins
 
 
 def _figure(title: str) -> tuple[Figure, Axes]:
     from matplotlib.figure import Figure  # no pyplot, so that a figure is freed with its last reference
+
     figure = Figure(figsize=(8, 4), layout="constrained")
     axes = figure.subplots()
     axes.set_title(title)
@@ -178,6 +191,7 @@ def _figure(title: str) -> tuple[Figure, Axes]:
 def _read_days(axes: Axes) -> None:
     """Write days under a picture so that none covers another."""
     from matplotlib.dates import AutoDateLocator, ConciseDateFormatter
+
     places = AutoDateLocator(minticks=3, maxticks=8)
     axes.xaxis.set_major_locator(places)
     axes.xaxis.set_major_formatter(ConciseDateFormatter(places))

@@ -15,13 +15,18 @@ from .faults import Fault, fault
 
 F_SETPIPE_SZ = 1031  # of Linux; the module fcntl names it from Python 3.10 on
 ANSWERS = {  # what the answer to a command has in it, by which a foreign program is known
-    "check": rb"^ok: \d+ terms?, \d+ columns?\n$", "fmt": rb"^pipeline \d;\n", "plan": rb"(^|\n)reach=\d+ bound=\d+\n$",
-    "explain": rb"^(seen|value) ", "verify": rb"^(yes|no \d+)\n$", "payouts": rb"^record,"}
+    "check": rb"^ok: \d+ terms?, \d+ columns?\n$",
+    "fmt": rb"^pipeline \d;\n",
+    "plan": rb"(^|\n)reach=\d+ bound=\d+\n$",
+    "explain": rb"^(seen|value) ",
+    "verify": rb"^(yes|no \d+)\n$",
+    "payouts": rb"^record,",
+}
 
 
 def find() -> str:
-    """Path of the program: what TOHMERIL names, else the one inside the package, else `tohmeril` on the path, else the one
-    built in this checkout.
+    """Path of the program: what TOHMERIL names, else the one inside the package, else `tohmeril` on the path, else the
+    one built in this checkout.
 
     A release has the program inside the package (tools/release). It goes before the path, since it was tried with this
     package, and a program on the path may be of another version. A worker of an executor finds its own, by its own
@@ -34,14 +39,17 @@ def find() -> str:
     for program in places:
         if program and os.access(program, os.X_OK):
             return program
-    raise FileNotFoundError(f"there is no program {named or 'tohmeril'} on {platform.node()}: set TOHMERIL to its path, put it "
-                            "on the path as tohmeril, or build it with ./tohmeril in the checkout")
+    raise FileNotFoundError(
+        f"there is no program {named or 'tohmeril'} on {platform.node()}: set TOHMERIL to its path, put it "
+        "on the path as tohmeril, or build it with ./tohmeril in the checkout"
+    )
 
 
 def _widen(pipe: IO[bytes]) -> None:
     """Make a pipe of 64 KB one of 1 MB, without which the program and pandas' parser take turns."""
     try:
         import fcntl
+
         fcntl.fcntl(pipe, F_SETPIPE_SZ, 1 << 20)
     except (ImportError, OSError):  # not Linux, or no more pages for pipes
         pass
@@ -50,8 +58,11 @@ def _widen(pipe: IO[bytes]) -> None:
 def foreign(path: str, answer: bytes) -> Fault:
     """The fault of a program that answers what no program of this version does."""
     shown = repr(answer[:60].decode(errors="replace")) if answer else "nothing"
-    return Fault(f"the program {path} wrote {shown}", "so it is no tohmeril, or one of another version than this package: let "
-                 "TOHMERIL name the one that belongs to it, which ./tohmeril builds in the checkout")
+    return Fault(
+        f"the program {path} wrote {shown}",
+        "so it is no tohmeril, or one of another version than this package: let "
+        "TOHMERIL name the one that belongs to it, which ./tohmeril builds in the checkout",
+    )
 
 
 class Unreadable(ValueError):
@@ -66,7 +77,8 @@ class Unreadable(ValueError):
 def stream(words: Sequence[str]) -> Iterator[IO[bytes]]:
     """Output of a command while it is written; its fault is raised once all of it is read.
 
-    Where the reader can't read it, that fault comes first; without one an `Unreadable` is the fault of a foreign program.
+    Where the reader can't read it, that fault comes first; without one an `Unreadable` is the fault of a foreign
+    program.
     """
     path = find()
     process = subprocess.Popen([path, *words], stdout=subprocess.PIPE, stderr=subprocess.PIPE)

@@ -1,6 +1,7 @@
 """Frames of vendors as the keyword arguments of `Data.write`, as in ``Data.write(folder, **yfinance(prices))``.
 
-docs/VENDORS.md says of each source what is point in time in it and what is not. No reader uses a network or a vendor's package.
+docs/VENDORS.md says of each source what is point in time in it and what is not. No reader uses a network or a vendor's
+package.
 """
 from __future__ import annotations
 
@@ -17,25 +18,26 @@ from .faults import DataFault
 from .frames import FOREVER, listed, ratio, to_long, to_numbers
 from .pipeline.script import BARS
 
-Frame = pd.DataFrame
 PRICES = ("open", "high", "low", "close")
 KEYS = ["symbol", "date"]
 AS_REPORTED = ("ARQ", "ARY", "ART")
 BY_PERFORMANCE = range(500, 600)  # CRSP's codes of delistings for cause
 
 
-def yfinance(prices: Frame, symbol: Optional[str] = None, *, end: Optional[Day] = None) -> dict[str, Frame]:
+def yfinance(
+    prices: pd.DataFrame, symbol: Optional[str] = None, *, end: Optional[Day] = None
+) -> dict[str, pd.DataFrame]:
     """The frame of ``yfinance.download(tickers, auto_adjust=False, actions=True)`` or of `Ticker.history`.
 
-    Yahoo's prices, volumes and dividends are adjusted by all splits up to the day of the download. The reader undoes that, so
-    download up to today, and let `end` cut. With ``auto_adjust=True``, its default, prices are adjusted by dividends as well: they
-    are refused.
+    Yahoo's prices, volumes and dividends are adjusted by all splits up to the day of the download. The reader undoes
+    that, so download up to today, and let `end` cut. With ``auto_adjust=True``, its default, prices are adjusted by
+    dividends as well: they are refused.
 
     Parameters
     ----------
     prices : DataFrame
-        By day, with the columns Open, High, Low, Close, Adj Close, Volume, Dividends, Stock Splits and perhaps Capital Gains;
-        or with columns of two levels, in any order, of these and the symbols.
+        By day, with the columns Open, High, Low, Close, Adj Close, Volume, Dividends, Stock Splits and perhaps Capital
+        Gains; or with columns of two levels, in any order, of these and the symbols.
     symbol : str, optional
         That of a frame with one level of columns.
     end : day, optional
@@ -53,21 +55,25 @@ def yfinance(prices: Frame, symbol: Optional[str] = None, *, end: Optional[Day] 
     """
     rows = _of_symbols(prices, symbol, "yfinance")
     if "adj close" not in rows:
-        raise DataFault("yfinance: there is no 'Adj Close', so that these prices are adjusted by dividends, too",
-                        "download with auto_adjust=False and actions=True")
+        raise DataFault(
+            "yfinance: there is no 'Adj Close', so that these prices are adjusted by dividends, too",
+            "download with auto_adjust=False and actions=True",
+        )
     _need(rows, ["stock splits", "close"], "yfinance", "Close is adjusted by them: download with actions=True")
     splits = _events(rows, "stock splits", "split", 0)
     splits = splits[splits.split != 1]
-    paid = sum((to_numbers(rows[name], "yfinance").fillna(0) for name in ("dividends", "capital gains") if name in rows),
-               pd.Series(0.0, index=rows.index))
+    paid = sum(
+        (to_numbers(rows[name], "yfinance").fillna(0) for name in ("dividends", "capital gains") if name in rows),
+        pd.Series(0.0, index=rows.index),
+    )
     # a payout on the day of a split is given in the shares before it, as the program asks for it
     dividends = rows[KEYS].assign(amount=paid * _later_splits(rows, splits, same_day=True))[paid != 0]
     parts = {"bars": unadjust(rows, splits), "splits": splits, "dividends": dividends}
     return parts if end is None else {part: frame[frame.date <= read_day(end, "end")] for part, frame in parts.items()}
 
 
-def stooq(prices: Frame, symbol: Optional[str] = None) -> dict[str, Frame]:
-    """Stooq's daily bars: a file of its database, with <TICKER>, <PER>, <DATE> .., or one of its site, with Date, Open, .. Volume.
+def stooq(prices: pd.DataFrame, symbol: Optional[str] = None) -> dict[str, pd.DataFrame]:
+    """Stooq's daily bars: a file of its database, with <TICKER>, <PER>, <DATE> .., or of its site, with Date, Open ...
 
     Parameters
     ----------
@@ -81,7 +87,9 @@ def stooq(prices: Frame, symbol: Optional[str] = None) -> dict[str, Frame]:
     dict
         bars alone. Stooq adjusts its prices by splits and dividends, and says neither, so give no splits with them.
     """
-    plain = prices.rename(columns=lambda name: str(name).strip("<> ").lower()).rename(columns={"vol": "volume", "ticker": "symbol"})
+    plain = prices.rename(columns=lambda name: str(name).strip("<> ").lower()).rename(
+        columns={"vol": "volume", "ticker": "symbol"}
+    )
     if "per" in plain:
         other = plain.per.astype(str) != "D"
         if other.any():
@@ -92,14 +100,21 @@ def stooq(prices: Frame, symbol: Optional[str] = None) -> dict[str, Frame]:
     return {"bars": plain[[*KEYS, *(name for name in BARS if name in plain)]]}
 
 
-def sharadar(sep: Frame, actions: Frame, sf1: Optional[Frame] = None, *, fields: Optional[Mapping[str, float]] = None,
-             dimension: str = "ARQ", dividends: Optional[str] = None) -> dict[str, Any]:
+def sharadar(
+    sep: pd.DataFrame,
+    actions: pd.DataFrame,
+    sf1: Optional[pd.DataFrame] = None,
+    *,
+    fields: Optional[Mapping[str, float]] = None,
+    dimension: str = "ARQ",
+    dividends: Optional[str] = None,
+) -> dict[str, Any]:
     """Sharadar's SEP, ACTIONS and SF1.
 
-    SEP's open, high, low, close and volume are adjusted by splits; the reader undoes that by the splits of ACTIONS, and takes
-    `closeunadj` as the close. Rows of ACTIONS and SF1 of other tickers are left out. A figure of SF1 is known on the session after
-    its `datekey`, the day of the filing, as most filings come after the close. Of two periods filed on one day the later one is
-    taken, and an older period that is filed late is left out.
+    SEP's open, high, low, close and volume are adjusted by splits; the reader undoes that by the splits of ACTIONS, and
+    takes `closeunadj` as the close. Rows of ACTIONS and SF1 of other tickers are left out. A figure of SF1 is known on
+    the session after its `datekey`, the day of the filing, as most filings come after the close. Of two periods filed
+    on one day the later one is taken, and an older period that is filed late is left out.
 
     Parameters
     ----------
@@ -114,8 +129,8 @@ def sharadar(sep: Frame, actions: Frame, sf1: Optional[Frame] = None, *, fields:
     dimension : str
         ARQ, ARY or ART, as reported. MRQ, MRY and MRT have later restatements: a pipeline would look ahead.
     dividends : str
-        "paid" where the dividends of ACTIONS are as paid, "adjusted" where later splits divide them, "none" to leave them out.
-        Apple paid 0.82 on 2020-05-08, and 0.205 is that after its split of 2020-08-31.
+        "paid" where the dividends of ACTIONS are as paid, "adjusted" where later splits divide them, "none" to leave
+        them out. Apple paid 0.82 on 2020-05-08, and 0.205 is that after its split of 2020-08-31.
 
     Returns
     -------
@@ -136,52 +151,74 @@ def sharadar(sep: Frame, actions: Frame, sf1: Optional[Frame] = None, *, fields:
     far = (bars.close - quoted).abs() > 0.006 * (1 + bars.close / to_numbers(rows.close, "SEP"))
     if far.any():
         row = rows[far].iloc[0]
-        raise DataFault(f"SEP: closeunadj of {row.symbol} on {row.date} is {row.closeunadj}, and close by the later splits of ACTIONS "
-                        f"is {bars.close[far].iloc[0]:.12g}", "give all splits up to the day of the download")
+        raise DataFault(
+            f"SEP: closeunadj of {row.symbol} on {row.date} is {row.closeunadj}, and close by the later splits of "
+            f"ACTIONS is {bars.close[far].iloc[0]:.12g}",
+            "give all splits up to the day of the download",
+        )
     parts: dict[str, Any] = {"bars": bars.assign(close=quoted), "splits": splits}
     spun = events.action.isin(("spinoff", "spinoffdividend"))
     if spun.any():
         row = events[spun].iloc[0]
-        warnings.warn(f"ACTIONS: {spun.sum()} spin-offs are left out, as that of {row.symbol} on {row.date}: the price falls by their "
-                      "value; give mergers= with the ratio", stacklevel=2)
+        warnings.warn(
+            f"ACTIONS: {spun.sum()} spin-offs are left out, as that of {row.symbol} on {row.date}: the price falls by "
+            "their value; give mergers= with the ratio",
+            stacklevel=2,
+        )
     paid = _events(events[events.action == "dividend"], "value", "amount", 0)
     if len(paid) and dividends not in ("paid", "adjusted", "none"):
-        raise DataFault("ACTIONS: dividends may be as paid, or adjusted by later splits", 'say dividends="paid", "adjusted" or "none"')
+        raise DataFault(
+            "ACTIONS: dividends may be as paid, or adjusted by later splits",
+            'say dividends="paid", "adjusted" or "none"',
+        )
     if dividends != "none":
         factor = _later_splits(paid, splits, same_day=True) if dividends == "adjusted" else 1
         parts["dividends"] = paid.assign(amount=paid.amount * factor)
     return parts if sf1 is None else {**parts, **_filings(sf1, rows.symbol, fields or {}, dimension)}
 
 
-def _filings(sf1: Frame, symbols: pd.Series, fields: Mapping[str, float], dimension: str) -> dict[str, Any]:
+def _filings(sf1: pd.DataFrame, symbols: pd.Series, fields: Mapping[str, float], dimension: str) -> dict[str, Any]:
     """The figures of SF1 as numbers that are known after the close of their datekey."""
     if dimension not in AS_REPORTED:
-        raise DataFault(f"SF1: the dimension {dimension} has later restatements, so that a pipeline would look ahead", listed(AS_REPORTED))
+        raise DataFault(
+            f"SF1: the dimension {dimension} has later restatements, so that a pipeline would look ahead",
+            listed(AS_REPORTED),
+        )
     if not fields:
-        raise DataFault("SF1: fields is missing", 'it has the figures to take, and what each is divided by, as {"eps": 1, "revenue": 1_000_000}')
+        raise DataFault(
+            "SF1: fields is missing",
+            'it has the figures to take, and what each is divided by, as {"eps": 1, "revenue": 1_000_000}',
+        )
     plain = sf1.reset_index(drop=True).rename(columns=str.lower)
     _need(plain, ["ticker", "dimension", "datekey", "reportperiod", *fields], "SF1")
     rows = plain[plain.dimension.eq(dimension) & plain.ticker.isin(symbols)]
-    rows = rows.assign(known=read_days(rows.datekey, "SF1"), period=read_days(rows.reportperiod, "SF1")).sort_values(["known", "period"])
+    rows = rows.assign(known=read_days(rows.datekey, "SF1"), period=read_days(rows.reportperiod, "SF1")).sort_values(
+        ["known", "period"]
+    )
     late = rows.period < _newest(rows.period, rows.ticker)
     rows = rows[~late].drop_duplicates(["ticker", "known"], keep="last")
-    parts = [rows[["ticker", "known", "period"]].assign(name=name, value=to_numbers(rows[name], "SF1") / by) for name, by in fields.items()]
+    parts = [
+        rows[["ticker", "known", "period"]].assign(name=name, value=to_numbers(rows[name], "SF1") / by)
+        for name, by in fields.items()
+    ]
     return {"numbers": pd.concat(parts, ignore_index=True), "after_close": "numbers"}
 
 
-def crsp(daily: Frame, delisting: Optional[Frame] = None, *, unknown_return: Optional[float] = None) -> dict[str, Any]:
+def crsp(
+    daily: pd.DataFrame, delisting: Optional[pd.DataFrame] = None, *, unknown_return: Optional[float] = None
+) -> dict[str, Any]:
     """CRSP's daily file, with its distributions and delistings, by PERMNO.
 
-    A price below 0 is a mean of bid and ask and is taken as it is, without its sign; 0 is a missing price, and -99 a missing volume.
-    After an asset's last bar there is one more, on the next session: its close is the last one and the delisting return, and the
-    asset exists a session longer, so that one table shows it. SHROUT is the number `shrout`, in thousands, seen from the next
-    session on. Assets without any price are left out.
+    A price below 0 is a mean of bid and ask and is taken without its sign; 0 is a missing price, and -99 a missing
+    volume. After an asset's last bar there is one more, on the next session: its close is the last one and the
+    delisting return, and the asset exists a session longer, so that one table shows it. SHROUT is the number `shrout`,
+    in thousands, seen from the next session on. Assets without any price are left out.
 
     Parameters
     ----------
     daily : DataFrame
-        PERMNO, date, PRC, and perhaps OPENPRC, ASKHI, BIDLO, VOL, SHROUT, DIVAMT; and for the splits FACPR and FACSHR, or CFACPR and
-        CFACSHR. A day may have several rows with the same bar, one for each distribution.
+        PERMNO, date, PRC, and perhaps OPENPRC, ASKHI, BIDLO, VOL, SHROUT, DIVAMT; and for the splits FACPR and FACSHR,
+        or CFACPR and CFACSHR. A day may have several rows with the same bar, one for each distribution.
     delisting : DataFrame, optional
         PERMNO, DLSTCD, DLRET; else these columns of `daily`, where they are there.
     unknown_return : float, optional
@@ -190,7 +227,8 @@ def crsp(daily: Frame, delisting: Optional[Frame] = None, *, unknown_return: Opt
     Returns
     -------
     dict
-        bars, assets, splits, mergers (factors of the price alone, as spin-offs have), dividends, and perhaps numbers and after_close.
+        bars, assets, splits, mergers (factors of the price alone, as spin-offs have), dividends, and perhaps numbers
+        and after_close.
 
     Warns
     -----
@@ -200,34 +238,52 @@ def crsp(daily: Frame, delisting: Optional[Frame] = None, *, unknown_return: Opt
     rows = _plain(daily, "permno", "CRSP", ["prc"])
     named = {"openprc": "open", "askhi": "high", "bidlo": "low", "prc": "close", "vol": "volume"}
     cells = {own: to_numbers(rows[name], "CRSP") for name, own in named.items() if name in rows}
-    cells = {own: cells[own].mask(cells[own] == -99) if own == "volume" else cells[own].abs().replace(0, np.nan) for own in cells}
+    cells = {
+        own: cells[own].mask(cells[own] == -99) if own == "volume" else cells[own].abs().replace(0, np.nan)
+        for own in cells
+    }
     bars = rows[KEYS].assign(**cells).drop_duplicates()
     lives = _lives(bars)
     rows = rows[rows.symbol.isin(lives.symbol)]
     if delisting is not None or "dlret" in rows:
-        ends = rows if delisting is None else delisting.reset_index(drop=True).rename(columns=str.lower).rename(columns={"permno": "symbol"})
+        ends = (
+            rows
+            if delisting is None
+            else delisting.reset_index(drop=True).rename(columns=str.lower).rename(columns={"permno": "symbol"})
+        )
         bars, lives = _delisted(bars, lives, ends, unknown_return)
     parts = {"bars": bars, "assets": lives, **_distributions(rows)}
     if "shrout" in rows:
         shares = rows.drop_duplicates(KEYS).assign(value=to_numbers(rows.shrout, "CRSP")).sort_values(KEYS)
         shares = shares[shares.value.notna() & shares.value.ne(shares.groupby("symbol").value.shift())]
-        parts.update(numbers=shares[[*KEYS, "value"]].rename(columns={"date": "known"}).assign(name="shrout"), after_close="numbers")
+        parts.update(
+            numbers=shares[[*KEYS, "value"]].rename(columns={"date": "known"}).assign(name="shrout"),
+            after_close="numbers",
+        )
     return parts
 
 
-def _distributions(rows: Frame) -> dict[str, Frame]:
+def _distributions(rows: pd.DataFrame) -> dict[str, pd.DataFrame]:
     """Splits, other factors of the price, and dividends of CRSP's rows."""
     if "facpr" in rows:
-        price, shares = (1 / (1 + to_numbers(rows[name], "CRSP").fillna(0)) for name in ("facpr", "facshr" if "facshr" in rows else "facpr"))
+        price, shares = (
+            1 / (1 + to_numbers(rows[name], "CRSP").fillna(0))
+            for name in ("facpr", "facshr" if "facshr" in rows else "facpr")
+        )
         factors = rows[KEYS].assign(price=price, shares=shares)
-        factors = factors[np.isfinite(price) & (price > 0) & np.isfinite(shares) & (shares > 0)]  # -1 is the end of the shares
+        factors = factors[
+            np.isfinite(price) & (price > 0) & np.isfinite(shares) & (shares > 0)
+        ]  # -1 is the end of the shares
     else:
         _need(rows, ["cfacpr"], "CRSP", "give FACPR and FACSHR, or CFACPR and CFACSHR")
         factors = _changes(rows)
     factors = factors[(factors.price != 1) | (factors.shares != 1)]
     other = factors.assign(ratio=[ratio(price) / ratio(shares) for price, shares in zip(factors.price, factors.shares)])
     splits, other = factors[factors.shares != 1].rename(columns={"shares": "ratio"}), other[other.ratio != 1]
-    parts = {"splits": splits[[*KEYS, "ratio"]], "mergers": other[[*KEYS, "ratio"]].assign(ratio=other.ratio.map(_small))}
+    parts = {
+        "splits": splits[[*KEYS, "ratio"]],
+        "mergers": other[[*KEYS, "ratio"]].assign(ratio=other.ratio.map(_small)),
+    }
     if "divamt" in rows:
         paid = _events(rows, "divamt", "amount", 0)
         counted = pd.MultiIndex.from_frame(other[KEYS])  # the value of a spin-off is in its factor
@@ -235,7 +291,7 @@ def _distributions(rows: Frame) -> dict[str, Frame]:
     return parts
 
 
-def _changes(rows: Frame) -> Frame:
+def _changes(rows: pd.DataFrame) -> pd.DataFrame:
     """The factors by which CFACPR and CFACSHR change, on the days of their changes."""
     shares = "cfacshr" if "cfacshr" in rows else "cfacpr"
     cells = {"price": to_numbers(rows.cfacpr, "CRSP"), "shares": to_numbers(rows[shares], "CRSP")}
@@ -244,37 +300,59 @@ def _changes(rows: Frame) -> Frame:
     before = factors.groupby("symbol")[["price", "shares"]].shift()
     factors = factors.assign(old_price=before.price, old_shares=before.shares)
     factors = factors[before.price.notna() & ((factors.price != before.price) | (factors.shares != before.shares))]
-    return factors[KEYS].assign(**{name: [_quotient(new, old) for new, old in zip(factors[name], factors["old_" + name])]
-                                   for name in ("price", "shares")})
+    return factors[KEYS].assign(
+        **{
+            name: [_quotient(new, old) for new, old in zip(factors[name], factors["old_" + name])]
+            for name in ("price", "shares")
+        }
+    )
 
 
-def _delisted(bars: Frame, lives: Frame, ends: Frame, unknown: Optional[float]) -> tuple[Frame, Frame]:
+def _delisted(
+    bars: pd.DataFrame, lives: pd.DataFrame, ends: pd.DataFrame, unknown: Optional[float]
+) -> tuple[pd.DataFrame, pd.DataFrame]:
     """The bars with one more for each delisting return, and the lifetimes that reach the session after it."""
     _need(ends, ["symbol", "dlstcd", "dlret"], "CRSP")
     codes = to_numbers(ends.dlstcd, "CRSP")
-    ends = ends.assign(code=codes, made=pd.to_numeric(ends.dlret, errors="coerce"))[codes.notna() & (codes != 100)]  # 100 still trades
+    ends = ends.assign(code=codes, made=pd.to_numeric(ends.dlret, errors="coerce"))[
+        codes.notna() & (codes != 100)
+    ]  # 100 still trades
     ends = ends.drop_duplicates("symbol", keep="last").set_index("symbol")
-    ends = ends.assign(made=ends.made.where(ends.made.notna() | ~ends.code.isin(BY_PERFORMANCE), np.nan if unknown is None else unknown))
+    ends = ends.assign(
+        made=ends.made.where(
+            ends.made.notna() | ~ends.code.isin(BY_PERFORMANCE), np.nan if unknown is None else unknown
+        )
+    )
     days = sorted(set(bars.date))
     lasts = bars[bars.close.notna()].sort_values("date").drop_duplicates("symbol", keep="last").set_index("symbol")
     ends = ends[ends.index.isin(lasts.index)]
     after = {day: follower for day, follower in zip(days, [*days[1:], None])}
     date = lasts.date.reindex(ends.index).map(after)
-    added = Frame({"date": date, "close": lasts.close.reindex(ends.index) * (1 + ends.made)}).rename_axis("symbol")
+    added = pd.DataFrame({"date": date, "close": lasts.close.reindex(ends.index) * (1 + ends.made)}).rename_axis(
+        "symbol"
+    )
     kept = added[added.date.notna() & added.close.notna()].reset_index()
     if len(kept) < len(added):
         lost = added.index.difference(kept.symbol)
-        warnings.warn(f"CRSP: {len(lost)} of {len(added)} delisting returns are left out, as that of {lost[0]:.0f}: they are missing, or no "
-                      "session follows the asset's last bar", stacklevel=3)
+        warnings.warn(
+            f"CRSP: {len(lost)} of {len(added)} delisting returns are left out, as that of {lost[0]:.0f}: they are "
+            "missing, or no session follows the asset's last bar",
+            stacklevel=3,
+        )
     if kept.empty:
         return bars, lives
     ending = {symbol: after[day] or str(np.busday_offset(day, 1)) for symbol, day in zip(kept.symbol, kept.date)}
     return pd.concat([bars, kept], ignore_index=True), lives.assign(end=lives.symbol.map(ending).fillna(lives.end))
 
 
-def _lives(bars: Frame) -> Frame:
+def _lives(bars: pd.DataFrame) -> pd.DataFrame:
     """The lifetimes that `Data.write` takes by itself: from the first bar to the last one, or on and on."""
-    lives = bars[bars[[name for name in BARS if name in bars]].notna().any(axis=1)].groupby("symbol").date.agg(start="min", end="max").reset_index()
+    lives = (
+        bars[bars[[name for name in BARS if name in bars]].notna().any(axis=1)]
+        .groupby("symbol")
+        .date.agg(start="min", end="max")
+        .reset_index()
+    )
     return lives.assign(end=lives.end.where(lives.end < bars.date.max(), FOREVER))
 
 
@@ -287,11 +365,11 @@ def sas_days(values: pd.Series) -> pd.Series:
     return pd.to_datetime(values, unit="D", origin="1960-01-01")
 
 
-def csvdir(folder: Union[str, Path]) -> dict[str, Frame]:
+def csvdir(folder: Union[str, Path]) -> dict[str, pd.DataFrame]:
     """The bars, splits and dividends of a folder of Zipline's csvdir bundle.
 
-    Each file of ``folder/daily``, or of the folder itself, is named by its symbol and has date, open, high, low, close, volume, and
-    perhaps dividend, in cash, and split, new shares for an old one.
+    Each file of ``folder/daily``, or of the folder itself, is named by its symbol and has date, open, high, low, close,
+    volume, and perhaps dividend, in cash, and split, new shares for an old one.
 
     Raises
     ------
@@ -302,25 +380,34 @@ def csvdir(folder: Union[str, Path]) -> dict[str, Frame]:
     frames = []
     for path in sorted(folder.glob("*.csv")):
         frame = pd.read_csv(path)
-        frame.columns = ["date", *(str(name).strip().lower() for name in frame.columns[1:])]  # Zipline does not ask for its name
+        frame.columns = [
+            "date",
+            *(str(name).strip().lower() for name in frame.columns[1:]),
+        ]  # Zipline does not ask for its name
         _need(frame, BARS, path.name)
         frames.append(frame.assign(symbol=path.stem, date=read_days(frame.date, path.name)))
     if not frames:
         raise DataFault(f"{folder}: there are no files of bars", "a csvdir folder has daily/SYMBOL.csv")
     rows = pd.concat(frames, ignore_index=True)
-    events = {part: _events(rows, name, name, none) for part, name, none in (("splits", "split", 1), ("dividends", "dividend", 0)) if name in rows}
+    events = {
+        part: _events(rows, name, name, none)
+        for part, name, none in (("splits", "split", 1), ("dividends", "dividend", 0))
+        if name in rows
+    }
     return {"bars": rows[[*KEYS, *BARS]], **events}
 
 
-def unadjust(bars: Frame, splits: Frame) -> Frame:
-    """Bars as they were quoted, from bars that later splits have adjusted: prices times the new shares for an old one, volumes by them.
+def unadjust(bars: pd.DataFrame, splits: pd.DataFrame) -> pd.DataFrame:
+    """Bars as they were quoted, from bars that later splits have adjusted.
+
+    Prices are multiplied by the shares that one of their day has become since, and volumes are divided by them.
 
     Parameters
     ----------
     bars : DataFrame
         symbol, date, and any of open, high, low, close and volume.
     splits : DataFrame
-        symbol, date and split, new shares for an old one: all from the first bar to the day on which the bars were downloaded.
+        symbol, date and split, new shares for an old one: all from the first bar to the day of the download.
 
     Examples
     --------
@@ -330,10 +417,12 @@ def unadjust(bars: Frame, splits: Frame) -> Frame:
     """
     factor = _later_splits(bars, splits)
     cells = {name: to_numbers(bars[name], "bars") for name in BARS if name in bars}
-    return bars[KEYS].assign(**{name: values / factor if name == "volume" else values * factor for name, values in cells.items()})
+    return bars[KEYS].assign(
+        **{name: values / factor if name == "volume" else values * factor for name, values in cells.items()}
+    )
 
 
-def _later_splits(rows: Frame, splits: Frame, same_day: bool = False) -> pd.Series:
+def _later_splits(rows: pd.DataFrame, splits: pd.DataFrame, same_day: bool = False) -> pd.Series:
     """For each row the shares that one of its day has become since, or with `same_day` one of the day before."""
     places, factor = rows.groupby("symbol").indices, np.ones(len(rows))
     days, when = read_days(rows.date, "bars").to_numpy(), read_days(splits.date, "splits")
@@ -344,35 +433,49 @@ def _later_splits(rows: Frame, splits: Frame, same_day: bool = False) -> pd.Seri
                 after.append(after[-1] / ratio(split, inverse=True))
             products = np.array([float(each) for each in reversed(after)])
             at = places[symbol]
-            factor[at] = products[np.searchsorted(mine.date.to_numpy(str), days[at].astype(str), side="left" if same_day else "right")]
+            factor[at] = products[
+                np.searchsorted(mine.date.to_numpy(str), days[at].astype(str), side="left" if same_day else "right")
+            ]
     return pd.Series(factor, index=rows.index)
 
 
-def _of_symbols(prices: Frame, symbol: Optional[str], what: str) -> Frame:
+def _of_symbols(prices: pd.DataFrame, symbol: Optional[str], what: str) -> pd.DataFrame:
     """A frame by day, of one symbol or with a level of symbols in its columns, as rows with small letters as names."""
-    days = read_days(pd.Series(prices.index, name="the index"), what).to_numpy()
+    days = read_days(pd.Series(prices.index, dtype=prices.index.dtype, name="the index"), what).to_numpy()
     if prices.columns.nlevels == 1:
-        return prices.rename(columns=lambda name: str(name).lower()).assign(symbol=_given(symbol, what), date=days).reset_index(drop=True)
+        return (
+            prices.rename(columns=lambda name: str(name).lower())
+            .assign(symbol=_given(symbol, what), date=days)
+            .reset_index(drop=True)
+        )
     level = int("close" in {str(name).lower() for name in prices.columns.unique(1)})
-    wide = {str(name).lower(): prices.xs(name, axis=1, level=level).set_axis(days, axis=0) for name in prices.columns.unique(level)}
-    tall = {name: to_long(frame, "date", name).rename(columns={"sid": "symbol"}).set_index(KEYS)[name] for name, frame in wide.items()}
+    wide = {
+        str(name).lower(): prices.xs(name, axis=1, level=level).set_axis(days, axis=0)
+        for name in prices.columns.unique(level)
+    }
+    tall = {
+        name: to_long(frame, "date", name).rename(columns={"sid": "symbol"}).set_index(KEYS)[name]
+        for name, frame in wide.items()
+    }
     return pd.concat(tall, axis=1).reset_index()
 
 
-def _plain(frame: Frame, asset: str, what: str, needed: Iterable[str]) -> Frame:
+def _plain(frame: pd.DataFrame, asset: str, what: str, needed: Iterable[str]) -> pd.DataFrame:
     """A frame with small letters as names, and symbol and date as they are here."""
-    plain = frame.reset_index(drop=all(name is None for name in frame.index.names)).rename(columns=lambda name: str(name).lower())
+    plain = frame.reset_index(drop=all(name is None for name in frame.index.names)).rename(
+        columns=lambda name: str(name).lower()
+    )
     _need(plain, [asset, "date", *needed], what)
     return plain.rename(columns={asset: "symbol"}).assign(date=read_days(plain.date, what))
 
 
-def _events(rows: Frame, name: str, own: str, none: float) -> Frame:
+def _events(rows: pd.DataFrame, name: str, own: str, none: float) -> pd.DataFrame:
     """The rows of a column that say something, under a name of their own."""
     values = to_numbers(rows[name], name)
     return rows[KEYS].assign(**{own: values})[values.notna() & (values != none)].reset_index(drop=True)
 
 
-def _need(frame: Frame, names: Iterable[str], what: str, hint: str = "") -> None:
+def _need(frame: pd.DataFrame, names: Iterable[str], what: str, hint: str = "") -> None:
     for name in names:
         if name not in frame:
             raise DataFault(f"{what}: there is no column {name}", hint or f"there are {listed(frame.columns)}")

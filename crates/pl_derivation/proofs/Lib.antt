@@ -9,7 +9,9 @@ pub mod Codes
 pub mod Finding
 pub mod Truths
 pub mod Fits
+pub mod Closing
 pub mod Walking
+pub mod Lean
 pub mod Worked
 pub mod Standing
 pub mod Growing

@@ -18,13 +18,14 @@ use Rattle.pl_derivation.specs.Facts.{Fact, Reading, same_fact, number_in, known
 use Rattle.pl_derivation.specs.Facts.Fact.{Seen, TermValue}
 use Rattle.pl_derivation.specs.Lines.{Line}
 use Rattle.pl_derivation.specs.Right.{session_of, fact_of, number_stated, is_about, is_stated, reading_of, is_fitting, seen_cells, states_step, is_right, wrong_behind}
-use Rattle.pl_derivation.specs.Walks.{IsOnce, is_in, finish, depth_of, date_of, line_for, derivation}
+use Rattle.pl_derivation.specs.Walks.{IsOnce, is_in, finish, depth_of, date_of, line_for, facts_for, derivation}
 use Rattle.pl_cross.specs.Arrays.{HasTexts}
 use Rattle.pl_derivation.specs.Laws.{IsAsked, IsDerivation}
 use Rattle.pl_spec.proofs.Each.{Each, each_both, each_more, each_in_map, list_all_each}
 use Rattle.pl_derivation.proofs.Steps.{fact_same}
 use Rattle.pl_derivation.proofs.Codes.{step_true}
 use Rattle.pl_derivation.proofs.Truths.{same_is, is_same, same_turned, same_day, is_fact, last_seen, States, stated_true, behind_right}
+use Rattle.pl_derivation.proofs.Closing.{IsClosed, closed_more}
 use Rattle.pl_derivation.proofs.Fits.{HasSessions, IsSession, Fits, Ready, premises_ready}
 
 not_equal : (x y : ℤ) → x <ℤ y → int_eq x y ≡ false
@@ -111,7 +112,7 @@ module _ (w : World) (p : Pipeline) (ok : IsWorld w) (known : HasTexts w) (graph
 
   -- facts that fit, and whose lines are right
   abbrev Goes : List Fact → Type 0
-  Goes done = Each Fit done × (wrong_behind w p [] (lines_of done) ≡ None) × IsOnce done
+  Goes done = Each Fit done × (wrong_behind w p [] (lines_of done) ≡ None) × IsOnce done × IsClosed w p [] done
 
   abbrev Within : List Fact → List Fact → Type 0
   Within done out = (f : Fact) → is_in done f ≡ true → is_in out f ≡ true
@@ -131,6 +132,7 @@ module _ (w : World) (p : Pipeline) (ok : IsWorld w) (known : HasTexts w) (graph
     each_both Fit done (f ∷ []) h.0 (fit, tt),
     rw (map-append (line_for w p) done (f ∷ [])) (behind_right w p [] (lines_of done) (line_for w p f ∷ []) None h.1 (rw (line_right done h.0 f fit behind) refl)),
     once_more done f h.2 fresh,
+    closed_more w p [] done f h.3 behind,
   )
 
   in_more : (done : List Fact) (f : Fact) → Within done (done ++ f ∷ [])
@@ -205,11 +207,19 @@ module _ (w : World) (p : Pipeline) (ok : IsWorld w) (known : HasTexts w) (graph
           put_behind depth done f h r.0 (is_in done f) refl most e
           (finish_all depth most (omega arith) one done (premises w p (number_in w p) f) h (premises_ready w p graph windows (number_in w p) f most r.0 (omega arith)))
 
+  -- the lines of a derivation are about its facts, each of which stands after its premises
+  pub walked : (t a d : ℕ) → IsAsked w p t a d
+      → Each (λ f. fact_of w (line_for w p f) ≡ Some f) (facts_for w p (TermValue t a (pos d))) × IsClosed w p [] (facts_for w p (TermValue t a (pos d)))
+  walked t a d ask =
+      let fit : Fit (TermValue t a (pos d)) = (and_from _ _ ask.known ask.used, (d, ask.day, refl, ask.session), ask.reached) in
+      let all = finish_one (suc (suc t)) [] (TermValue t a (pos d)) (tt, refl, tt, tt) (fit, omega arith) in
+      (each_more Fit (λ f. fact_of w (line_for w p f) ≡ Some f) (facts_for w p (TermValue t a (pos d))) line_is all.0.0, all.0.3)
+
   -- The law: the derivation of a value is right, and ends with it.
   pub complete : (t a d : ℕ) → IsAsked w p t a d → IsDerivation w p t a d (derivation w p t a (pos d))
   complete t a d ask =
       let fit : Fit (TermValue t a (pos d)) = (and_from _ _ ask.known ask.used, (d, ask.day, refl, ask.session), ask.reached) in
-      let all = finish_one (suc (suc t)) [] (TermValue t a (pos d)) (tt, refl, tt) (fit, omega arith) in
+      let all = finish_one (suc (suc t)) [] (TermValue t a (pos d)) (tt, refl, tt, tt) (fit, omega arith) in
       record {
         right = ap (option_map suc) all.0.1;
         once = all.0.2;

@@ -1,6 +1,7 @@
 //! The laws of derivations and of their text. The functions do nothing: the contract of each is a law.
 ghost use Rattle.pl_derivation.specs.Texts.{LinesAreRead, TextsAreRead};
 ghost use Rattle.pl_derivation.specs.Walks.{WalksGrow};
+ghost use Rattle.pl_derivation.specs.Lean.{DerivationsAreLean};
 ghost use Rattle.pl_derivation.specs.Laws.{RightLinesAreTrue, RightIsTrue, RepeatsAreRight, DerivationsAreRight};
 
 /// What was written of lines is read back.
@@ -36,4 +37,10 @@ pub fn repeats_are_right()
 /// A walk takes nothing back.
 pub fn walks_grow()
     ensures { WalksGrow }
+{}
+
+/// The derivation of a cell has no gap and no line too many: what a line rests on stands before it, each line but
+/// the last is what a later one rests on, and no fact has two lines.
+pub fn derivations_are_lean()
+    ensures { DerivationsAreLean }
 {}

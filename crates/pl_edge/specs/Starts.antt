@@ -1,5 +1,5 @@
 -- What is written where the program can't begin.
-use Rattle.std.specs.Prelude.{ℕ, List, codes}
+use Rattle.std.specs.Prelude.{◌≡◌, ◌↔◌, ℕ, List, codes}
 use Rattle.pl_edge.specs.declared.command_line.StartError.{StartError}
 use Rattle.pl_edge.specs.declared.command_line.StartError.TheVariants.{NotText, Memory}
 
@@ -12,3 +12,7 @@ status_of Memory = 10
 abbrev pub line_of : StartError → List ℕ
 line_of NotText = codes "usage\n"
 line_of Memory = codes "memory\n"
+
+-- Why there are no words: memory ran out, or one of them is no text.
+abbrev pub IsCauseOf : Type 0 → StartError → Type 0
+IsCauseOf NoMemory why = why ≡ Memory ↔ NoMemory

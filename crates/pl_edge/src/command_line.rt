@@ -1,9 +1,9 @@
 //! The words of the command line.
 
-ghost use Rattle.std.specs.Prelude.{◌≡◌, ◌↔◌, drop, IfErr, IfOk, IsErr, OnOk};
+ghost use Rattle.std.specs.Prelude.{◌≡◌, drop, IfErr, IfOk, IsErr, OnOk};
 ghost use Rattle.std.specs.IoError.{error_kind};
 ghost use Rattle.std.specs.Vec.Iter.{into_iter_items};
-ghost use Rattle.pl_edge.specs.Starts.{line_of, status_of};
+ghost use Rattle.pl_edge.specs.Starts.{IsCauseOf, line_of, status_of};
 
 use std::alloc::{AllocFailed, Global};
 use std::env::Args;
@@ -54,8 +54,7 @@ impl<T: Drop> From<AllocFailed<T>> for StartError {
 /// is not in UTF-8, `Memory` where memory ran out.
 pub fn words(alloc: Global, args: io::Result<Args>) -> Result<Vec<String>, StartError>
     ensures words { IfOk args (λ args. IfOk result (λ words. words.items ≡ drop 1 (into_iter_items args))) }
-    ensures refused { IfErr args (λ error. IfErr result (λ why. why ≡ StartError.Memory
-        ↔ (error_kind error ≡ ErrorKind.OutOfMemory))) }
+    ensures refused { IfErr args (λ error. IfErr result (IsCauseOf (error_kind error ≡ ErrorKind.OutOfMemory))) }
     ensures none { IfErr args (λ _. IsErr result) }
     ensures memory { OnOk args (IfErr result (λ why. why ≡ StartError.Memory)) }
 {
@@ -80,7 +79,7 @@ fn words_of(alloc: Global, args: Args) -> Result<Vec<String>, StartError>
 
 // The system's words fail by want of memory or by their bytes alone.
 fn why_no_words(error: &io::Error) -> StartError
-    ensures { result ≡ StartError.Memory ↔ (error_kind error.now ≡ ErrorKind.OutOfMemory) }
+    ensures { IsCauseOf (error_kind error.now ≡ ErrorKind.OutOfMemory) result }
 {
     match error.kind() {
         ErrorKind::OutOfMemory => StartError::Memory,

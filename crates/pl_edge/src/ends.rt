@@ -5,6 +5,7 @@ ghost use Rattle.std.specs.Process.{exit_status};
 ghost use Rattle.std.specs.Io.Buffered.{writer_buffer, writer_contents};
 ghost use Rattle.std.specs.Io.KnownBytes.{Keeps};
 ghost use Rattle.pl_outside.specs.Counts.{Rose};
+ghost use Rattle.pl_outside.specs.Left.{LeavesSink};
 ghost use Rattle.pl_outside.specs.Taken.{IsTold};
 ghost use Rattle.pl_edge.specs.Starts.{line_of, status_of};
 
@@ -18,6 +19,7 @@ use std::process::ExitCode;
 pub fn ended<E: Sink>(err: &mut E, why: StartError) -> ExitCode
     ensures status { exit_status result ≡ status_of why }
     ensures told { IsTold E.taken E.faults E.sound E.room err.old err.new (line_of why) }
+    ensures err { LeavesSink E.sound E.faults err.old err.new }
 {
     let _ = write_bytes(err, why.line());
     ExitCode::from(why.status())
@@ -43,6 +45,7 @@ pub fn flushed<W: Write + Drop, E: Sink>(
     ensures told { ¬ (result ≡ status)
         → IsTold E.taken E.faults E.sound E.room err.old err.new (codes "write\n") }
     ensures quiet { result ≡ status → err.new ≡ err.old }
+    ensures err { LeavesSink E.sound E.faults err.old err.new }
 {
     if out.flush().is_err() && status == 0 {
         let _ = write_bytes(err, b"write\n");

@@ -34,7 +34,9 @@ use Rattle.pl_derivation.specs.Facts.Fact.{Seen, TermValue}
 use Rattle.pl_derivation.specs.Laws as laws
 use Rattle.pl_derivation.specs.Right.{after_each, has_sid, is_fitting, seen_cells}
 use Rattle.pl_derivation.specs.Walks.{is_in, line_for, depth_of, derivation}
-use Rattle.pl_derivation.proofs.Walking.{complete}
+use Rattle.pl_derivation.proofs.Walking.{complete, walked}
+use Rattle.pl_derivation.proofs.Lean.{walk_is_lean}
+use Rattle.pl_derivation.specs.Lean.{IsLean}
 use Rattle.pl_world.specs.declared.world.World.{World}
 use Rattle.pl_world.specs.Worlds.{world_of, PartsMakeAWorld}
 use Rattle.pl_terms.specs.declared.node.TermId.{TermId}
@@ -255,3 +257,11 @@ module _ (w : World) (c : Parts) (t col d : ℕ) (used : is_used (pipeline_of c)
   asked-right checked known made =
       complete (world_of w) (pipeline_of c) made.world known checked.graph (sessions-held c checked) t (sid_at w.assets.now col) d
       (record { used = used; known = sid-known w.assets.now col place; day = get_or w.sessions.now d (pos 0); session = day; reached = reached })
+
+  pub asked-lean : IsChecked (pipeline_of c) → HasTexts (world_of w) → PartsMakeAWorld w
+      → IsLean (world_of w) (pipeline_of c) (derivation (world_of w) (pipeline_of c) t (sid_at w.assets.now col) (pos d))
+  asked-lean checked known made =
+      let asked : laws.IsAsked (world_of w) (pipeline_of c) t (sid_at w.assets.now col) d
+      = record { used = used; known = sid-known w.assets.now col place; day = get_or w.sessions.now d (pos 0); session = day; reached = reached } in
+      let facts = walked (world_of w) (pipeline_of c) made.world known checked.graph (sessions-held c checked) t (sid_at w.assets.now col) d asked in
+      walk_is_lean (world_of w) (pipeline_of c) (suc t) (TermValue t (sid_at w.assets.now col) (pos d)) facts.0 facts.1 (asked-right checked known made).once

@@ -9,6 +9,7 @@ ghost use Rattle.pl_spec.specs.World.{exists};
 ghost use Rattle.pl_cross.specs.Section.{is_section};
 ghost use Rattle.pl_derivation.specs.Facts.Fact.{Seen, TermValue};
 ghost use Rattle.pl_derivation.specs.Laws.{IsDerivation};
+ghost use Rattle.pl_derivation.specs.Lean.{IsLean};
 ghost use Rattle.pl_derivation.specs.Walks.{depth_of, derivation, facts_for};
 ghost use Rattle.pl_spec.proofs.Each.{Each};
 ghost use Rattle.pl_derivation.specs.Listed.{line_of};
@@ -84,6 +85,8 @@ pub fn explain_cell<L: Ledger>(
     // No line of it is wrong, no fact stands in it twice, and its last line states the value.
     ensures right { IfOk result (IsDerivation (world_of world.now) (pipeline_of checked.now) t.0
         (sid_at world.now.assets.now col) session) }
+    // What a line rests on stands before it, and each line but the last is what a later one rests on.
+    ensures lean { IfOk result (IsLean (world_of world.now) (pipeline_of checked.now)) }
 {
     parts_are_ready(world, checked);
     parts_make_a_world(world);

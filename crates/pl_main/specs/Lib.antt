@@ -1,2 +1,3 @@
--- What the program did.
+-- What the program did, and how its process ends.
+pub mod Ends
 pub mod Runs

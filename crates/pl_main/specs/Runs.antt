@@ -23,3 +23,24 @@ seen taken sound room out out_now steps =
       steps = 0;
       steps_now = steps;
     }
+
+-- what is seen of a run whose text goes to a stream: of the stream nothing, too
+abbrev pub unseen : ℕ → Observed
+unseen steps =
+    record {
+      files = None;
+      begun = None;
+      begun_now = None;
+      lists = None;
+      calls = count_end;
+      calls_now = count_end;
+      shelf_sound = false;
+      keeper_sound = false;
+      out_sound = false;
+      taken = None;
+      taken_now = None;
+      room = 0;
+      room_now = 0;
+      steps = 0;
+      steps_now = steps;
+    }

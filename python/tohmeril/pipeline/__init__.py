@@ -6,14 +6,24 @@ from typing import TYPE_CHECKING, Mapping, Optional
 from .classifiers import CustomClassifier
 from .factors import CustomFactor
 from .filters import CustomFilter
-from .script import Script, script
+from .script import Script, make_script
 from .term import BoundColumn, Classifier, Factor, Filter, Inexpressible, Term
 
 if TYPE_CHECKING:
     from ..plans import Graph
 
-__all__ = ["Pipeline", "Term", "Factor", "Filter", "Classifier", "BoundColumn", "Inexpressible",
-           "CustomFactor", "CustomFilter", "CustomClassifier"]
+__all__ = [
+    "Pipeline",
+    "Term",
+    "Factor",
+    "Filter",
+    "Classifier",
+    "BoundColumn",
+    "Inexpressible",
+    "CustomFactor",
+    "CustomFilter",
+    "CustomClassifier",
+]
 
 
 class Pipeline:
@@ -22,8 +32,11 @@ class Pipeline:
     Parameters
     ----------
     columns : mapping of str to Term, optional
+        The columns of the frame by their names.
     screen : Filter, optional
-    domain : ignored, since the calendar is that of the sessions file
+        Assets for which it is false have no row.
+    domain : object, optional
+        Zipline's, which is ignored, since the calendar is that of the sessions file.
 
     Examples
     --------
@@ -36,7 +49,9 @@ class Pipeline:
     screen AverageDollarVolume(30).top(15);
     """
 
-    def __init__(self, columns: Optional[Mapping[str, Term]] = None, screen: Optional[Filter] = None, domain: object = None):
+    def __init__(
+        self, columns: Optional[Mapping[str, Term]] = None, screen: Optional[Filter] = None, domain: object = None
+    ):
         self._columns: dict[str, Term] = {}
         self._screen: Optional[Filter] = None
         for name, term in (columns or {}).items():
@@ -53,11 +68,29 @@ class Pipeline:
         return self._screen
 
     def add(self, term: Term, name: str, overwrite: bool = False) -> None:
-        """Add a column."""
+        """Add a column.
+
+        Parameters
+        ----------
+        term : Factor, Filter or Classifier
+        name : str
+        overwrite : bool
+            Whether the name may be that of a column that is there.
+
+        Raises
+        ------
+        TypeError
+            Where the term is none, as a column of bars is.
+        KeyError
+            Where there is a column of the name.
+        """
         if not isinstance(name, str):
             raise TypeError(f"the name of a column is a text, not {name!r}")
         if isinstance(term, BoundColumn) or not isinstance(term, Term):
-            raise TypeError(f"column {name!r} is {term!r} and no factor, filter or classifier; .latest is the newest value of a column")
+            raise TypeError(
+                f"column {name!r} is {term!r} and no factor, filter or classifier; .latest is the newest value of a "
+                "column"
+            )
         if name in self._columns and not overwrite:
             raise KeyError(f"Column {name!r} already exists.")
         self._columns[name] = term
@@ -67,7 +100,14 @@ class Pipeline:
         return self._columns.pop(name)
 
     def set_screen(self, screen: Filter, overwrite: bool = False) -> None:
-        """Set the filter that says which assets are shown."""
+        """Set the filter that says which assets are shown.
+
+        Parameters
+        ----------
+        screen : Filter
+        overwrite : bool
+            Whether there may be a screen already.
+        """
         if not isinstance(screen, Filter):
             equal = ": == says whether two terms are one; write .eq(..)" if isinstance(screen, bool) else ""
             raise TypeError(f"a screen is a filter, not {screen!r}{equal}")
@@ -77,11 +117,12 @@ class Pipeline:
 
     def script(self) -> Script:
         """The text of the pipeline, with what leads back from it."""
-        return script(self._columns, self._screen)
+        return make_script(self._columns, self._screen)
 
     def show_graph(self, format: str = "svg") -> Graph:
         """The graph of its terms, which a notebook draws; see `tohmeril.show_graph`."""
         from ..plans import show_graph
+
         return show_graph(self, format)
 
     def __repr__(self) -> str:

@@ -1,11 +1,12 @@
 """Terms: immutable Python objects with Zipline's methods and operators, which the program's language can say.
 
-A term is what it is written as: a form, a name, what it is of, and its named arguments. Equal terms are one object, as in
-Zipline, so that what is used twice is computed once. Python decides only what kind a thing is; windows, ranges and what may be
-in a window are judged by the program.
+A term is what it is written as: a form, a name, what it is of, and its named arguments. Equal terms are one object, as
+in Zipline, so that what is used twice is computed once. Python decides only what kind a thing is; windows, ranges and
+what may be in a window are judged by the program.
 
-Unless a docstring says otherwise, a value has the units of its input, the rule is Zipline's of the same name, and the result is
-the exact one rounded once to the nearest millionth, ties away from zero: half a millionth from a float's at most.
+Unless a docstring says otherwise, a value has the units of its input, the rule is Zipline's of the same name, and the
+result is the exact one rounded once to the nearest millionth, ties away from zero: half a millionth from a float's at
+most.
 
 >>> from tohmeril.pipeline.data import EquityPricing
 >>> price = EquityPricing.close.latest
@@ -27,14 +28,40 @@ from weakref import WeakValueDictionary
 
 import numpy as np
 
-CALL, MEMBER, PROPERTY, INFIX, PREFIX, WORD, TEXT, ALIAS = "call", "member", "property", "infix", "prefix", "word", "text", "alias"
+CALL, MEMBER, PROPERTY, INFIX, PREFIX, WORD, TEXT, ALIAS = (
+    "call",
+    "member",
+    "property",
+    "infix",
+    "prefix",
+    "word",
+    "text",
+    "alias",
+)
 OPERATORS: Mapping[str, Callable[..., Any]] = {  # Python's operators by numpy's names
-    "add": operator.add, "subtract": operator.sub, "multiply": operator.mul, "divide": operator.truediv, "true_divide": operator.truediv,
-    "negative": operator.neg, "absolute": operator.abs, "power": operator.pow, "remainder": operator.mod,
-    "floor_divide": operator.floordiv, "less": operator.lt, "less_equal": operator.le, "greater": operator.gt,
-    "greater_equal": operator.ge, "equal": operator.eq, "not_equal": operator.ne, "bitwise_and": operator.and_,
-    "logical_and": operator.and_, "bitwise_or": operator.or_, "logical_or": operator.or_, "invert": operator.invert,
-    "logical_not": operator.invert}
+    "add": operator.add,
+    "subtract": operator.sub,
+    "multiply": operator.mul,
+    "divide": operator.truediv,
+    "true_divide": operator.truediv,
+    "negative": operator.neg,
+    "absolute": operator.abs,
+    "power": operator.pow,
+    "remainder": operator.mod,
+    "floor_divide": operator.floordiv,
+    "less": operator.lt,
+    "less_equal": operator.le,
+    "greater": operator.gt,
+    "greater_equal": operator.ge,
+    "equal": operator.eq,
+    "not_equal": operator.ne,
+    "bitwise_and": operator.and_,
+    "logical_and": operator.and_,
+    "bitwise_or": operator.or_,
+    "logical_or": operator.or_,
+    "invert": operator.invert,
+    "logical_not": operator.invert,
+}
 GREATEST = Decimal(10) ** 11  # no cell has a greater magnitude
 Number = Union[int, float, Decimal]
 Value = Union["Factor", Number]
@@ -92,10 +119,10 @@ class Elsewhere(Absent):
         return f"<no {self.name} here: {self.nearest}>"
 
 
-def number(value: Number) -> Decimal:
+def as_decimal(value: Number) -> Decimal:
     """A number as the program reads it: whole millionths, rounded once, ties away from zero.
 
-    >>> number(0.1), number(1.0000005), number(-3)
+    >>> as_decimal(0.1), as_decimal(1.0000005), as_decimal(-3)
     (Decimal('0.1'), Decimal('1.000001'), Decimal('-3'))
     """
     if isinstance(value, bool) or not isinstance(value, (Real, Decimal)):
@@ -106,19 +133,21 @@ def number(value: Number) -> Decimal:
     return Decimal(f"{exact.quantize(Decimal('0.000001'), ROUND_HALF_UP):f}".rstrip("0").rstrip("."))
 
 
-def factor(value: Value) -> Factor:
+def as_factor(value: Value) -> Factor:
     """A factor, or a number in place of one; a NaN becomes a division by zero, which is missing."""
     if isinstance(value, Factor):
         return value
     if isinstance(value, BoundColumn):
         raise TypeError(f"{value!r} is a column of {value.holds} and no factor: write .latest for its newest value")
     if isinstance(value, float) and math.isnan(value):
-        return Factor(INFIX, "/", factor(1), factor(0))
-    return Factor(WORD, f"{number(value):f}")
+        return Factor(INFIX, "/", as_factor(1), as_factor(0))
+    return Factor(WORD, f"{as_decimal(value):f}")
 
 
 class Term:
-    """What a pipeline is made of. `args` are terms, numbers and texts in the language's order, `options` its named arguments."""
+    """What a pipeline is made of. `args` are terms, numbers and texts in the language's order, `options` its named
+    arguments.
+    """
 
     __slots__ = ("form", "name", "args", "options", "__weakref__")
     form: str
@@ -128,14 +157,16 @@ class Term:
     sort = ""
     _known: WeakValueDictionary[tuple[object, ...], Any] = WeakValueDictionary()
 
-    def __new__(cls: type[Same], form: str, name: str, *args: Union[Term, Number, str], **options: Union[Term, str, None]) -> Same:
+    def __new__(
+        cls: type[Same], form: str, name: str, *args: Union[Term, Number, str], **options: Union[Term, str, None]
+    ) -> Same:
         given = tuple((key, value) for key, value in options.items() if value is not None)
         for key, value in given:
             wanted = {"mask": Filter, "groupby": Classifier}.get(key, object)
             if not isinstance(value, wanted):
                 column = f": write {value!r}.latest" if getattr(value, "holds", "") == "labels" else ""
                 raise TypeError(f"{key} of {name} has to be a {wanted.__name__.lower()}, and is {value!r}{column}")
-        parts = form, name, tuple(arg if isinstance(arg, (Term, str)) else number(arg) for arg in args), given
+        parts = form, name, tuple(arg if isinstance(arg, (Term, str)) else as_decimal(arg) for arg in args), given
         known: Optional[Same] = Term._known.get((cls, *parts))
         if known is not None:
             return known
@@ -162,30 +193,42 @@ class Term:
         return type(self)(MEMBER, "downsample", self, frequency)
 
     def __setattr__(self, name: str, value: object) -> NoReturn:
-        safe = ", and window_safe does not either: a window can be over Returns, ranks, zscores and what docs/LANGUAGE.md, " \
-               "\"Windows over terms\", lists" if name == "window_safe" else ""
-        raise AttributeError(f"terms do not change{safe}")
+        if name == "window_safe":
+            raise AttributeError(
+                "terms do not change, nor does what may be in a window: a window can be over Returns, ranks, "
+                'zscores and what docs/LANGUAGE.md, "Windows over terms", lists'
+            )
+        raise AttributeError("terms do not change")
 
     def __array_ufunc__(self, ufunc: np.ufunc, method: str, *inputs: object, **options: object) -> Any:
         """A function of numpy is the operator or the method of its name: ``np.log(y)`` is ``y.log()``."""
-        given = [each.item() if isinstance(each, (np.generic, np.ndarray)) and not each.ndim else each for each in inputs]
+        given = [
+            each.item() if isinstance(each, (np.generic, np.ndarray)) and not each.ndim else each for each in inputs
+        ]
         if method == "__call__" and not options and not any(isinstance(each, np.ndarray) for each in given):
             if ufunc.__name__ in OPERATORS:
                 return OPERATORS[ufunc.__name__](*given)
             if len(given) == 1:
                 absent = Absent(f"numpy.{ufunc.__name__}", "the methods and operators of a factor")
-                return (getattr(self, ufunc.__name__, absent) if isinstance(self, Factor) else getattr(self, ufunc.__name__))()
-        raise TypeError(f"numpy's {ufunc.__name__} takes no {self!r}: a pipeline is computed later, so that it has no values yet")
+                return (
+                    getattr(self, ufunc.__name__, absent) if isinstance(self, Factor) else getattr(self, ufunc.__name__)
+                )()
+        raise TypeError(
+            f"numpy's {ufunc.__name__} takes no {self!r}: a pipeline is computed later, so that it has no values yet"
+        )
 
     def __reduce__(self) -> tuple[Callable[[], Term], tuple[()]]:
         return partial(type(self), self.form, self.name, *self.args, **dict(self.options)), ()
 
     def __repr__(self) -> str:
         from .script import expression
+
         return expression(self)
 
     def __bool__(self) -> NoReturn:
-        raise TypeError(f"{self!r} is true or false only in a table: join filters by & | ~, and compare twice for a < b < c")
+        raise TypeError(
+            f"{self!r} is true or false only in a table: join filters by & | ~, and compare twice for a < b < c"
+        )
 
     def __eq__(self, other: object) -> bool:
         if isinstance(other, (Real, str)):
@@ -200,7 +243,8 @@ def _infix(sign: str, doc: str, result: Optional[type[Term]] = None, turned: boo
         if not isinstance(other, (Factor, Real, Decimal)):
             return NotImplemented
         left, right = (other, self) if turned else (self, other)
-        return (result or Factor)(INFIX, sign, factor(left), factor(right))
+        return (result or Factor)(INFIX, sign, as_factor(left), as_factor(right))
+
     infix.__doc__ = doc
     return infix
 
@@ -211,6 +255,7 @@ def _arithmetic(sign: str, doc: str) -> tuple[Callable[[Any, Any], Any], Callabl
 
 class BoundColumn(Term):
     """A column of bars, such as `EquityPricing.close`: an input of windows, and by `latest` a factor."""
+
     __slots__ = ()
     holds = "bars"
 
@@ -220,14 +265,18 @@ class BoundColumn(Term):
         return Factor(PROPERTY, "latest", self)
 
     def __getattr__(self, name: str) -> NoReturn:
-        raise AttributeError(f"{self!r} is a column of {self.holds} and has no {name}: write {self!r}.latest for its newest value")
+        raise AttributeError(
+            f"{self!r} is a column of {self.holds} and has no {name}: write {self!r}.latest for its newest value"
+        )
 
 
 class NumberColumn(BoundColumn):
     """A column of a DataSet, such as `Fundamentals.earnings`: the numbers that go by `name` in the data.
 
-    As an input of windows it is its `latest`, so that a window of W holds today's value and those of the W - 1 sessions before.
+    As an input of windows it is its `latest`, so that a window of W holds today's value and those of the W - 1 sessions
+    before.
     """
+
     __slots__ = ()
     holds = "numbers"
     dtype = np.dtype("float64")
@@ -237,7 +286,9 @@ class NumberColumn(BoundColumn):
 
     @property
     def latest(self) -> Factor:
-        """The value that became known last, of those known by today. Missing where there is none, or where it ended. Exact."""
+        """The value that became known last, of those known by today. Missing where there is none, or where it ended.
+        Exact.
+        """
         return Factor(CALL, "number", self)
 
     @property
@@ -251,6 +302,7 @@ class NumberColumn(BoundColumn):
 
 class Filter(Term):
     """True or false for each asset and session; false where the asset does not exist."""
+
     __slots__ = ()
     sort = "filter"
 
@@ -270,26 +322,31 @@ class Filter(Term):
         """`if_true` where the filter is true, else `if_false`. Zipline's, for factors and numbers alone. Exact."""
         if isinstance(if_true, Classifier) or isinstance(if_false, Classifier):
             Absent("if_else of classifiers", "if_else of factors, or labels of another name in the labels file")()
-        return Factor(MEMBER, "if_else", self, factor(if_true), factor(if_false))
+        return Factor(MEMBER, "if_else", self, as_factor(if_true), as_factor(if_false))
 
 
 class Factor(Term):
     """A number for each asset and session, in whole millionths, or none."""
+
     __slots__ = ()
     sort = "factor"
 
     __add__, __radd__ = _arithmetic("+", "x + y, missing where one is. Exact.")
     __sub__, __rsub__ = _arithmetic("-", "x - y, missing where one is. Exact.")
     __mul__, __rmul__ = _arithmetic("*", "x y, missing where one is. Units: those of x times those of y. Rounds once.")
-    __truediv__, __rtruediv__ = _arithmetic("/", "x / y, missing where one is or y is 0. Units: those of x over those of y. "
-                                                 "Rounds once.")
-    __lt__, __le__, __gt__, __ge__ = (_infix(sign, f"True where x {sign} y and both are present. Exact.", Filter)
-                                      for sign in ("<", "<=", ">", ">="))
-    __ne__ = _infix("!=", "True where both are present and differ: false where one is missing, which is ours. Exact.", Filter)
+    __truediv__, __rtruediv__ = _arithmetic(
+        "/", "x / y, missing where one is or y is 0. Units: those of x over those of y. " "Rounds once."
+    )
+    __lt__, __le__, __gt__, __ge__ = (
+        _infix(sign, f"True where x {sign} y and both are present. Exact.", Filter) for sign in ("<", "<=", ">", ">=")
+    )
+    __ne__ = _infix(
+        "!=", "True where both are present and differ: false where one is missing, which is ours. Exact.", Filter
+    )
 
     def eq(self, other: Value) -> Filter:
         """True where both are present and equal, to the millionth: floats are seldom equal, whole millionths often."""
-        return Filter(INFIX, "==", self, factor(other))
+        return Filter(INFIX, "==", self, as_factor(other))
 
     def __neg__(self) -> Factor:
         """-x. Exact."""
@@ -320,22 +377,32 @@ class Factor(Term):
     __abs__, isnan, notnan, isfinite = abs, isnull, notnull, notnull
 
     def clip(self, min_bound: float, max_bound: float) -> Factor:
-        """`min_bound` where x is below it, `max_bound` where x is above it, else x. Exact; the bounds round to millionths."""
+        """`min_bound` where x is below it, `max_bound` where x is above it, else x. Exact; the bounds round to
+        millionths.
+        """
         low, high = (math.copysign(GREATEST, bound) if math.isinf(bound) else bound for bound in (min_bound, max_bound))
         return Factor(MEMBER, "clip", self, low, high)
 
     def fillna(self, fill_value: Value) -> Factor:
         """x, and `fill_value` where x is missing. Exact."""
-        return Factor(MEMBER, "fillna", self, factor(fill_value))
+        return Factor(MEMBER, "fillna", self, as_factor(fill_value))
 
     def rank(self, method: str = "ordinal", ascending: bool = True, mask: Mask = None, groupby: Group = None) -> Factor:
         """Place from 1 among the session's values, of the asset's own label with `groupby`. Units: places. Exact.
 
-        Of equal values "ordinal" counts on by ascending sid in both orders, "min" and "max" give the least and the greatest of
-        their places, "average" the mean of these two, "dense" counts distinct values. Values equal to the millionth are equal.
+        Of equal values "ordinal" counts on by ascending sid in both orders, "min" and "max" give the least and the
+        greatest of their places, "average" the mean of these two, "dense" counts distinct values. Values equal to the
+        millionth are equal.
         """
-        return Factor(MEMBER, "rank", self, method=None if method == "ordinal" else method,
-                      order=None if ascending else "descending", mask=mask, groupby=groupby)
+        return Factor(
+            MEMBER,
+            "rank",
+            self,
+            method=None if method == "ordinal" else method,
+            order=None if ascending else "descending",
+            mask=mask,
+            groupby=groupby,
+        )
 
     def demean(self, mask: Mask = None, groupby: Group = None) -> Factor:
         """x less the mean of the session's values, of the asset's own label with `groupby`. Rounds once."""
@@ -344,13 +411,16 @@ class Factor(Term):
     def zscore(self, mask: Mask = None, groupby: Group = None) -> Factor:
         """(x - mean) / s, s = sqrt(sum of (v - mean)^2 / n) over the session's values. Units: deviations.
 
-        Missing where s is 0. s is rounded down to millionths before the division, so that a small s shows in the fifth decimal.
+        Missing where s is 0. s is rounded down to millionths before the division, so that a small s shows in the fifth
+        decimal.
         """
         return Factor(MEMBER, "zscore", self, mask=mask, groupby=groupby)
 
     def quantiles(self, bins: int, mask: Mask = None) -> Bins:
-        """Bin from 0: how many of the edges 1 to bins - 1 are below x, edge k being k / bins of the way through the session's
-        sorted values, on a line between neighbors. Units: number of the bin. Edges are exact, where Zipline's are floats."""
+        """Bin from 0: how many of the edges 1 to bins - 1 are below x, edge k being k / bins of the way through the
+        session's sorted values, on a line between neighbors. Units: number of the bin. Edges are exact, where Zipline's
+        are floats.
+        """
         return Bins(MEMBER, "quantiles", self, bins, mask=mask)
 
     def quartiles(self, mask: Mask = None) -> Bins:
@@ -374,18 +444,24 @@ class Factor(Term):
         return Filter(MEMBER, "bottom", self, N, mask=mask, groupby=groupby)
 
     def percentile_between(self, min_percentile: float, max_percentile: float, mask: Mask = None) -> Filter:
-        """True from `min_percentile` of the way through the session's sorted values to `max_percentile`, both ends included.
+        """True from `min_percentile` of the way through the session's sorted values to `max_percentile`, both ends
+        included.
 
         Percentiles are whole hundredths from 0 to 100. Edges are exact, where Zipline's are floats.
         """
         if isinstance(max_percentile, Real) and max_percentile <= 1:
-            warnings.warn(f"percentile_between({min_percentile!r}, {max_percentile!r}) is the part of a hundredth of the values or less, since "
-                          f"percentiles are from 0 to 100: was ({100 * min_percentile:g}, {100 * max_percentile:g}) meant?", stacklevel=2)
+            warnings.warn(
+                f"percentile_between({min_percentile!r}, {max_percentile!r}) is the part of a hundredth of the values "
+                "or less, since "
+                f"percentiles are from 0 to 100: was ({100 * min_percentile:g}, {100 * max_percentile:g}) meant?",
+                stacklevel=2,
+            )
         return Filter(MEMBER, "percentile_between", self, min_percentile, max_percentile, mask=mask)
 
 
 class Classifier(Term):
     """A label for each asset and session, or none: a text, or the number of a bin."""
+
     __slots__ = ()
     label: type = str
     isnull, notnull = Factor.isnull, Factor.notnull
@@ -401,12 +477,13 @@ class Classifier(Term):
         return self.eq(other, "!=")
 
     def peer_count(self, mask: Mask = None) -> Factor:
-        """How many assets of the session have the asset's own label; missing where it has none. Units: assets. Exact."""
+        """How many assets of the session have the asset's own label; missing without one. Units: assets. Exact."""
         return Factor(MEMBER, "peer_count", self, mask=mask)
 
 
 class Text(Classifier):
     """A text for each asset and session, or none, as its sector. A test of it is false where there is none."""
+
     __slots__ = ()
     sort = "label"
 
@@ -420,29 +497,34 @@ class Text(Classifier):
 
     def element_of(self, choices: Iterable[str]) -> Filter:
         """True where the label is one of `choices`."""
-        return either(lambda some: Filter(MEMBER, "element_of", self, *some), choices, 100)
+        return joined_by_or(lambda some: Filter(MEMBER, "element_of", self, *some), choices, 100)
 
 
 class Bins(Classifier):
     """The number of a bin, from 0, for each asset and session, or none."""
+
     __slots__ = ()
     sort = "number"
     label = Real
 
     def element_of(self, choices: Iterable[int]) -> Filter:
         """True where the bin is one of `choices`."""
-        return either(lambda one: self.eq(one[0]), choices, 1)
+        return joined_by_or(lambda one: self.eq(one[0]), choices, 1)
 
 
-def either(make: Callable[[list[Item]], Filter], items: Iterable[Item], size: int) -> Filter:
+def joined_by_or(make: Callable[[list[Item]], Filter], items: Iterable[Item], size: int) -> Filter:
     """A filter of a list of any length, as filters of at most `size` items joined by |."""
     listed = list(dict.fromkeys(items))
     if not listed:
         Absent("filter of no choices", "~(1 == 1)")()
-    return reduce(Filter.__or__, (make(listed[start:start + size]) for start in range(0, len(listed), size)))
+    return reduce(Filter.__or__, (make(listed[start : start + size]) for start in range(0, len(listed), size)))
 
 
-for _name in "add radd sub rsub mul rmul truediv rtruediv lt le gt ge ne".split():  # which say that a column of bars is no factor
+for (
+    _name
+) in (
+    "add radd sub rsub mul rmul truediv rtruediv lt le gt ge ne".split()
+):  # which say that a column of bars is no factor
     setattr(BoundColumn, f"__{_name}__", getattr(Factor, f"__{_name}__"))
 
 _MONOTONE = "y itself where its order counts: rank, top and quantiles of y and of a rising function of it are the same"
@@ -450,7 +532,9 @@ _ABSENT = {
     Factor: {
         "winsorize": "clip(low, high) between numbers, or mask=y.percentile_between(low, high), which drops the tails",
         "pearsonr spearmanr linear_regression": "Returns as a column, and the regression over the table in pandas",
-        "mean sum stddev min max median notnull_count": "y - y.demean(), which is the mean of the session; zscore; rank",
+        "mean sum stddev min max median notnull_count": (
+            "y - y.demean(), which is the mean of the session; zscore; rank"
+        ),
         "__mod__ __floordiv__": "/ and clip",
         "exp expm1 log log10 log1p sqrt sinh tanh arctan arcsinh": _MONOTONE,
         "sin cos tan cosh arcsin arccos arccosh arctanh": "arithmetic",

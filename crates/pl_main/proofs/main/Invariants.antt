@@ -1,4 +1,4 @@
 use Rattle.pl_main.proofs.main.Given as goal
 
-abbrev pub ghosts-run : goal.ghosts-run
-ghosts-run a = record { name = a.blank.name; parts = a.blank.parts }
+abbrev pub ghosts-program : goal.ghosts-program
+ghosts-program a = record { name = a.blank.name; parts = a.blank.parts }

@@ -4,11 +4,12 @@ from __future__ import annotations
 from typing import Sequence
 
 from ..data import LabelColumn, Labels
-from ..term import Absent, Bins, Classifier, Factor, Mask, Text, factor  # noqa: F401
+from ..term import Absent, Bins, Classifier, Factor, Mask, Text, as_factor  # noqa: F401
 
 
 def Label(name: str) -> Text:
-    """Text that each asset has under a name of the labels file, by the newest record up to today; `Labels.NAME.latest`. Ours.
+    """Text that each asset has under a name of the labels file, by the newest record up to today; `Labels.NAME.latest`.
+    Ours.
 
     >>> Label("sector").peer_count()
     label("sector").peer_count()
@@ -29,7 +30,7 @@ def Quantiles(inputs: Sequence[Factor], bins: int, mask: Mask = None) -> Bins:
 
 def Everything() -> Bins:
     """One class for all assets, 0: the bin of equal values."""
-    return factor(1).quantiles(2)
+    return as_factor(1).quantiles(2)
 
 
 CustomClassifier = Absent("CustomClassifier", "quantiles of a factor, or labels of the labels file")

@@ -14,6 +14,7 @@ class EquityPricing:
     >>> EquityPricing.close.latest
     close.latest
     """
+
     open, high, low, close, volume = (BoundColumn(WORD, name) for name in BARS)
 
 
@@ -22,6 +23,7 @@ USEquityPricing = EquityPricing
 
 class LabelColumn:
     """The labels of one name; `latest` is a classifier."""
+
     holds = "labels"
 
     def __init__(self, name: str):
@@ -33,7 +35,9 @@ class LabelColumn:
         return Text(CALL, "label", self.name)
 
     def __getattr__(self, name: str) -> NoReturn:
-        raise AttributeError(f"{self!r} is a column of labels and has no {name}: write {self!r}.latest for the one that holds today")
+        raise AttributeError(
+            f"{self!r} is a column of labels and has no {name}: write {self!r}.latest for the one that holds today"
+        )
 
     def __repr__(self) -> str:
         return f"Labels.{self.name}"
@@ -53,4 +57,6 @@ class _Labels:
 
 
 Labels = _Labels()
-DataSetFamily = Absent("DataSetFamily", "a DataSet for each member of the family, whose columns have names of their own")
+DataSetFamily = Absent(
+    "DataSetFamily", "a DataSet for each member of the family, whose columns have names of their own"
+)

@@ -43,14 +43,19 @@ class Column:
     number("value_score").rank()
     >>> Column(int)
     Traceback (most recent call last):
-    tohmeril.pipeline.term.Inexpressible: the language has no Column(int); nearest: Column(float) for numbers, also whole ones, and
-    true or false as 1 and 0; Labels.NAME.latest for texts
+    tohmeril.pipeline.term.Inexpressible: the language has no Column(int); nearest: Column(float) for numbers, also
+    whole ones, and true or false as 1 and 0; Labels.NAME.latest for texts
     """
 
-    def __init__(self, dtype: Any, missing_value: float = np.nan, doc: Optional[str] = None, *, name: Optional[str] = None):
+    def __init__(
+        self, dtype: Any, missing_value: float = np.nan, doc: Optional[str] = None, *, name: Optional[str] = None
+    ):
         if pandas_dtype(dtype).kind != "f":
-            Absent(f"Column({getattr(dtype, '__name__', dtype)})", "Column(float) for numbers, also whole ones, and true or false as 1 "
-                   "and 0; Labels.NAME.latest for texts")()
+            Absent(
+                f"Column({getattr(dtype, '__name__', dtype)})",
+                "Column(float) for numbers, also whole ones, and true or false as 1 "
+                "and 0; Labels.NAME.latest for texts",
+            )()
         if missing_value == missing_value:
             Absent(f"missing_value={missing_value!r}", "NaN, and .latest.fillna(value)")()
         self.name, self.doc = name, doc
@@ -59,28 +64,34 @@ class Column:
         """The column of a DataSet."""
         name = attribute if self.name is None else self.name
         if not is_name(name):
-            raise ValueError(f"{dataset}.{attribute}: {name!r} can't be the name of a number, which is a letter or _ and then letters, "
-                             "digits or _, at most 32 in all, and no keyword of the language")
+            raise ValueError(
+                f"{dataset}.{attribute}: {name!r} can't be the name of a number, which is a letter or _ and then "
+                "letters, "
+                "digits or _, at most 32 in all, and no keyword of the language"
+            )
         return NumberColumn(TEXT, name, f"{dataset}.{attribute}")
 
 
 class DataSet:
     """Columns of numbers, as Zipline has it. A DataSet below another one has its columns, too, which are the same ones.
 
-    A column's number goes by the attribute's name, in the pipeline file and in the data. Two columns of one name can't be in one
-    pipeline, since both would be the same number: `Column(float, name=..)` tells them apart.
+    A column's number goes by the attribute's name, in the pipeline file and in the data. Two columns of one name can't
+    be in one pipeline, since both would be the same number: `Column(float, name=..)` tells them apart.
 
     Attributes
     ----------
     columns : frozenset of BoundColumn
     """
+
     columns: frozenset[NumberColumn] = frozenset()
 
     def __init_subclass__(cls) -> None:
         for name, column in list(vars(cls).items()):
             if isinstance(column, Column):
                 setattr(cls, name, column.bind(cls.__name__, name))
-        cls.columns = frozenset(column for column in (getattr(cls, name) for name in dir(cls)) if isinstance(column, NumberColumn))
+        cls.columns = frozenset(
+            column for column in (getattr(cls, name) for name in dir(cls)) if isinstance(column, NumberColumn)
+        )
 
     @classmethod
     def get_column(cls, name: str) -> NumberColumn:

@@ -1,7 +1,7 @@
 """Zipline's factors, with its names, inputs and keyword arguments.
 
-In the formulas x_1 to x_W is the window, oldest first: of a column of bars the W sessions before today as today sees them, of a
-term today's value and the W - 1 before it. n is how many values are present, that is not missing.
+In the formulas x_1 to x_W is the window, oldest first: of a column of bars the W sessions before today as today sees
+them, of a term today's value and the W - 1 before it. n is how many values are present, that is not missing.
 
 >>> SimpleMovingAverage(inputs=[EquityPricing.close], window_length=10)
 SimpleMovingAverage(close, 10)
@@ -33,11 +33,15 @@ _ASKED = object()  # in place of a default
 
 
 class Windowed:
-    """A function of the language over a window. Calling the class makes a term; class attributes are defaults, as in Zipline."""
+    """A function of the language over a window. Calling the class makes a term; class attributes are defaults, as in
+    Zipline.
+    """
 
     inputs: Sequence[Term] = ()
     window_length: Optional[int] = None
-    params: Union[Sequence[str], Mapping[str, Any]] = ()  # what it takes beside these and `mask`, with defaults in a mapping, as in Zipline
+    params: Union[
+        Sequence[str], Mapping[str, Any]
+    ] = ()  # what it takes beside these and `mask`, with defaults in a mapping, as in Zipline
     function = ""  # its name in the language
     sort: type[Term] = Factor
     takes: tuple[type[Term], ...] = (BoundColumn, Factor)
@@ -50,8 +54,14 @@ class Windowed:
         if "compute" in cls.__dict__:
             CustomFactor()
 
-    def __new__(cls, inputs: Union[Term, Sequence[Term], None] = None, *, window_length: Optional[int] = None, mask: Mask = None,
-                **params: Any) -> Any:
+    def __new__(
+        cls,
+        inputs: Union[Term, Sequence[Term], None] = None,
+        *,
+        window_length: Optional[int] = None,
+        mask: Mask = None,
+        **params: Any,
+    ) -> Any:
         defaults = dict(cls.params if isinstance(cls.params, Mapping) else dict.fromkeys(cls.params, _ASKED))
         takes = f"it takes {', '.join(['inputs', 'window_length', 'mask', *defaults])}"
         for name in params.keys() - defaults.keys():
@@ -59,7 +69,12 @@ class Windowed:
         listed = cls.inputs if inputs is None else (inputs,) if isinstance(inputs, Term) else inputs
         terms: tuple[Any, ...] = tuple(listed) if isinstance(listed, (list, tuple)) else (listed,)
         window_length = cls.window_length if window_length is None else window_length
-        given: dict[str, Any] = {"inputs": terms or _ASKED, "window_length": _ASKED if window_length is None else window_length, **defaults, **params}
+        given: dict[str, Any] = {
+            "inputs": terms or _ASKED,
+            "window_length": _ASKED if window_length is None else window_length,
+            **defaults,
+            **params,
+        }
         for name, value in given.items():
             if value is _ASKED:
                 raise TypeError(f"{cls.__name__}: {name} {'are' if name == 'inputs' else 'is'} missing; {takes}")
@@ -78,8 +93,15 @@ class Windowed:
         return cls.sort(CALL, cls.function, *inputs, *(() if cls.windowless else (window,)), *params, mask=mask)
 
 
-def windowed(name: str, formula: str, units: str = "those of the input", source: str = "Zipline",
-             rounding: str = "once, to the nearest millionth", base: type = Windowed, **defaults: Any) -> Any:
+def windowed(
+    name: str,
+    formula: str,
+    units: str = "those of the input",
+    source: str = "Zipline",
+    rounding: str = "once, to the nearest millionth",
+    base: type = Windowed,
+    **defaults: Any,
+) -> Any:
     """A class of the language's function of this name."""
     doc = f"{formula}\n\nUnits: {units}. Source: {source}. Rounding: {rounding}."
     return type(name, (base,), {"__doc__": doc, "__module__": defaults.pop("module", __name__), **defaults})
@@ -87,49 +109,92 @@ def windowed(name: str, formula: str, units: str = "those of the input", source:
 
 _OURS: dict[str, Any] = {"source": "ours", "rounding": "none"}
 SimpleMovingAverage = windowed("SimpleMovingAverage", "sum of the present x_k / n; missing where n is 0")
-LinearWeightedMovingAverage = windowed("LinearWeightedMovingAverage", "(1 x_1 + .. + W x_W) / (W (W + 1) / 2), missing values counting 0")
-WeightedAverageValue = windowed("WeightedAverageValue", "sum of x_k w_k where both are present / sum of the present w_k",
-                                "those of the first input")
+LinearWeightedMovingAverage = windowed(
+    "LinearWeightedMovingAverage", "(1 x_1 + .. + W x_W) / (W (W + 1) / 2), missing values counting 0"
+)
+WeightedAverageValue = windowed(
+    "WeightedAverageValue", "sum of x_k w_k where both are present / sum of the present w_k", "those of the first input"
+)
 WindowSum = windowed("WindowSum", "sum of the present x_k; missing where n is 0", **_OURS)
 WindowMax = windowed("WindowMax", "greatest present x_k; missing where n is 0", **_OURS)
 WindowMin = windowed("WindowMin", "least present x_k; missing where n is 0", **_OURS)
-WindowStd = windowed("WindowStd", "sqrt(sum of (x_k - mean)^2 over the present x_k / n); missing where n is 0",
-                     source="ours, as numpy's nanstd", rounding="down, of the variance and of the root: up to a millionth below a float")
-Returns = windowed("Returns", "(x_W - x_1) / x_1; missing where either is", "1, as 0.05 for 5 percent", inputs=(_CLOSE,))
-DailyReturns = windowed("DailyReturns", "`Returns` over two sessions", "1, as 0.05 for 5 percent", base=Returns, window_length=2)
+WindowStd = windowed(
+    "WindowStd",
+    "sqrt(sum of (x_k - mean)^2 over the present x_k / n); missing where n is 0",
+    source="ours, as numpy's nanstd",
+    rounding="down, of the variance and of the root: up to a millionth below a float",
+)
+Returns = windowed(
+    "Returns", "(x_W - x_1) / x_1; missing where either is", "1, as 0.05 for 5 percent", inputs=(_CLOSE,)
+)
+DailyReturns = windowed(
+    "DailyReturns", "`Returns` over two sessions", "1, as 0.05 for 5 percent", base=Returns, window_length=2
+)
 PercentChange = windowed("PercentChange", "(x_W - x_1) / abs(x_1); missing where either is", "1, as 0.05 for 5 percent")
 RateOfChangePercentage = windowed("RateOfChangePercentage", "100 (x_W - x_1) / x_1; missing where either is", "percent")
-RSI = windowed("RSI", "100 U / (U + D), U the sum of the rises and D of the falls between neighbors that are both present; missing "
-               "where nothing moved", "percent", inputs=(_CLOSE,), window_length=15)
-AverageDollarVolume = windowed("AverageDollarVolume", "sum of close_k volume_k where both are present / W; 0 where none is, and missing "
-                               "above 10^11", "money per session", inputs=(_CLOSE, _VOLUME), fixed=True)
-FastStochasticOscillator = windowed("FastStochasticOscillator", "100 (c - l) / (h - l): the last close, the least low, the greatest high; "
-                                    "missing where one is", "percent", inputs=(_CLOSE, _LOW, _HIGH), window_length=14, fixed=True)
-TrueRange = windowed("TrueRange", "greatest present one of high - low, abs(high - previous close), abs(low - previous close)",
-                     "those of the close", rounding="none", inputs=(_HIGH, _LOW, _CLOSE), window_length=2, fixed=True, windowless=True)
+RSI = windowed(
+    "RSI",
+    "100 U / (U + D), U the sum of the rises and D of the falls between neighbors that are both present; missing "
+    "where nothing moved",
+    "percent",
+    inputs=(_CLOSE,),
+    window_length=15,
+)
+AverageDollarVolume = windowed(
+    "AverageDollarVolume",
+    "sum of close_k volume_k where both are present / W; 0 where none is, and missing " "above 10^11",
+    "money per session",
+    inputs=(_CLOSE, _VOLUME),
+    fixed=True,
+)
+FastStochasticOscillator = windowed(
+    "FastStochasticOscillator",
+    "100 (c - l) / (h - l): the last close, the least low, the greatest high; " "missing where one is",
+    "percent",
+    inputs=(_CLOSE, _LOW, _HIGH),
+    window_length=14,
+    fixed=True,
+)
+TrueRange = windowed(
+    "TrueRange",
+    "greatest present one of high - low, abs(high - previous close), abs(low - previous close)",
+    "those of the close",
+    rounding="none",
+    inputs=(_HIGH, _LOW, _CLOSE),
+    window_length=2,
+    fixed=True,
+    windowless=True,
+)
 
 
 class VWAP(Windowed):
-    """sum of close_k volume_k where both are present / sum of the present volume_k; of other inputs a `WeightedAverageValue`
+    """sum of close_k volume_k where both are present / sum of the present volume_k; of other inputs a
+    `WeightedAverageValue`
 
     Units: those of the close. Source: Zipline. Rounding: once, to the nearest millionth.
     """
+
     inputs = (_CLOSE, _VOLUME)
 
     @classmethod
     def term(cls, inputs: Inputs, window: int, mask: Mask) -> Any:  # type: ignore[override]
-        return super().term((), window, mask) if inputs == (_CLOSE, _VOLUME) else WeightedAverageValue.term(inputs, window, mask)
+        return (
+            super().term((), window, mask)
+            if inputs == (_CLOSE, _VOLUME)
+            else WeightedAverageValue.term(inputs, window, mask)
+        )
 
 
 class ExponentialWeightedMovingAverage(Windowed):
     """sum of w_k x_k / sum of w_k, w_W = 1 and w_(k-1) = w_k decay_rate; missing where any value is
 
-    Units: those of the input. Source: Zipline. Rounding: of `decay_rate` and of each weight to millionths, then once: by about
-    10^-7 of the value from a float.
+    Units: those of the input. Source: Zipline. Rounding: of `decay_rate` and of each weight to millionths, then once:
+    by about 10^-7 of the value from a float.
 
     >>> ExponentialWeightedMovingAverage.from_span([EquityPricing.close], window_length=30, span=15)
     ExponentialWeightedMovingAverage(close, 30, 0.875)
     """
+
     params = ("decay_rate",)
 
     @classmethod
@@ -150,6 +215,7 @@ class ExponentialWeightedMovingAverage(Windowed):
 
 class Bands(NamedTuple):
     """The outputs of `BollingerBands`."""
+
     lower: Factor
     middle: Factor
     upper: Factor
@@ -158,24 +224,29 @@ class Bands(NamedTuple):
 class BollingerBands(Windowed):
     """`lower`, `middle`, `upper`: mean - k s, mean, mean + k s, with s the `WindowStd`
 
-    Units: those of the input. Source: Zipline. Rounding: s down to millionths, so that a band is up to k + 1 millionths off.
+    Units: those of the input. Source: Zipline. Rounding: s down to millionths, so that a band is up to k + 1 millionths
+    off.
 
     >>> lower, middle, upper = BollingerBands(window_length=20, k=2)
     >>> upper
     BollingerUpper(close, 20, 2)
     """
+
     inputs = (_CLOSE,)
     params = ("k",)
 
     @classmethod
     def term(cls, inputs: Inputs, window: int, mask: Mask, k: float) -> Bands:  # type: ignore[override]
-        return Bands(Factor(CALL, "BollingerLower", *inputs, window, k, mask=mask),
-                           Factor(CALL, "BollingerMiddle", *inputs, window, mask=mask),
-                           Factor(CALL, "BollingerUpper", *inputs, window, k, mask=mask))
+        return Bands(
+            Factor(CALL, "BollingerLower", *inputs, window, k, mask=mask),
+            Factor(CALL, "BollingerMiddle", *inputs, window, mask=mask),
+            Factor(CALL, "BollingerUpper", *inputs, window, k, mask=mask),
+        )
 
 
 class DownUp(NamedTuple):
     """The outputs of `Aroon`."""
+
     down: Factor
     up: Factor
 
@@ -188,6 +259,7 @@ class Aroon(Windowed):
     >>> Aroon(window_length=25).up
     AroonUp(25)
     """
+
     inputs = (_LOW, _HIGH)
     fixed = True
 
@@ -199,41 +271,51 @@ class Aroon(Windowed):
 class AnnualizedVolatility(Windowed):
     """`WindowStd` of the daily returns * sqrt(annualization_factor)
 
-    Units: 1 per root of a year. Source: Zipline. Rounding: deviation and root to millionths before the product: by 0.00002 from
-    a float.
+    Units: 1 per root of a year. Source: Zipline. Rounding: deviation and root to millionths before the product: by
+    0.00002 from a float.
 
     >>> AnnualizedVolatility(window_length=63)
     WindowStd(Returns(close, 2), 63) * 15.874508
     """
+
     inputs = (DailyReturns(),)
     window_length = 252
     params = {"annualization_factor": 252.0}
 
     @classmethod
-    def term(cls, inputs: Inputs, window: int, mask: Mask, annualization_factor: float) -> Any:  # type: ignore[override]
+    def term(  # type: ignore[override]
+        cls, inputs: Inputs, window: int, mask: Mask, annualization_factor: float
+    ) -> Any:
         return WindowStd(inputs, window_length=window, mask=mask) * math.sqrt(annualization_factor)
 
 
 class MovingAverageConvergenceDivergenceSignal(Windowed):
-    """exponential mean of the differences between a fast and a slow exponential mean of closes, all as today sees the closes
+    """exponential mean of the differences between a fast and a slow exponential mean of closes, all as today sees the
+    closes
 
-    Units: those of the close. Source: Zipline. Rounding: the language has no window over exponential means, but the signal is a
-    weighted sum of closes, and so one of exact sums over windows; their weights are given to ten decimals: by about 10^-6 from a
-    float for prices up to 1,000. With the usual periods it takes 138 of the 256 terms that a pipeline may have.
+    Units: those of the close. Source: Zipline. Rounding: the language has no window over exponential means, but the
+    signal is a weighted sum of closes, and so one of exact sums over windows; their weights are given to ten decimals:
+    by about 10^-6 from a float for prices up to 1,000. With the usual periods it takes 138 of the 256 terms that a
+    pipeline may have.
     """
+
     inputs = (_CLOSE,)
     window_length = 0  # set by the periods
     params = {"fast_period": 12, "slow_period": 26, "signal_period": 9}
 
     @classmethod
-    def term(cls, inputs: Inputs, window: int, mask: Mask, fast_period: int, slow_period: int,  # type: ignore[override]
-             signal_period: int) -> Any:
+    def term(  # type: ignore[override]
+        cls, inputs: Inputs, window: int, mask: Mask, fast_period: int, slow_period: int, signal_period: int
+    ) -> Any:
         def means(period: int) -> Any:  # the weights of an exponential mean, newest first
             weights = (1 - 2 / (1 + period)) ** np.arange(period)
             return weights / weights.sum()
+
         if slow_period <= fast_period:
             raise ValueError("slow_period has to be greater than fast_period")
-        weights = np.convolve(means(signal_period), np.pad(means(fast_period), (0, slow_period - fast_period)) - means(slow_period))
+        weights = np.convolve(
+            means(signal_period), np.pad(means(fast_period), (0, slow_period - fast_period)) - means(slow_period)
+        )
         whole = Filter(CALL, "AllPresent", *inputs, len(weights))
         whole = whole if mask is None else whole & mask
         steps = (weights - np.append(weights[1:], 0)) * 10_000
@@ -255,13 +337,24 @@ def PeerCount(inputs: Sequence[Classifier], mask: Mask = None) -> Factor:
 
 
 _REGRESSION = "Returns as a column, and the regression over the table in pandas"
-CustomFactor = Absent("CustomFactor", "WindowSum, WindowMax, WindowMin, WindowStd and arithmetic; or their table, and pandas")
-EWMSTD, ExponentialWeightedMovingStdDev = Absent.each("EWMSTD ExponentialWeightedMovingStdDev", "WindowStd, with equal weights")
-MaxDrawdown = Absent("MaxDrawdown", "close.latest / WindowMax([close], window_length=W) - 1, the distance from the greatest close")
-IchimokuKinkoHyo = Absent("IchimokuKinkoHyo", "(WindowMax([high], window_length=W) + WindowMin([low], window_length=W)) / 2")
+CustomFactor = Absent(
+    "CustomFactor", "WindowSum, WindowMax, WindowMin, WindowStd and arithmetic; or their table, and pandas"
+)
+EWMSTD, ExponentialWeightedMovingStdDev = Absent.each(
+    "EWMSTD ExponentialWeightedMovingStdDev", "WindowStd, with equal weights"
+)
+MaxDrawdown = Absent(
+    "MaxDrawdown", "close.latest / WindowMax([close], window_length=W) - 1, the distance from the greatest close"
+)
+IchimokuKinkoHyo = Absent(
+    "IchimokuKinkoHyo", "(WindowMax([high], window_length=W) + WindowMin([low], window_length=W)) / 2"
+)
 SimpleBeta, RollingLinearRegression, RollingLinearRegressionOfReturns = Absent.each(
-    "SimpleBeta RollingLinearRegression RollingLinearRegressionOfReturns", _REGRESSION)
+    "SimpleBeta RollingLinearRegression RollingLinearRegressionOfReturns", _REGRESSION
+)
 RollingPearson, RollingSpearman, RollingPearsonOfReturns, RollingSpearmanOfReturns = Absent.each(
-    "RollingPearson RollingSpearman RollingPearsonOfReturns RollingSpearmanOfReturns", _REGRESSION)
+    "RollingPearson RollingSpearman RollingPearsonOfReturns RollingSpearmanOfReturns", _REGRESSION
+)
 BusinessDaysSincePreviousEvent, BusinessDaysUntilNextEvent = Absent.each(
-    "BusinessDaysSincePreviousEvent BusinessDaysUntilNextEvent", "a label that changes on the day of the event")
+    "BusinessDaysSincePreviousEvent BusinessDaysUntilNextEvent", "a label that changes on the day of the event"
+)

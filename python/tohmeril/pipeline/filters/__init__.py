@@ -11,13 +11,15 @@ from numbers import Integral
 from typing import Iterable
 
 from ..factors import windowed
-from ..term import CALL, Absent, Filter, either
+from ..term import CALL, Absent, Filter, joined_by_or
 
 _FILTER: dict[str, typing.Any] = {"units": "true or false", "rounding": "none", "sort": Filter, "module": __name__}
 All = windowed("All", "true on each of the W sessions up to today", takes=(Filter,), **_FILTER)
 Any = windowed("Any", "true on one of the W sessions up to today", takes=(Filter,), **_FILTER)
 AllPresent = windowed("AllPresent", "each x_k is present", **_FILTER)
-AtLeastN = windowed("AtLeastN", "true on N of the W sessions up to today, or on more", takes=(Filter,), params=("N",), **_FILTER)
+AtLeastN = windowed(
+    "AtLeastN", "true on N of the W sessions up to today, or on more", takes=(Filter,), params=("N",), **_FILTER
+)
 
 
 def StaticSids(sids: Iterable[int]) -> Filter:
@@ -29,10 +31,13 @@ def StaticSids(sids: Iterable[int]) -> Filter:
     listed: list[typing.Any] = [sids] if isinstance(sids, str) else list(sids)
     for sid in listed:
         if isinstance(sid, str):
-            raise TypeError(f"StaticSids: {sid!r} is a symbol: write StaticSids(data.sids({[each for each in listed if isinstance(each, str)]!r}))")
+            raise TypeError(
+                f"StaticSids: {sid!r} is a symbol: write "
+                f"StaticSids(data.sids({[each for each in listed if isinstance(each, str)]!r}))"
+            )
         if isinstance(sid, bool) or not isinstance(sid, Integral):
             raise TypeError(f"StaticSids: {sid!r} is no sid, which is a whole number")
-    return either(lambda some: Filter(CALL, "StaticSids", *some), sorted(map(int, listed)), 500)
+    return joined_by_or(lambda some: Filter(CALL, "StaticSids", *some), sorted(map(int, listed)), 500)
 
 
 def StaticAssets(assets: Iterable[object]) -> Filter:
@@ -47,7 +52,9 @@ def SingleAsset(asset: object) -> Filter:
 
 
 CustomFilter = Absent("CustomFilter", "comparisons of factors, and & | ~")
-ArrayPredicate, NullFilter, NotNullFilter = Absent.each("ArrayPredicate NullFilter NotNullFilter", "isnull(), notnull(), comparisons")
+ArrayPredicate, NullFilter, NotNullFilter = Absent.each(
+    "ArrayPredicate NullFilter NotNullFilter", "isnull(), notnull(), comparisons"
+)
 PercentileFilter = Absent("PercentileFilter", "percentile_between(low, high)")
 MaximumFilter = Absent("MaximumFilter", "top(1, groupby=classifier)")
 Latest = Absent("Latest of a filter", "a column of floats that are 1 and 0, and .latest.eq(1)")

@@ -5,13 +5,14 @@ use Rattle.pl_spec.specs.Parts.{sid_at}
 use Rattle.pl_terms.specs.Checked.{pipeline_of}
 use Rattle.pl_derivation.specs.Facts.Fact.{TermValue}
 use Rattle.pl_derivation.specs.Laws.{IsDerivation}
+use Rattle.pl_derivation.specs.Lean.{IsLean}
 use Rattle.pl_derivation.specs.Walks.{derivation, facts_for}
 use Rattle.pl_world.specs.Worlds.{world_of}
 use Rattle.pl_world.proofs.Evaluated.{sid-of}
 use Rattle.pl_explain.specs.declared.walk.Walk.{Walk}
 use Rattle.pl_explain.specs.Walking.{MayBeDerived, Finishes, IsTooLong}
 use Rattle.pl_explain.proofs.Standing.{stands-first, derived, derived-long}
-use Rattle.pl_explain.proofs.Finished.{asked-stands, asked-right}
+use Rattle.pl_explain.proofs.Finished.{asked-stands, asked-right, asked-lean}
 use Rattle.pl_explain.proofs.walk.explain_cell.Goals as goal
 
 pub finish-requires-clause-stands : goal.finish-requires-clause-stands
@@ -65,3 +66,10 @@ returns-clause-right g c =
     let p = c.args.checked.now in
     subst (λ ls. IsDerivation (world_of w) (pipeline_of p) c.args.t.0 (sid_at w.assets.now c.args.col) c.args.session ls) (sym (returns-clause-exact g c))
     (asked-right w p c.args.t.0 c.args.col c.args.session c.requires.used c.requires.col c.requires.session c.requires.reach c.parts_are_ready.ensures.checked c.parts_are_ready.ensures.texts c.parts_make_a_world.ensures)
+
+pub returns-clause-lean : goal.returns-clause-lean
+returns-clause-lean g c =
+    let w = c.args.world.now in
+    let p = c.args.checked.now in
+    subst (IsLean (world_of w) (pipeline_of p)) (sym (returns-clause-exact g c))
+    (asked-lean w p c.args.t.0 c.args.col c.args.session c.requires.used c.requires.col c.requires.session c.requires.reach c.parts_are_ready.ensures.checked c.parts_are_ready.ensures.texts c.parts_make_a_world.ensures)

@@ -1,0 +1,12 @@
+pub mod Alone
+pub mod Lists
+pub mod Renaming
+pub mod Renamed
+pub mod Absent
+pub mod Exact
+pub mod Priced
+pub mod Compared
+pub mod Ranked
+pub mod Restated
+pub mod Restating
+pub mod Worked

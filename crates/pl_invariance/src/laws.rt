@@ -1,0 +1,61 @@
+//! The laws. The functions do nothing: the contract of each is a law.
+ghost use Rattle.pl_invariance.specs.Absent.{AbsentAssetsChangeNothing};
+ghost use Rattle.pl_invariance.specs.Alone.{NumbersStandAlone};
+ghost use Rattle.pl_invariance.specs.Compared.{ChangesHaveNoUnit};
+ghost use Rattle.pl_invariance.specs.Priced.{PricesHaveUnits};
+ghost use Rattle.pl_invariance.specs.Ranked.{RanksHaveNoUnit};
+ghost use Rattle.pl_invariance.specs.Renamed.{SidsAreNames};
+ghost use Rattle.pl_invariance.specs.Restated.{SplitsMayBeRestated, WorldsCanBeRestated};
+
+/// A number beside bars is the same whatever the bars, the adjustments and the labels are. It guards the way
+/// of a number to a value: nothing scales or masks it.
+pub fn numbers_stand_alone()
+    ensures { NumbersStandAlone }
+{}
+
+/// Sids that are renamed in ascending order change nothing but the sid of each row. It guards the look-ups by
+/// sid and the cross-sections, which know of a sid only which of two is the smaller.
+pub fn sids_are_names()
+    ensures { SidsAreNames }
+{}
+
+/// An asset that exists on no session may be left out with all its rows, and no row of a table changes. It
+/// guards the cross-sections: who never exists is no peer, and has no part in a mean or a rank.
+pub fn absent_assets_change_nothing()
+    ensures { AbsentAssetsChangeNothing }
+{}
+
+/// Prices that are all multiplied by one ratio, those of corrections too, are seen multiplied by it, and
+/// volumes stay, where nothing is rounded. It guards what is seen of a bar: the ratios of adjustments are of
+/// no unit, and a correction is in that of its bar.
+pub fn prices_have_units()
+    ensures { PricesHaveUnits }
+{}
+
+/// A split may be left out where the bars before it are restated by its ratio: from its day on each bar, and
+/// each window of bars, is seen alike, where nothing is rounded. The same holds of a merger and of a
+/// dividend. It guards which bars an adjustment acts on, from which session, which columns and by which
+/// ratio, and that the order of exact ratios is of no account.
+pub fn splits_may_be_restated()
+    ensures { SplitsMayBeRestated }
+{}
+
+/// The change of a price over a window is the same in every unit: `Returns`, `PercentChange` and
+/// `RateOfChangePercentage` of prices that are multiplied by a ratio above 0, where this rounds neither the
+/// oldest nor the newest. It guards these formulas, and `quot`: a quotient of one proportion is rounded
+/// alike.
+pub fn changes_have_no_unit()
+    ensures { ChangesHaveNoUnit }
+{}
+
+/// The rank of a price is the same in every unit, by each method and in both orders, and so is who is among
+/// the first or the last, where a ratio above 0 rounds no value of the cross-section. It guards the ranks,
+/// which know of values only which of two is the smaller.
+pub fn ranks_have_no_unit()
+    ensures { RanksHaveNoUnit }
+{}
+
+/// Each world can be restated so, whichever of an asset's ratios is left out.
+pub fn worlds_can_be_restated()
+    ensures { WorldsCanBeRestated }
+{}

@@ -1,0 +1,21 @@
+//! The laws.
+
+ghost use Rattle.pl_lookahead.specs.Laws.{LaterDataChangeNoByte, OwnDaysInAnyOrder, SameFilesSameBytes};
+
+/// Where the files and tables of two commands agree up to a session, and no reader refuses them, the tables
+/// up to it are the same bytes, by `run` and by `daily`, for all sizes of chunks, whatever comes later.
+pub fn later_data_change_no_byte()
+    ensures { LaterDataChangeNoByte }
+{}
+
+/// Tables of adjustments in which no two rows are of one asset and one day agree where they have the same
+/// rows, in whatever order these stand.
+pub fn own_days_in_any_order()
+    ensures { OwnDaysInAnyOrder }
+{}
+
+/// Runs over the same files and tables write the same bytes, by `run` and by `daily`, for all sizes of
+/// chunks.
+pub fn same_files_same_bytes()
+    ensures { SameFilesSameBytes }
+{}

@@ -1,0 +1,145 @@
+"""A piece's files, over random small data: the definition `cut` of crates/pl_cut, and the rows of the whole."""
+import csv
+import random
+import sqlite3
+from datetime import date, timedelta
+from types import SimpleNamespace
+
+import pytest
+
+from tohmeril import Data, cuts, run_text
+from tohmeril.data import CREATE, HEADERS, SECONDS, TABLES
+from tohmeril.pipeline import Pipeline
+from tohmeril.pipeline.classifiers import Label
+from tohmeril.pipeline.data import Column, DataSet, EquityPricing
+from tohmeril.pipeline.factors import Returns, SimpleMovingAverage
+from tohmeril.pipeline.filters import All
+
+DAYS = [str(date(2024, 1, 1) + timedelta(n)) for n in range(40)]
+SIDS = range(1, 7)
+
+
+class Fundamentals(DataSet):
+    earnings = Column(float)
+
+
+def number_of(day: str) -> int:
+    """The days since 1970-01-01."""
+    return (date.fromisoformat(day) - date(1970, 1, 1)).days
+
+
+def drawn(draw: random.Random) -> dict[str, list[tuple]]:
+    """Rows of each part in any order. Days of lives, labels, numbers and adjustments need not be sessions."""
+    sessions = sorted(draw.sample(DAYS, 14))
+    since = [(name, sid, day) for name in ("sector", "earnings") for sid in SIDS
+             for day in draw.sample(DAYS, draw.randint(0, 5))]
+    bars = [(sid, day, *draw.choices(range(1, 99), k=5)) for sid in SIDS for day in sessions if draw.random() < 0.8]
+    revised = {(sid, day, draw.choice(["open", "close", "volume"]), known) for sid, day, *_ in draw.sample(bars, 12)
+               for known in DAYS if known > day and draw.random() < 0.1}
+    rows = {
+        "sessions": [(day,) for day in sessions],
+        "assets": [(sid, *sorted(draw.sample(DAYS, 2))) for sid in SIDS],
+        "labels": [(*row, draw.choice(["tech", "oil", ""])) for row in since if row[0] == "sector"],
+        "numbers": [(*row, draw.choice([1, 2.5, ""])) for row in since if row[0] == "earnings"],
+        "bars": bars,
+        "revisions": [(sid, day, column, draw.choice([7, ""]), known) for sid, day, column, known in sorted(revised)],
+        **{table: [(at, number_of(draw.choice(DAYS)) * SECONDS + draw.choice([0, 50_000, SECONDS - 1]),
+                    *draw.choices(range(1, 4), k=2), draw.choice([*SIDS, 99])) for at in range(12)]
+           for table in TABLES},
+    }
+    for part in rows.keys() - {"sessions", *TABLES}:
+        draw.shuffle(rows[part])
+    return rows
+
+
+def written(rows: dict[str, list[tuple]], folder) -> Data:
+    folder.mkdir()
+    for part in rows.keys() - set(TABLES):
+        with open(folder / f"{part}.csv", "w", newline="") as file:
+            csv.writer(file).writerows([*([HEADERS[part]] if part in HEADERS else []), *rows[part]])
+    store = sqlite3.connect(folder / "adjustments.db")
+    with store:
+        for table in TABLES:
+            store.execute(CREATE.format(table))
+            store.executemany(f"INSERT INTO {table} VALUES (?, ?, ?, ?, ?)", rows[table])
+    store.close()
+    return Data(folder)
+
+
+def read(data: Data) -> dict[str, list[tuple]]:
+    rows = {}
+    for part, path in data.files.items():
+        if part == "adjustments":
+            store = sqlite3.connect(path)
+            for table in TABLES:
+                query = f"SELECT id, effective_date, num, den, sid FROM {table} ORDER BY id"
+                rows[table] = store.execute(query).fetchall()
+            store.close()
+        else:
+            with open(path, newline="") as file:
+                rows[part] = [tuple(row) for row in csv.reader(file)][part in HEADERS:]
+    return rows
+
+
+def cut(rows: dict[str, list[tuple]], first: str, last: str) -> dict[str, list[tuple]]:
+    """The definition: what is read of the rows from a first session on, up to a last one."""
+    kept = {sid for sid, start, end in rows["assets"] if start < last and first <= end}
+
+    def counts(row, all_rows):
+        newest = all(other[2] <= row[2] for other in all_rows if other[:2] == row[:2] and other[2] <= first)
+        return row[1] in kept and row[2] <= last and (first < row[2] or newest)
+
+    return {
+        "sessions": rows["sessions"],
+        "assets": [row for row in rows["assets"] if row[0] in kept],
+        "labels": [row for row in rows["labels"] if counts(row, rows["labels"])],
+        "numbers": [row for row in rows["numbers"] if counts(row, rows["numbers"])],
+        "bars": [row for row in rows["bars"] if row[0] in kept and first <= row[1] < last],
+        "revisions": [row for row in rows["revisions"]
+                      if row[0] in kept and first <= row[1] < last and first < row[4] <= last],
+        **{table: [row for row in rows[table]
+                   if row[4] in kept and number_of(first) < row[1] // SECONDS <= number_of(last)] for table in TABLES},
+    }
+
+
+def as_text(rows: dict[str, list[tuple]]) -> dict[str, list[tuple]]:
+    return {part: [tuple(map(str, row)) for row in part_rows] for part, part_rows in rows.items()}
+
+
+@pytest.mark.parametrize("seed", range(40))
+def test_the_files_of_a_piece_are_the_cut(seed, tmp_path, monkeypatch):
+    """Several spans in one pass over short blocks; of adjustments, those of the piece's assets."""
+    draw = random.Random(seed)
+    rows = drawn(draw)
+    spans = [sorted(draw.sample([day for day, in rows["sessions"]], 2)) for _ in range(5)]
+    monkeypatch.setattr(cuts, "BLOCK", 300)
+    monkeypatch.setattr(cuts, "plan", lambda script, start, end, data: SimpleNamespace(first_session=start))
+    (tmp_path / "pieces").mkdir()
+    pieces = cuts.cut_files(None, written(rows, tmp_path / "whole"), spans, tmp_path / "pieces")
+    for piece, (first, last) in zip(pieces, spans):
+        wanted, found = cut(rows, first, last), read(piece)
+        sids = {row[0] for row in wanted["assets"]}
+        found.update((table, [row for row in found[table] if row[4] in sids]) for table in TABLES)
+        assert as_text(found) == as_text(wanted), (first, last)
+
+
+def reading():
+    """Terms that read each part, over windows, ranks, labels and calendars."""
+    close, sector, earned = EquityPricing.close.latest, Label("sector"), Fundamentals.earnings.latest
+    mean = SimpleMovingAverage([EquityPricing.close], window_length=3)
+    return Pipeline({
+        "mean": mean, "place": Returns(window_length=2).rank(groupby=sector), "earned": earned, "sector": sector,
+        "old": close.downsample("week_start"), "often": All([earned > 1], window_length=2),
+        "peers": sector.peer_count(),
+        "places": SimpleMovingAverage([mean.rank()], window_length=2),
+        "money": EquityPricing.volume.latest.demean(),
+    })
+
+
+@pytest.mark.parametrize("seed", range(12))
+def test_pieces_of_random_data_give_the_whole(seed, tmp_path):
+    rows = drawn(random.Random(seed))
+    data, (first, last) = written(rows, tmp_path / "whole"), (rows["sessions"][8][0], rows["sessions"][-1][0])
+    whole = run_text(reading(), first, last, data)
+    assert whole.count(b"\n") > 1
+    assert all(run_text(reading(), first, last, data, pieces=pieces, cut=True) == whole for pieces in (1, 4))
