@@ -390,6 +390,16 @@ def csvdir(folder: Union[str, Path]) -> dict[str, pd.DataFrame]:
     dict
         bars, and perhaps splits and dividends.
 
+    Parameters
+    ----------
+    folder : str or Path
+        The bundle's folder, or the one of its files.
+
+    Returns
+    -------
+    dict of str to DataFrame
+        bars, and splits and dividends where the files have them, for ``Data.write(target, **csvdir(source))``.
+
     Raises
     ------
     DataFault
