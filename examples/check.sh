@@ -222,7 +222,7 @@ mornings() {
         esac
         # two at once, one of which is ended wherever it is, and then once more
         "$recipe" store news "$day" > /dev/null 2>> said &
-        (timeout -s KILL 0.7 "$recipe" store news "$day" > /dev/null) 2>> said
+        (timeout -s KILL 0.7 "$recipe" store news "$day" > /dev/null; true) 2>> said
         wait
         "$recipe" store news "$day" 2>> said | tail -n +2 >> rows
     done

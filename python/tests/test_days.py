@@ -256,7 +256,6 @@ def files(folder, parts):
 def test_all_places_read_days_alike(place, tmp_path):
     whole = files(tmp_path, PLACES[place]("2024-05-02"))
     for day in (
-        20240502,
         20240502.0,
         "20240502",
         dt.date(2024, 5, 2),

@@ -65,7 +65,10 @@ REFUSED = {
         {"bars": LONG.assign(volume=[1, -99, 1])},
         "bars: the volume of AAA on 2024-01-03 is -99\nrow 1; in CRSP a volume of -99 is a missing one",
     ),
-    "a NaN ticker": ({"bars": LONG.assign(symbol=["AAA", np.nan, None])}, "bars: an asset is missing"),
+    "a NaN ticker": (
+        {"bars": LONG.assign(symbol=["AAA", np.nan, None])},
+        "bars: an asset is missing\n.*keep_default_na=False",
+    ),
     "an empty ticker": ({"bars": LONG.assign(symbol=["AAA", "", "BBB"])}, "bars: a symbol is empty"),
     "half a sid": (
         {"bars": LONG.assign(symbol=[1, 1.5, 2])},

@@ -17,7 +17,7 @@ from . import version
 from .data import Data
 from .days import NoDay, read_day
 from .faults import DataFault, Fault
-from .frames import Frame, select_columns
+from .frames import select_columns
 
 PARTS = ("bars", "assets", "labels", "numbers", "revisions", "splits", "mergers", "dividends")
 
@@ -49,7 +49,7 @@ def tell_version() -> int:
     return 0 if agrees else 1
 
 
-def read(path: Path) -> Frame:
+def read(path: Path) -> pd.DataFrame:
     """A file of the news; fields are texts, and an empty one is missing."""
     frame = pd.read_csv(path, dtype=str, keep_default_na=False, na_values=[""], encoding="utf-8-sig")
     wide = {str(name).lower(): name for name in frame.columns}

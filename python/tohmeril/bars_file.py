@@ -7,17 +7,20 @@ from __future__ import annotations
 
 import os
 from contextlib import contextmanager, nullcontext
-from functools import lru_cache
+from functools import lru_cache, partial
 from pathlib import Path
-from typing import BinaryIO, Callable, ContextManager, Iterable, Iterator, Mapping, NamedTuple, Optional, Union
+from typing import TYPE_CHECKING, Any, BinaryIO, Callable, ContextManager, Iterable, Iterator, Mapping, NamedTuple, Optional, Union
 
 import numpy as np
 import pandas as pd
 
 from .faults import DataFault
-from .frames import NEGATIVE, and_others, long_bars, to_numbers
+from .frames import NEGATIVE, NO_SYMBOL, and_others, long_bars, to_numbers
 from .pipeline.script import BARS
 from .pipeline.term import GREATEST
+
+if TYPE_CHECKING:
+    Array = np.ndarray[Any, Any]
 
 AnyBars = Union[pd.DataFrame, Mapping[str, pd.DataFrame], Iterable[pd.DataFrame]]
 RECORD = np.dtype([("asset", "i4"), ("day", "i4"), ("row", "i4"), ("cells", "i8", len(BARS))])
@@ -32,8 +35,8 @@ FRONT = np.frombuffer(b"".join((b"%d" % number).rjust(4, b"\0") for number in ra
 
 class Batch(NamedTuple):
     """Bars by asset and day, which `read` gives from one place to another; those of an asset begin at its place in `starts`."""
-    read: Callable[[int, int], np.ndarray]
-    starts: np.ndarray
+    read: Callable[[int, int], Array]
+    starts: Array
 
 
 class Bars:
@@ -57,7 +60,7 @@ class Bars:
     def __init__(self, folder: Path):
         self.path = folder / "bars.part"
         self.file: Optional[BinaryIO] = None
-        self.numbers: dict = {}
+        self.numbers: dict[Union[int, str], int] = {}
         self.days: set[int] = set()
         self.first = self.last = np.empty(0, "i4")
         self.records, self.filled = np.empty(BATCH, RECORD), 0
@@ -66,7 +69,7 @@ class Bars:
         self.rows = 0
 
     @property
-    def assets(self) -> list:
+    def assets(self) -> list[Union[int, str]]:
         return list(self.numbers)
 
     def begin(self, index: Optional[pd.Index]) -> None:
@@ -75,7 +78,7 @@ class Bars:
             index = pd.RangeIndex(len(index))  # an index of each frame would take memory
         self.frames.append((self.rows, index))
 
-    def add(self, rows: pd.DataFrame, kept: Optional[np.ndarray] = None) -> None:
+    def add(self, rows: pd.DataFrame, kept: Optional[Array] = None) -> None:
         """Take in the next bars of the frame: sid, session (as YYYY-MM-DD) and the five columns, of any type.
 
         Of the rows those that are kept, or all.
@@ -85,7 +88,7 @@ class Bars:
         if kept is not None:
             rows, places = rows[kept], places[kept]
         local, found = pd.factorize(rows.sid.to_numpy())
-        self._refuse(rows, places, local < 0, "an asset is missing")
+        self._refuse(rows, places, local < 0, "an asset is missing", NO_SYMBOL)
         numbers = np.array([self.numbers.setdefault(asset, len(self.numbers)) for asset in found.tolist()], "i4")[local]
         codes, days = pd.factorize(rows.session.to_numpy())
         days = np.array(list(days), "datetime64[D]").astype("i4")[codes]
@@ -101,16 +104,16 @@ class Bars:
                 part["cells"][:, at] = millionths(values[step])
             self.filled += len(part)
 
-    def _values(self, rows: pd.DataFrame, places: np.ndarray, name: str) -> np.ndarray:
+    def _values(self, rows: pd.DataFrame, places: Array, name: str) -> Array:
         """A column as floats, which has no value that a bar can't have."""
-        values = to_numbers(rows[name], "bars").to_numpy("float64")
+        values: Array = to_numbers(rows[name], "bars").to_numpy("float64")
         for wrong, hint in ((np.isinf(values), "give NaN for a missing value"), (values < 0, NEGATIVE[name == "volume"]),
                             (values > float(GREATEST), f"the greatest is {GREATEST}: give volumes in thousands, or prices in a greater unit")):
             if wrong.any():
                 self._refuse(rows, places, wrong, f"the {name} of {{}} is {values[wrong.argmax()]:.12g}", hint)
         return values
 
-    def _refuse(self, rows: pd.DataFrame, places: np.ndarray, wrong: np.ndarray, told: str, hint: str = "") -> None:
+    def _refuse(self, rows: pd.DataFrame, places: Array, wrong: Array, told: str, hint: str = "") -> None:
         """Raise the fault of the first wrong row, where there is one."""
         if wrong.any():
             at = int(wrong.argmax())
@@ -131,17 +134,12 @@ class Bars:
         batch = self._sorted()
         if self.file is None:
             self.file = open(self.path, "wb+")
-        begin = self.file.seek(0, os.SEEK_END)
+        file, begin = self.file.fileno(), self.file.seek(0, os.SEEK_END)
         for start in range(0, self.filled, GROUP):
-            self.file.write(memoryview(batch.read(start, min(start + GROUP, self.filled))).cast("B"))
+            self.file.write(batch.read(start, min(start + GROUP, self.filled)).tobytes())
         self.file.flush()
-        self.batches.append(Batch(lambda start, stop: self._read(begin, start, stop), batch.starts))
+        self.batches.append(Batch(partial(_read, file, begin), batch.starts))
         self.filled = 0
-
-    def _read(self, begin: int, start: int, stop: int) -> np.ndarray:
-        """Records of a batch in the file, which begins at a byte of it."""
-        size = RECORD.itemsize
-        return np.frombuffer(os.pread(self.file.fileno(), (stop - start) * size, begin + start * size), RECORD)
 
     def _sorted(self) -> Batch:
         """The batch in memory by asset and day; its days are noted."""
@@ -160,7 +158,7 @@ class Bars:
         there = asset[begins]
         self.first[there] = np.minimum(self.first[there], day[begins])
         self.last[there] = np.maximum(self.last[there], day[ends])
-        return Batch(lambda start, stop: records[order[start:stop]], starts)
+        return Batch(partial(_taken, records, order), starts)
 
     def end(self) -> None:
         """End the taking in; from here on the attributes are those of all bars."""
@@ -170,7 +168,7 @@ class Bars:
             self.batches.append(self._sorted())
         self.batches = [Batch(read, np.append(starts, np.full(len(self.numbers) + 1 - len(starts), starts[-1]))) for read, starts in self.batches]
 
-    def write(self, out: BinaryIO, sids: np.ndarray, progress: bool = False) -> int:
+    def write(self, out: BinaryIO, sids: Array, progress: bool = False) -> int:
         """Write the lines of the bars that have a value, by sid and session; their count.
 
         Parameters
@@ -202,13 +200,13 @@ class Bars:
             raise DataFault(f"bars: {told}{rows}{and_others(doubled - 1, verb=True)}")
         return written
 
-    def _groups(self, sids: np.ndarray) -> Iterator[tuple[np.ndarray, np.ndarray]]:
+    def _groups(self, sids: Array) -> Iterator[tuple[Array, Array]]:
         """All bars by sid and day, those of some assets at a time, with numbers that are in this order."""
         if not len(sids):
             return
         places = np.unique(sids, return_inverse=True)[1]
         assets = np.argsort(sids, kind="stable")
-        counts = sum(np.diff(batch.starts) for batch in self.batches)[assets]
+        counts = np.sum([np.diff(batch.starts) for batch in self.batches], axis=0)[assets]
         new = np.append(True, np.diff(sids[assets]) > 0)  # two symbols of one sid stay together
         groups = (np.cumsum(counts) // GROUP)[np.flatnonzero(new)[np.cumsum(new) - 1]]
         begins = np.flatnonzero(np.diff(groups, prepend=-1))
@@ -230,13 +228,25 @@ class Bars:
             self.path.unlink()
 
 
-def _keys(assets: np.ndarray, days: np.ndarray) -> np.ndarray:
+def _taken(records: Array, order: Array, start: int, stop: int) -> Array:
+    """Records of the batch in memory, by their places in its order."""
+    found: Array = records[order[start:stop]]
+    return found
+
+
+def _read(file: int, begin: int, start: int, stop: int) -> Array:
+    """Records of a batch that begins at a byte of a file."""
+    size = RECORD.itemsize
+    return np.frombuffer(os.pread(file, (stop - start) * size, begin + start * size), RECORD)
+
+
+def _keys(assets: Array, days: Array) -> Array:
     """Numbers in the order of assets and days."""
     return (assets.astype("i8") << 32) + (days + np.int64(1 << 31))
 
 
 @contextmanager
-def gathered(folder: Path, bars: AnyBars, progress: bool = False, kept: Optional[Callable[[pd.DataFrame], np.ndarray]] = None) -> Iterator[Bars]:
+def gathered(folder: Path, bars: AnyBars, progress: bool = False, kept: Optional[Callable[[pd.DataFrame], Array]] = None) -> Iterator[Bars]:
     """Bars of any form, whose batches are in the folder within the block; of the rows of frames those that `kept` says, or all."""
     found = Bars(folder)
     try:
@@ -257,9 +267,10 @@ def gathered(folder: Path, bars: AnyBars, progress: bool = False, kept: Optional
 def _frames(bars: AnyBars) -> Iterator[tuple[Optional[pd.Index], Iterable[Union[pd.DataFrame, Mapping[str, pd.DataFrame]]]]]:
     """Each frame in slices, so that no copy of a whole one is made, with its index where its rows are the bars."""
     if isinstance(bars, Mapping):
-        first = next(iter(bars.values()), None)
-        if bars and all(isinstance(frame, pd.DataFrame) and frame.index.equals(first.index) for frame in bars.values()):
-            yield None, ({name: frame.iloc[step] for name, frame in bars.items()} for step in _steps(len(first), first.shape[1]))
+        frames = list(bars.values())
+        if frames and all(isinstance(frame, pd.DataFrame) and frame.index.equals(frames[0].index) for frame in frames):
+            steps = _steps(*frames[0].shape)
+            yield None, ({name: frame.iloc[step] for name, frame in bars.items()} for step in steps)
         else:
             yield None, [bars]
         return
@@ -276,12 +287,13 @@ def _steps(length: int, width: int) -> Iterator[slice]:
     return (slice(start, start + size) for start in range(0, length, size))
 
 
-def progress_bar(wanted: bool, told: str, total: Optional[int] = None) -> ContextManager:
+def progress_bar(wanted: bool, told: str, total: Optional[int] = None) -> ContextManager[Any]:
     """A bar of progress, where it is wanted and tqdm is there."""
     if wanted:
         try:
             from tqdm import tqdm
-            return tqdm(total=total, desc=told, unit="", unit_scale=True)
+            bar: ContextManager[Any] = tqdm(total=total, desc=told, unit="", unit_scale=True)
+            return bar
         except ImportError:
             pass
     return nullcontext()
@@ -305,7 +317,7 @@ def as_text(day: int) -> str:
     return str(np.datetime64(int(day), "D"))
 
 
-def millionths(values: np.ndarray) -> np.ndarray:
+def millionths(values: Array) -> Array:
     """Floats up to 10^11 as whole millionths, rounded as ``%.6f`` rounds them; MISSING for NaN.
 
     >>> millionths(np.array([1.5, 1.0000005, 0.0000005, -0.25, 1e11, np.nan])).tolist()[:5]
@@ -316,7 +328,7 @@ def millionths(values: np.ndarray) -> np.ndarray:
     whole = np.floor(sizes)
     part = (sizes - whole) * 1e6  # the difference is exact, the product is rounded
     near = np.rint(part)
-    found = whole.astype("i8") * 1_000_000 + near.astype("i8")
+    found: Array = whole.astype("i8") * 1_000_000 + near.astype("i8")
     ties = np.flatnonzero(np.abs(near - part) == 0.5)  # only here can that have moved it past a half
     if len(ties):
         found[ties] = [int(f"{size:.6f}".replace(".", "")) for size in sizes[ties].tolist()]
@@ -325,7 +337,7 @@ def millionths(values: np.ndarray) -> np.ndarray:
     return found
 
 
-def lines(sids: np.ndarray, days: np.ndarray, cells: np.ndarray) -> bytes:
+def lines(sids: Array, days: Array, cells: Array) -> bytes:
     """The lines of bars: all fields at their greatest width, without the zero bytes that fill them.
 
     >>> print(lines(np.array([7, 107]), np.array([0, 19_724]), np.array([[1, 25, -500_000, 10**12, MISSING], [0] * 5])).decode(), end="")
@@ -338,7 +350,7 @@ def lines(sids: np.ndarray, days: np.ndarray, cells: np.ndarray) -> bytes:
     wholes = sizes // 1_000_000
     fractions = (sizes - wholes * 1_000_000).astype("u4")
     widths = [-(-len(str(int(greatest))) // 4) for greatest in (sids.max(), *wholes.max(axis=1))]
-    form: list[tuple] = [("sid", "u4", (widths[0],)), ("day", "S11")]
+    form: list[tuple[Any, ...]] = [("sid", "u4", (widths[0],)), ("day", "S11")]
     for name, width in zip(BARS, widths[1:]):
         form += [(f"{name} sign", "S2"), (f"{name} whole", "u4", (width,)), (f"{name} point", "u4"), (f"{name} end", "u4")]
     row = np.zeros(1, np.dtype([*form, ("end", "S1")]))
@@ -362,12 +374,12 @@ def lines(sids: np.ndarray, days: np.ndarray, cells: np.ndarray) -> bytes:
 
 
 @lru_cache(8)
-def _day_texts(first: int, last: int) -> np.ndarray:
+def _day_texts(first: int, last: int) -> Array:
     """The days from one to another after a comma, since most blocks have the same ones."""
     return np.char.add(b",", np.arange(first, last + 1).astype("datetime64[D]").astype("S10"))
 
 
-def _digits(numbers: np.ndarray, found: np.ndarray) -> None:
+def _digits(numbers: Array, found: Array) -> None:
     """The digits of whole numbers from 0 on, by fours from the right, with zero bytes in front."""
     width = found.shape[1]
     rest = numbers.astype("u4") if width <= 2 else numbers

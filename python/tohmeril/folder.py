@@ -40,7 +40,7 @@ class Held:
         except FileNotFoundError:
             return False
 
-    def __del__(self):
+    def __del__(self) -> None:
         if hasattr(self, "lock"):
             os.close(self.lock)
 

@@ -7,7 +7,7 @@ import warnings
 from fractions import Fraction
 from numbers import Integral
 from pathlib import Path
-from typing import TYPE_CHECKING, Any, Callable, Iterable, Mapping, Optional, Sequence, Union
+from typing import Any, Callable, Iterable, Mapping, Optional, Sequence, Union
 
 import numpy as np
 import pandas as pd
@@ -20,10 +20,6 @@ from .faults import DataFault
 from .pipeline.script import BARS, is_name
 from .pipeline.term import GREATEST
 
-if TYPE_CHECKING:
-    from typing_extensions import TypeAlias
-
-Frame: TypeAlias = pd.DataFrame
 OTHER = {
     "sid": ("asset", "symbol", "ticker"),
     "session": ("date", "day"),
@@ -40,6 +36,7 @@ GREATEST_SID = 2**32 - 1
 PUBLISHED = ("labels", "numbers", "revisions")  # what becomes known on a day, perhaps after the close
 ADJUSTED = re.compile("adj|^raw|raw$")  # of names in small letters alone: another version of a price
 EVENTS = re.compile("^(stock)?split|^div|^capitalgain")
+NO_SYMBOL = "where the symbol is NA or NAN, read the file with keep_default_na=False"
 NEGATIVE = (
     "in CRSP such a price is a mean of bid and ask: give .abs()",
     "in CRSP a volume of -99 is a missing one: give NaN",
@@ -73,7 +70,7 @@ class Sids:
     def __call__(self, assets: pd.Series, what: str) -> pd.Series:
         codes, distinct = pd.factorize(assets.to_numpy())  # of objects, too, without a guess at their type
         if (codes < 0).any():
-            raise DataFault(f"{what}: an asset is missing", rows_of(assets, codes < 0))
+            raise DataFault(f"{what}: an asset is missing", f"{rows_of(assets, codes < 0)}; {NO_SYMBOL}")
         sids = np.empty(len(distinct), dtype="int64")
         for at, asset in enumerate(distinct):
             try:
@@ -96,7 +93,7 @@ class Sids:
             raise DataFault(f"{what}: no asset has the symbol {asset!r}")
         return self.known[asset]
 
-    def records(self, frame: Frame, what: str) -> Frame:
+    def records(self, frame: pd.DataFrame, what: str) -> pd.DataFrame:
         """A frame with sids and days as the program writes them."""
         days = {name: read_days(frame[name], what, seconds=name == "effective_date") for name in DAYS if name in frame}
         return frame.assign(sid=self(frame.sid, what), **days)
@@ -114,11 +111,10 @@ def read_asset(asset: Any, what: str) -> Union[int, str]:
         return str(asset)
     sid = whole_number(asset)
     if sid is None:
-        missing = asset is None or asset is pd.NA or asset != asset
-        raise DataFault(
-            f"{what}: an asset is missing" if missing else f"{what}: {asset!r} is neither a sid nor a symbol",
-            f"a sid is a whole number from 0 to {GREATEST_SID}, a symbol is a text",
-        )
+        if asset is None or asset is pd.NA or asset != asset:
+            raise DataFault(f"{what}: an asset is missing", NO_SYMBOL)
+        hint = f"a sid is a whole number from 0 to {GREATEST_SID}, a symbol is a text"
+        raise DataFault(f"{what}: {asset!r} is neither a sid nor a symbol", hint)
     if not 0 <= sid <= GREATEST_SID:
         raise DataFault(f"{what}: {sid} is no sid", f"a sid is a whole number from 0 to {GREATEST_SID}")
     return sid
@@ -158,7 +154,7 @@ def whole_number(value: Any) -> Optional[int]:
     return None
 
 
-def rows_of(rows: Union[pd.Series, Frame], wrong: NDArray[Any]) -> str:
+def rows_of(rows: Union[pd.Series, pd.DataFrame], wrong: NDArray[Any]) -> str:
     """The first wrong row of a column, and how many others there are."""
     return f"row {rows.index[wrong.argmax()]}{and_others(int(wrong.sum()) - 1)}"
 
@@ -199,12 +195,12 @@ def late_parts(after_close: Union[bool, str, Iterable[str]]) -> frozenset[str]:
     return frozenset(parts)
 
 
-def has_column(frame: Frame, name: str) -> bool:
+def has_column(frame: pd.DataFrame, name: str) -> bool:
     """Whether a frame has a column of this name or of another one for it."""
     return not {name, *OTHER.get(name, ())}.isdisjoint(str(each).lower() for each in frame.columns)
 
 
-def select_columns(frame: Frame, what: str, *wanted: str, optional: Iterable[str] = ()) -> Frame:
+def select_columns(frame: pd.DataFrame, what: str, *wanted: str, optional: Iterable[str] = ()) -> pd.DataFrame:
     """These columns of a frame, or those of its file.
 
     They may have other names, in letters of any size, and may be in the frame's index. Those that are optional and not
@@ -227,14 +223,14 @@ def select_columns(frame: Frame, what: str, *wanted: str, optional: Iterable[str
                 f"there are {listed(frame.columns)}",
             )
         chosen[name] = frame[own[0]] if own else np.nan
-    return Frame(chosen, index=frame.index)
+    return pd.DataFrame(chosen, index=frame.index)
 
 
 def listed(names: Iterable[Any]) -> str:
     return ", ".join(map(str, names)) or "none"
 
 
-def require_unique(frame: Frame, key: list[str], what: str) -> Frame:
+def require_unique(frame: pd.DataFrame, key: list[str], what: str) -> pd.DataFrame:
     """The frame, in which no two rows have one key."""
     doubled = frame[frame.duplicated(key, keep=False)]
     if len(doubled):
@@ -256,21 +252,21 @@ def to_numbers(values: pd.Series, what: str) -> pd.Series:
     return numbers
 
 
-def to_long(frame: Frame, row: str, name: str) -> Frame:
+def to_long(frame: pd.DataFrame, row: str, name: str) -> pd.DataFrame:
     """A wide frame, with a column for each asset, as rows of `row`, sid and value."""
     return frame.rename_axis(index=row, columns="sid").reset_index().melt(row, var_name="sid", value_name=name)
 
 
-def by_day(frame: Any, part: str, name: Any, read: Callable[[pd.Series, str], pd.Series]) -> Frame:
+def by_day(frame: Any, part: str, name: Any, read: Callable[[pd.Series, str], pd.Series]) -> pd.DataFrame:
     """A wide frame with its days as `read` gives them, each once."""
     if not isinstance(frame, pd.DataFrame):
         raise DataFault(f"{part}: {name} is no frame", "one has a row for each day and a column for each asset")
     days = read(pd.Series(frame.index, dtype=frame.index.dtype, name=f"the index of {name}"), part)
-    require_unique(Frame({"day": days}), ["day"], f"{part}: {name}")
+    require_unique(pd.DataFrame({"day": days}), ["day"], f"{part}: {name}")
     return frame.set_axis(days.to_numpy(), axis=0)
 
 
-def long_bars(bars: Union[Frame, Mapping[str, Frame]]) -> Frame:
+def long_bars(bars: Union[pd.DataFrame, Mapping[str, pd.DataFrame]]) -> pd.DataFrame:
     """Bars of any of the forms as sid, session and the five columns."""
     if isinstance(bars, pd.DataFrame) and bars.columns.nlevels == 2:
         level = int(bool({str(name).lower() for name in bars.columns.unique(1)} & set(BARS)))
@@ -306,7 +302,7 @@ def refuse_versions(columns: Iterable[Any]) -> None:
         )
 
 
-def bars_by_name(bars: Mapping[str, Frame]) -> Frame:
+def bars_by_name(bars: Mapping[str, pd.DataFrame]) -> pd.DataFrame:
     """Bars that are given by name, as wide frames, as one long frame."""
     wide: dict[str, pd.Series] = {}
     for given, frame in bars.items():
@@ -328,7 +324,7 @@ def bars_by_name(bars: Mapping[str, Frame]) -> Frame:
     )
 
 
-def long_labels(labels: Union[Frame, Mapping[Any, Any]], first: str, late: bool = False) -> Frame:
+def long_labels(labels: Union[pd.DataFrame, Mapping[Any, Any]], first: str, late: bool = False) -> pd.DataFrame:
     """Labels of any of the forms as name, sid, start and label; those without a day start with the first session."""
 
     def read(values: pd.Series, what: str) -> pd.Series:
@@ -349,10 +345,10 @@ def long_labels(labels: Union[Frame, Mapping[Any, Any]], first: str, late: bool 
         rows = to_long(frame.astype(object).where(frame.notna(), ""), "start", "label")
         changed = rows.label.ne(rows.groupby("sid", sort=False).label.shift(fill_value=""))
         parts.append(rows[changed].sort_values("start", kind="stable").assign(name=name))
-    return pd.concat(parts or [Frame(columns=HEADERS["labels"])], ignore_index=True)[HEADERS["labels"]]
+    return pd.concat(parts or [pd.DataFrame(columns=HEADERS["labels"])], ignore_index=True)[HEADERS["labels"]]
 
 
-def long_revisions(revisions: Frame, late: bool = False) -> Frame:
+def long_revisions(revisions: pd.DataFrame, late: bool = False) -> pd.DataFrame:
     """Revisions as sid, session, column, value and known."""
     found = select_columns(revisions, "revisions")
     names = found.column.astype(str).str.lower()
@@ -367,16 +363,16 @@ def long_revisions(revisions: Frame, late: bool = False) -> Frame:
     )
 
 
-def long_numbers(numbers: Union[Frame, Mapping[Any, Any]], late: bool = False) -> Frame:
+def long_numbers(numbers: Union[pd.DataFrame, Mapping[Any, Any]], late: bool = False) -> pd.DataFrame:
     """Numbers of either form as name, sid, known and value."""
     if isinstance(numbers, pd.DataFrame):
         found = select_columns(numbers, "numbers")
         found = found.assign(known=read_known(found.known, "numbers", late))
     else:
         names = [getattr(key, "name", key) for key in numbers]  # of texts and of a DataSet's columns
-        require_unique(Frame({"name": names}), ["name"], "numbers")
+        require_unique(pd.DataFrame({"name": names}), ["name"], "numbers")
         parts = [changes(name, frame, late) for name, frame in zip(names, numbers.values())]
-        found = pd.concat(parts or [Frame(columns=HEADERS["numbers"])], ignore_index=True)
+        found = pd.concat(parts or [pd.DataFrame(columns=HEADERS["numbers"])], ignore_index=True)
     found = found.assign(value=to_numbers(found.value, "numbers"))
     names = [name for name in found["name"].unique() if isinstance(name, str) and is_name(name)]
     named, great = found["name"].isin(names).to_numpy(), (found.value.abs() > float(GREATEST)).to_numpy()
@@ -393,7 +389,7 @@ def long_numbers(numbers: Union[Frame, Mapping[Any, Any]], late: bool = False) -
     return require_unique(found, ["name", "sid", "known"], "numbers")
 
 
-def changes(name: str, frame: Frame, late: bool = False) -> Frame:
+def changes(name: str, frame: pd.DataFrame, late: bool = False) -> pd.DataFrame:
     """The values of a wide frame that differ from those of its row before."""
     rows = to_long(
         by_day(frame, "numbers", name, lambda values, what: read_known(values, what, late)).sort_index(),
@@ -405,7 +401,7 @@ def changes(name: str, frame: Frame, late: bool = False) -> Frame:
     return rows.sort_values("known", kind="stable").assign(name=name)[HEADERS["numbers"]]
 
 
-def warn_of_periods(found: Frame) -> None:
+def warn_of_periods(found: pd.DataFrame) -> None:
     """Warn of numbers that are known by the end of the period that they are of."""
     ends = {period: last_day(period) for period in found.period.dropna().drop_duplicates()}
     found = found.assign(end=found.period.map(ends).fillna(""))
@@ -457,7 +453,7 @@ def ratio(value: Any, inverse: bool = False) -> Fraction:
     return 1 / exact if inverse else exact
 
 
-def ratios(frame: Frame, what: str, sids: Sids) -> Iterable[tuple[int, int, int, int]]:
+def ratios(frame: pd.DataFrame, what: str, sids: Sids) -> Iterable[tuple[int, int, int, int]]:
     """The rows of a table of adjustments: effective date in seconds since 1970, the ratio's two numbers, sid."""
     kinds = [kind for kind in (["num", "den"], ["split"], ["ratio"]) if all(has_column(frame, name) for name in kind)]
     if len(kinds) > 1:
@@ -484,7 +480,7 @@ def ratios(frame: Frame, what: str, sids: Sids) -> Iterable[tuple[int, int, int,
         yield date, exact.numerator, exact.denominator, int(sid)
 
 
-def payouts(folder: Path, frame: Frame, sids: Sids) -> list[tuple[int, int, int, int]]:
+def payouts(folder: Path, frame: pd.DataFrame, sids: Sids) -> list[tuple[int, int, int, int]]:
     """Payouts in cash as rows of the table of dividends, by the program; a warning lists those that it skips."""
     given = select_columns(frame, "dividends", "sid", "ex", "amount")
     assets, given = given.sid, sids.records(given, "dividends").assign(amount=to_numbers(given.amount, "dividends"))

@@ -8,7 +8,7 @@ import sqlite3
 import warnings
 from contextlib import closing
 from pathlib import Path
-from typing import Container, Iterable, Mapping, NamedTuple, Optional, Sequence, Union
+from typing import TYPE_CHECKING, Any, Container, Iterable, Mapping, NamedTuple, Optional, Sequence, Union
 
 import numpy as np
 import pandas as pd
@@ -19,10 +19,13 @@ from .data import FILES, HEADERS, NEEDED, SECONDS, TABLES, Data, read_only
 from .days import Day, read_day
 from .faults import DataFault, LimitFault, ReadFault, StoreFault
 from .folder import writing
-from .frames import FOREVER, Sids, and_others, late_parts, require_unique, select_columns
+from .frames import FOREVER, Sids, and_others, late_parts, read_symbols, require_unique, select_columns
 from .ingest import add_adjustments, adjustments, beside_bars, calendar, of_parts, write_records
 from .odd import PROBE
 from .pipeline.script import BARS
+
+if TYPE_CHECKING:
+    Array = np.ndarray[Any, Any]
 
 FIRST = {"labels": "start", "numbers": "known", "revisions": "known"}  # the day from which on sessions see a record
 LISTED = 5  # assets in a sentence
@@ -35,9 +38,9 @@ class Store(NamedTuple):
     lives: pd.DataFrame
 
 
-def append(folder: Union[str, Path], bars: Optional[AnyBars] = None, *, sessions: Optional[Iterable] = None, assets: Optional[pd.DataFrame] = None,
+def append(folder: Union[str, Path], bars: Optional[AnyBars] = None, *, sessions: Optional[Iterable[Day]] = None, assets: Optional[pd.DataFrame] = None,
            splits: Optional[pd.DataFrame] = None, mergers: Optional[pd.DataFrame] = None, dividends: Optional[pd.DataFrame] = None,
-           labels: Union[pd.DataFrame, Mapping, None] = None, revisions: Optional[pd.DataFrame] = None, numbers: Union[pd.DataFrame, Mapping, None] = None,
+           labels: Union[pd.DataFrame, Mapping[Any, Any], None] = None, revisions: Optional[pd.DataFrame] = None, numbers: Union[pd.DataFrame, Mapping[Any, Any], None] = None,
            symbols: Optional[Mapping[str, int]] = None, after_close: Union[bool, str, Iterable[str]] = (), late: Optional[Day] = None) -> Data:
     """Add what came since the last session of a folder, at once, and as seen from then on alone.
 
@@ -112,9 +115,9 @@ def _opened(folder: Path) -> Store:
     return Store(data, data.sessions[-1], lives)
 
 
-def _kept(rows: pd.DataFrame, store: Store, late: Optional[Day], early: list[pd.DataFrame]) -> np.ndarray:
+def _kept(rows: pd.DataFrame, store: Store, late: Optional[Day], early: list[pd.DataFrame]) -> Array:
     """Which bars are no earlier than the last session; the others are put to the early ones, where they may be late."""
-    kept = (rows.session >= store.last).to_numpy()
+    kept: Array = (rows.session >= store.last).to_numpy()
     if not kept.all():
         first = rows[~kept].iloc[0]
         if late is None:
@@ -125,7 +128,7 @@ def _kept(rows: pd.DataFrame, store: Store, late: Optional[Day], early: list[pd.
     return kept
 
 
-def _sids(store: Store, assets: Sequence, symbols: Optional[Mapping[str, int]]) -> Sids:
+def _sids(store: Store, assets: Sequence[Union[int, str]], symbols: Optional[Mapping[str, int]]) -> Sids:
     """The sids of assets, where new symbols get new ones."""
     fresh = sorted({asset for asset in assets if isinstance(asset, str)})
     if store.data.symbols is None:
@@ -133,17 +136,18 @@ def _sids(store: Store, assets: Sequence, symbols: Optional[Mapping[str, int]]) 
             raise DataFault(f"bars: the data have no symbols, so no {fresh[0]!r}", "give sids, as the folder was written with them")
         return Sids([*store.lives.index, *assets], None)
     known = dict(zip(store.data.symbols, map(int, store.data.symbols.index)))
+    symbols = None if symbols is None else read_symbols(symbols)
     fresh = [symbol for symbol in fresh if symbol not in known]
     after = max([*known.values(), *store.lives.index], default=-1) + 1
     for at, symbol in enumerate(fresh, after):
         sid = at if symbols is None else symbols.get(symbol)
         if sid is None or sid in known.values():
             raise DataFault(f"symbols: there is no sid of {symbol!r}" if sid is None else f"symbols: the sid {sid} of {symbol!r} is of another")
-        known[symbol] = int(sid)
+        known[symbol] = sid
     return Sids([*known, *store.lives.index], known)
 
 
-def _refuse_bars(store: Store, found: Bars, sids: np.ndarray) -> None:
+def _refuse_bars(store: Store, found: Bars, sids: Array) -> None:
     """Refuse bars of the last session that are there already."""
     again = [at for at in np.flatnonzero(found.first == as_number(store.last))]
     there = _sids_on(store.data.files["bars"], store.last) if again else set()
@@ -165,7 +169,7 @@ def _sids_on(path: Path, session: str) -> set[int]:
     return sids
 
 
-def _next_sessions(store: Store, found: Bars, sessions: Optional[Iterable]) -> list[str]:
+def _next_sessions(store: Store, found: Bars, sessions: Optional[Iterable[Day]]) -> list[str]:
     """The sessions after the last one."""
     bars = [each for each in map(as_text, sorted(found.days)) if each > store.last]
     if sessions is None:
@@ -179,7 +183,7 @@ def _next_sessions(store: Store, found: Bars, sessions: Optional[Iterable]) -> l
     return days
 
 
-def _lives(store: Store, found: Bars, own: np.ndarray, early: list[pd.DataFrame], sids: Sids, given: Optional[pd.DataFrame]) -> pd.DataFrame:
+def _lives(store: Store, found: Bars, own: Array, early: list[pd.DataFrame], sids: Sids, given: Optional[pd.DataFrame]) -> pd.DataFrame:
     """The lifetimes that are new or others, where they change no row up to the last session."""
     there = found.first <= found.last
     starts = {**{int(sid): store.last for rows in early for sid in sids(rows.sid, "bars")},
@@ -199,14 +203,15 @@ def _lives(store: Store, found: Bars, own: np.ndarray, early: list[pd.DataFrame]
     return pd.DataFrame([(sid, *days) for sid, days in sorted(lives.items())], columns=HEADERS["assets"])
 
 
-def _beside(store: Store, sids: Sids, days: list[str], labels, revisions, numbers, after_close: Container[str], early: list[pd.DataFrame],
+def _beside(store: Store, sids: Sids, days: list[str], labels: Union[pd.DataFrame, Mapping[Any, Any], None],
+            revisions: Optional[pd.DataFrame], numbers: Union[pd.DataFrame, Mapping[Any, Any], None], after_close: Container[str], early: list[pd.DataFrame],
             late: Optional[Day]) -> dict[str, pd.DataFrame]:
     """The new records of the other files, which are seen after the last session alone."""
     first = days[0] if days else as_text(as_number(store.last) + 1)
     files = beside_bars(sids, first, labels, revisions, numbers, after_close)
     if early:
         cells = pd.concat(early).melt(["sid", "session"], list(BARS), "column", "value").dropna(subset=["value"])
-        cells = sids.records(cells.assign(known=read_day(late), value=pd.to_numeric(cells.value).astype("float64")), "bars")
+        cells = sids.records(cells.assign(known=read_day(late, "late"), value=pd.to_numeric(cells.value).astype("float64")), "bars")
         files["revisions"] = pd.concat([*filter(None.__ne__, [files.get("revisions")]), cells])[HEADERS["revisions"]]
     for part, name in FIRST.items():
         wrong = files[part][files[part][name] <= store.last] if part in files else ()
@@ -215,12 +220,12 @@ def _beside(store: Store, sids: Sids, days: list[str], labels, revisions, number
             raise DataFault(f"{part}: a record of {_name(sids, record.sid)} {verb} on {record[name]}, and rows up to {store.last}, the last session, were "
                             "shown without it", f"give the day from which on it was known here, which is later; there are {len(wrong)} such")
     if "symbols" in files:
-        there = set(store.data.symbols)
+        there = set(store.data.symbols if store.data.symbols is not None else ())
         files["symbols"] = files["symbols"][[symbol not in there for symbol in files["symbols"].symbol]]
     return files
 
 
-def _write_bars(store: Store, new: Path, found: Bars, sids: np.ndarray) -> int:
+def _write_bars(store: Store, new: Path, found: Bars, sids: Array) -> int:
     """Write the bars after those that were there; their count."""
     copied(store.data.files["bars"], new / FILES["bars"])
     with open(new / FILES["bars"], "ab") as out:
@@ -238,7 +243,7 @@ def copied(source: Path, target: Path) -> None:
 def _add(store: Store, new: Path, part: str, frame: Optional[pd.DataFrame], days: list[str]) -> int:
     """Write the records of a part after those that were there; lifetimes replace those of their assets. Their count."""
     path = new / FILES[part]
-    if part == "assets":
+    if part == "assets" and frame is not None:
         lives = store.lives.reset_index()[HEADERS[part]]
         pd.concat([lives[~lives.sid.isin(frame.sid)], frame]).to_csv(path, index=False)
         return len(frame)
@@ -291,7 +296,7 @@ def _judge(new: Path) -> None:
         pass
 
 
-def _warn(store: Store, sids: Sids, lives: pd.DataFrame, found: Bars, own: np.ndarray, days: list[str]) -> None:
+def _warn(store: Store, sids: Sids, lives: pd.DataFrame, found: Bars, own: Array, days: list[str]) -> None:
     """Warn of assets whose end is reached, and of bars of those that have ended."""
     ends = store.lives["end"].to_dict()
     ends.update(zip(lives.sid, lives.end))

@@ -15,7 +15,7 @@ import pandas as pd
 
 from .days import Day, read_day, read_days
 from .faults import DataFault
-from .frames import FOREVER, Frame, listed, ratio, to_long, to_numbers
+from .frames import FOREVER, listed, ratio, to_long, to_numbers
 from .pipeline.script import BARS
 
 PRICES = ("open", "high", "low", "close")
@@ -24,7 +24,9 @@ AS_REPORTED = ("ARQ", "ARY", "ART")
 BY_PERFORMANCE = range(500, 600)  # CRSP's codes of delistings for cause
 
 
-def yfinance(prices: Frame, symbol: Optional[str] = None, *, end: Optional[Day] = None) -> dict[str, Frame]:
+def yfinance(
+    prices: pd.DataFrame, symbol: Optional[str] = None, *, end: Optional[Day] = None
+) -> dict[str, pd.DataFrame]:
     """The frame of ``yfinance.download(tickers, auto_adjust=False, actions=True)`` or of `Ticker.history`.
 
     Yahoo's prices, volumes and dividends are adjusted by all splits up to the day of the download. The reader undoes
@@ -70,7 +72,7 @@ def yfinance(prices: Frame, symbol: Optional[str] = None, *, end: Optional[Day] 
     return parts if end is None else {part: frame[frame.date <= read_day(end, "end")] for part, frame in parts.items()}
 
 
-def stooq(prices: Frame, symbol: Optional[str] = None) -> dict[str, Frame]:
+def stooq(prices: pd.DataFrame, symbol: Optional[str] = None) -> dict[str, pd.DataFrame]:
     """Stooq's daily bars: a file of its database, with <TICKER>, <PER>, <DATE> .., or of its site, with Date, Open ...
 
     Parameters
@@ -99,9 +101,9 @@ def stooq(prices: Frame, symbol: Optional[str] = None) -> dict[str, Frame]:
 
 
 def sharadar(
-    sep: Frame,
-    actions: Frame,
-    sf1: Optional[Frame] = None,
+    sep: pd.DataFrame,
+    actions: pd.DataFrame,
+    sf1: Optional[pd.DataFrame] = None,
     *,
     fields: Optional[Mapping[str, float]] = None,
     dimension: str = "ARQ",
@@ -175,7 +177,7 @@ def sharadar(
     return parts if sf1 is None else {**parts, **_filings(sf1, rows.symbol, fields or {}, dimension)}
 
 
-def _filings(sf1: Frame, symbols: pd.Series, fields: Mapping[str, float], dimension: str) -> dict[str, Any]:
+def _filings(sf1: pd.DataFrame, symbols: pd.Series, fields: Mapping[str, float], dimension: str) -> dict[str, Any]:
     """The figures of SF1 as numbers that are known after the close of their datekey."""
     if dimension not in AS_REPORTED:
         raise DataFault(
@@ -202,7 +204,9 @@ def _filings(sf1: Frame, symbols: pd.Series, fields: Mapping[str, float], dimens
     return {"numbers": pd.concat(parts, ignore_index=True), "after_close": "numbers"}
 
 
-def crsp(daily: Frame, delisting: Optional[Frame] = None, *, unknown_return: Optional[float] = None) -> dict[str, Any]:
+def crsp(
+    daily: pd.DataFrame, delisting: Optional[pd.DataFrame] = None, *, unknown_return: Optional[float] = None
+) -> dict[str, Any]:
     """CRSP's daily file, with its distributions and delistings, by PERMNO.
 
     A price below 0 is a mean of bid and ask and is taken without its sign; 0 is a missing price, and -99 a missing
@@ -259,7 +263,7 @@ def crsp(daily: Frame, delisting: Optional[Frame] = None, *, unknown_return: Opt
     return parts
 
 
-def _distributions(rows: Frame) -> dict[str, Frame]:
+def _distributions(rows: pd.DataFrame) -> dict[str, pd.DataFrame]:
     """Splits, other factors of the price, and dividends of CRSP's rows."""
     if "facpr" in rows:
         price, shares = (
@@ -287,7 +291,7 @@ def _distributions(rows: Frame) -> dict[str, Frame]:
     return parts
 
 
-def _changes(rows: Frame) -> Frame:
+def _changes(rows: pd.DataFrame) -> pd.DataFrame:
     """The factors by which CFACPR and CFACSHR change, on the days of their changes."""
     shares = "cfacshr" if "cfacshr" in rows else "cfacpr"
     cells = {"price": to_numbers(rows.cfacpr, "CRSP"), "shares": to_numbers(rows[shares], "CRSP")}
@@ -304,7 +308,9 @@ def _changes(rows: Frame) -> Frame:
     )
 
 
-def _delisted(bars: Frame, lives: Frame, ends: Frame, unknown: Optional[float]) -> tuple[Frame, Frame]:
+def _delisted(
+    bars: pd.DataFrame, lives: pd.DataFrame, ends: pd.DataFrame, unknown: Optional[float]
+) -> tuple[pd.DataFrame, pd.DataFrame]:
     """The bars with one more for each delisting return, and the lifetimes that reach the session after it."""
     _need(ends, ["symbol", "dlstcd", "dlret"], "CRSP")
     codes = to_numbers(ends.dlstcd, "CRSP")
@@ -322,7 +328,9 @@ def _delisted(bars: Frame, lives: Frame, ends: Frame, unknown: Optional[float]) 
     ends = ends[ends.index.isin(lasts.index)]
     after = {day: follower for day, follower in zip(days, [*days[1:], None])}
     date = lasts.date.reindex(ends.index).map(after)
-    added = Frame({"date": date, "close": lasts.close.reindex(ends.index) * (1 + ends.made)}).rename_axis("symbol")
+    added = pd.DataFrame({"date": date, "close": lasts.close.reindex(ends.index) * (1 + ends.made)}).rename_axis(
+        "symbol"
+    )
     kept = added[added.date.notna() & added.close.notna()].reset_index()
     if len(kept) < len(added):
         lost = added.index.difference(kept.symbol)
@@ -337,7 +345,7 @@ def _delisted(bars: Frame, lives: Frame, ends: Frame, unknown: Optional[float]) 
     return pd.concat([bars, kept], ignore_index=True), lives.assign(end=lives.symbol.map(ending).fillna(lives.end))
 
 
-def _lives(bars: Frame) -> Frame:
+def _lives(bars: pd.DataFrame) -> pd.DataFrame:
     """The lifetimes that `Data.write` takes by itself: from the first bar to the last one, or on and on."""
     lives = (
         bars[bars[[name for name in BARS if name in bars]].notna().any(axis=1)]
@@ -357,11 +365,21 @@ def sas_days(values: pd.Series) -> pd.Series:
     return pd.to_datetime(values, unit="D", origin="1960-01-01")
 
 
-def csvdir(folder: Union[str, Path]) -> dict[str, Frame]:
+def csvdir(folder: Union[str, Path]) -> dict[str, pd.DataFrame]:
     """The bars, splits and dividends of a folder of Zipline's csvdir bundle.
 
     Each file of ``folder/daily``, or of the folder itself, is named by its symbol and has date, open, high, low, close,
     volume, and perhaps dividend, in cash, and split, new shares for an old one.
+
+    Parameters
+    ----------
+    folder : str or Path
+        The bundle's folder, or the one of its files.
+
+    Returns
+    -------
+    dict of str to DataFrame
+        bars, and splits and dividends where the files have them, for ``Data.write(target, **csvdir(source))``.
 
     Raises
     ------
@@ -389,7 +407,7 @@ def csvdir(folder: Union[str, Path]) -> dict[str, Frame]:
     return {"bars": rows[[*KEYS, *BARS]], **events}
 
 
-def unadjust(bars: Frame, splits: Frame) -> Frame:
+def unadjust(bars: pd.DataFrame, splits: pd.DataFrame) -> pd.DataFrame:
     """Bars as they were quoted, from bars that later splits have adjusted.
 
     Prices are multiplied by the shares that one of their day has become since, and volumes are divided by them.
@@ -414,7 +432,7 @@ def unadjust(bars: Frame, splits: Frame) -> Frame:
     )
 
 
-def _later_splits(rows: Frame, splits: Frame, same_day: bool = False) -> pd.Series:
+def _later_splits(rows: pd.DataFrame, splits: pd.DataFrame, same_day: bool = False) -> pd.Series:
     """For each row the shares that one of its day has become since, or with `same_day` one of the day before."""
     places, factor = rows.groupby("symbol").indices, np.ones(len(rows))
     days, when = read_days(rows.date, "bars").to_numpy(), read_days(splits.date, "splits")
@@ -431,7 +449,7 @@ def _later_splits(rows: Frame, splits: Frame, same_day: bool = False) -> pd.Seri
     return pd.Series(factor, index=rows.index)
 
 
-def _of_symbols(prices: Frame, symbol: Optional[str], what: str) -> Frame:
+def _of_symbols(prices: pd.DataFrame, symbol: Optional[str], what: str) -> pd.DataFrame:
     """A frame by day, of one symbol or with a level of symbols in its columns, as rows with small letters as names."""
     days = read_days(pd.Series(prices.index, dtype=prices.index.dtype, name="the index"), what).to_numpy()
     if prices.columns.nlevels == 1:
@@ -452,7 +470,7 @@ def _of_symbols(prices: Frame, symbol: Optional[str], what: str) -> Frame:
     return pd.concat(tall, axis=1).reset_index()
 
 
-def _plain(frame: Frame, asset: str, what: str, needed: Iterable[str]) -> Frame:
+def _plain(frame: pd.DataFrame, asset: str, what: str, needed: Iterable[str]) -> pd.DataFrame:
     """A frame with small letters as names, and symbol and date as they are here."""
     plain = frame.reset_index(drop=all(name is None for name in frame.index.names)).rename(
         columns=lambda name: str(name).lower()
@@ -461,13 +479,13 @@ def _plain(frame: Frame, asset: str, what: str, needed: Iterable[str]) -> Frame:
     return plain.rename(columns={asset: "symbol"}).assign(date=read_days(plain.date, what))
 
 
-def _events(rows: Frame, name: str, own: str, none: float) -> Frame:
+def _events(rows: pd.DataFrame, name: str, own: str, none: float) -> pd.DataFrame:
     """The rows of a column that say something, under a name of their own."""
     values = to_numbers(rows[name], name)
     return rows[KEYS].assign(**{own: values})[values.notna() & (values != none)].reset_index(drop=True)
 
 
-def _need(frame: Frame, names: Iterable[str], what: str, hint: str = "") -> None:
+def _need(frame: pd.DataFrame, names: Iterable[str], what: str, hint: str = "") -> None:
     for name in names:
         if name not in frame:
             raise DataFault(f"{what}: there is no column {name}", hint or f"there are {listed(frame.columns)}")
