@@ -8,7 +8,7 @@
 left_out=,${TOHMERIL_WITHOUT:-},
 
 # Each part is a command or a module of Python; in the end the package of Debian that has it.
-declare -A command_of=([git]=git [graphviz]=dot [man]=man [parallel]=parallel [python3]=python3 [sqlite3]=sqlite3)
+declare -A command_of=([gcc]=gcc [git]=git [graphviz]=dot [man]=man [parallel]=parallel [python3]=python3 [sqlite3]=sqlite3)
 declare -A module_of=([black]=black [distributed]=distributed [matplotlib]=matplotlib [mypy]=mypy [pandas]=pandas [pytest]=pytest
     [setuptools]=setuptools [tqdm]=tqdm [venv]=ensurepip [wheel]=wheel)
 declare -A package_of=([man]=man-db [distributed]=python3-distributed [matplotlib]=python3-matplotlib [pandas]=python3-pandas

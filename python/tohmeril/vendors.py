@@ -371,6 +371,16 @@ def csvdir(folder: Union[str, Path]) -> dict[str, pd.DataFrame]:
     Each file of ``folder/daily``, or of the folder itself, is named by its symbol and has date, open, high, low, close,
     volume, and perhaps dividend, in cash, and split, new shares for an old one.
 
+    Parameters
+    ----------
+    folder : str or Path
+        The bundle's folder, or the one of its files.
+
+    Returns
+    -------
+    dict of str to DataFrame
+        bars, and splits and dividends where the files have them, for ``Data.write(target, **csvdir(source))``.
+
     Raises
     ------
     DataFault

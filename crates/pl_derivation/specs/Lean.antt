@@ -18,12 +18,14 @@ IsAt w lines i f = (l : Line) × (slice_get lines i ≡ Some l) × (fact_of w l 
 abbrev pub RestsOn : World → Pipeline → Fact → Fact → Type 0
 RestsOn w p f g = is_in (premises w p (number_in w p) f) g ≡ true
 
--- Each line is about a fact. What a fact rests on stands before it. Each but the last is what a later one rests
--- on. No fact stands at two places.
+-- Each line is about a fact. What a fact rests on stands before it. Each but the last is what a later one
+-- rests on. No fact stands at two places.
 pub record IsLean (w : World) (p : Pipeline) (lines : List Line) : Type 0 where
   pub about : (i : ℕ) → i < length lines → (f : Fact) × IsAt w lines i f
-  pub closed : (i : ℕ) (f g : Fact) → IsAt w lines i f → RestsOn w p f g → (j : ℕ) × (j < i) × IsAt w lines j g
-  pub needed : (i : ℕ) (g : Fact) → IsAt w lines i g → suc i < length lines → (j : ℕ) × (f : Fact) × (i < j) × IsAt w lines j f × RestsOn w p f g
+  pub closed : (i : ℕ) (f g : Fact) → IsAt w lines i f → RestsOn w p f g
+      → (j : ℕ) × (j < i) × IsAt w lines j g
+  pub needed : (i : ℕ) (g : Fact) → IsAt w lines i g → suc i < length lines
+      → (j : ℕ) × (f : Fact) × (i < j) × IsAt w lines j f × RestsOn w p f g
   pub once : (i j : ℕ) (f : Fact) → IsAt w lines i f → IsAt w lines j f → i ≡ j
 
 -- So is the derivation of each value that can be explained.

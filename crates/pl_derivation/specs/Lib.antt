@@ -1,5 +1,5 @@
--- What the contracts cite: lines and their text; facts and what they rest on, right lines, walks; lean lists; the
--- laws.
+-- What the contracts cite: lines and their text; facts and what they rest on, right lines, walks; lean
+-- lists; the laws.
 pub mod Lines
 pub mod Texts
 pub mod Listed

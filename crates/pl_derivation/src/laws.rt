@@ -39,8 +39,8 @@ pub fn walks_grow()
     ensures { WalksGrow }
 {}
 
-/// The derivation of a cell has no gap and no line too many: what a line rests on stands before it, each line but
-/// the last is what a later one rests on, and no fact has two lines.
+/// The derivation of a cell has no gap and no line too many: what a line rests on stands before it, each
+/// line but the last is what a later one rests on, and no fact has two lines.
 pub fn derivations_are_lean()
     ensures { DerivationsAreLean }
 {}

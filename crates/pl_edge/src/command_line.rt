@@ -54,7 +54,8 @@ impl<T: Drop> From<AllocFailed<T>> for StartError {
 /// is not in UTF-8, `Memory` where memory ran out.
 pub fn words(alloc: Global, args: io::Result<Args>) -> Result<Vec<String>, StartError>
     ensures words { IfOk args (λ args. IfOk result (λ words. words.items ≡ drop 1 (into_iter_items args))) }
-    ensures refused { IfErr args (λ error. IfErr result (IsCauseOf (error_kind error ≡ ErrorKind.OutOfMemory))) }
+    ensures refused { IfErr args (λ error.
+        IfErr result (IsCauseOf (error_kind error ≡ ErrorKind.OutOfMemory))) }
     ensures none { IfErr args (λ _. IsErr result) }
     ensures memory { OnOk args (IfErr result (λ why. why ≡ StartError.Memory)) }
 {

@@ -20,4 +20,5 @@ abbrev pub NeverLives : World → ℕ → Type 0
 NeverLives w a = (d : ℤ) → exists w a d ≡ false
 
 abbrev pub AbsentAssetsChangeNothing : Type 0
-AbsentAssetsChangeNothing = (w : World) (a : ℕ) → NeverLives w a → (p : Pipeline) (from to : ℕ) → table (without a w) p from to ≡ table w p from to
+AbsentAssetsChangeNothing = (w : World) (a : ℕ) → NeverLives w a → (p : Pipeline) (from to : ℕ)
+    → table (without a w) p from to ≡ table w p from to

@@ -11,7 +11,10 @@ abbrev pub number_term : ℕ → Term
 number_term n = node (kind.Number n) 1 absent absent absent absent absent
 
 abbrev pub NumbersStandAlone : Type 0
-NumbersStandAlone = (w : World) (labels : List LabelRow) (texts : List (List ℕ)) (bars : List Bar) (adjustments : List Adjustment)
+NumbersStandAlone =
+    (w : World) (labels : List LabelRow) (texts : List (List ℕ)) (bars : List Bar)
+    (adjustments : List Adjustment)
     → (names : List (List ℕ)) (n a : ℕ) (d : ℤ)
     → value w names (number_term n) a d
-    ≡ value (record w { labels = labels; texts = texts; bars = bars; adjustments = adjustments }) names (number_term n) a d
+    ≡ value (record w { labels = labels; texts = texts; bars = bars; adjustments = adjustments })
+    names (number_term n) a d

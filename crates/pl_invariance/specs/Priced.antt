@@ -13,7 +13,12 @@ is_price Volume = false
 is_price c = true
 
 abbrev pub priced_bar : Fraction → Bar → Bar
-priced_bar r b = record b { open_price = scaled r b.open_price; high = scaled r b.high; low = scaled r b.low; close = scaled r b.close }
+priced_bar r b = record b {
+  open_price = scaled r b.open_price;
+  high = scaled r b.high;
+  low = scaled r b.low;
+  close = scaled r b.close;
+}
 
 -- a correction of a price is a price; ratios are of no unit
 abbrev pub priced_change : Fraction → Change → Change
@@ -37,6 +42,8 @@ pub record PricesHaveUnits : Type 0 where
       → AllDivide r (bar_cell w a c s) (effects w a c s d)
       → seen_cell (priced_world r w) a c s d ≡ scaled r (seen_cell w a c s d)
   pub windows : (r : Fraction) (w : World) (a : ℕ) (c : Column) → is_price c ≡ true → (size : ℕ) (d : ℤ)
-      → ((n : ℕ) → n < size → AllDivide r (bar_cell w a c (before d (suc n))) (effects w a c (before d (suc n)) d))
+      → ((n : ℕ) → n < size → AllDivide r (bar_cell w a c (before d (suc n)))
+      (effects w a c (before d (suc n)) d))
       → bar_window (priced_world r w) c size a d ≡ map (scaled r) (bar_window w c size a d)
-  pub volumes : (r : Fraction) (w : World) (a size : ℕ) (d : ℤ) → bar_window (priced_world r w) Volume size a d ≡ bar_window w Volume size a d
+  pub volumes : (r : Fraction) (w : World) (a size : ℕ) (d : ℤ)
+      → bar_window (priced_world r w) Volume size a d ≡ bar_window w Volume size a d

@@ -19,7 +19,8 @@ scaled_entry r e = (e.0, scaled r e.1)
 -- Where the ratio, which is above 0, rounds no value of the cross-section, it gives the same in both units.
 abbrev pub HasNoUnit : CrossKind → Type 0
 HasNoUnit kind = (r : Fraction) → 0 < r.num → (list : List Entry) (a : ℕ) (x : ℤ)
-    → Each (λ e. IsExact r e.1) list → IsExact r x → cross kind (map (scaled_entry r) list) a (scaled r x) ≡ cross kind list a x
+    → Each (λ e. IsExact r e.1) list → IsExact r x
+    → cross kind (map (scaled_entry r) list) a (scaled r x) ≡ cross kind list a x
 
 pub record RanksHaveNoUnit : Type 0 where
   pub ranks : (method : RankMethod) (order : RankOrder) → HasNoUnit (Rank method order)

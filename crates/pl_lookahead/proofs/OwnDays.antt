@@ -1,5 +1,5 @@
 -- Rows of a table that are of days of their own may stand in any order.
-use Rattle.std.proofs.Common.{◌≡◌, ◌≢◌, ℕ, ◌<◌, ◌≤◌, ◌==◌, Bool, true, ℤ, ◌≤ℤ◌, List, [], ◌∷◌, filter, length, All, AllPairs, IsPermutation, refl, sym, ◌∙◌, ap, arith}
+use Rattle.std.proofs.Common.{◌≡◌, ◌≢◌, ℕ, ◌≤◌, ◌==◌, Bool, true, ℤ, ◌≤ℤ◌, List, [], ◌∷◌, filter, length, All, sym, ◌∙◌, arith}
 use Rattle.std.specs.Int.RustNames.{int_le}
 use Rattle.std.proofs.lemmas.Bool.{and_parts, eqb-true}
 use Rattle.std.proofs.lemmas.Int.{ints}

@@ -75,8 +75,8 @@ SameFilesSameBytes = (o p : Observed) (a b : Request) (q r : RunRequest)
 abbrev pub HaveOwnDays : List Adjustment → Type 0
 HaveOwnDays xs = AllPairs (λ x y. x.sid ≡ y.sid → x.event.day ≢ y.event.day) xs
 
--- Rows of such a table that are effective by the day may stand in any order: it agrees, for each asset and day
--- up to this one, with a table that has the same ones.
+-- Rows of such a table that are effective by the day may stand in any order: it agrees, for each asset and
+-- day up to this one, with a table that has the same ones.
 abbrev pub OwnDaysInAnyOrder : Type 0
 OwnDaysInAnyOrder = (xs ys : List Adjustment) (day : ℤ) → HaveOwnDays xs
     → IsPermutation (filter (λ x. is_known day x.event) xs) (filter (λ x. is_known day x.event) ys)
