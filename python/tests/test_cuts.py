@@ -113,7 +113,7 @@ def test_the_files_of_a_piece_are_the_cut(seed, tmp_path, monkeypatch):
     rows = drawn(draw)
     spans = [sorted(draw.sample([day for day, in rows["sessions"]], 2)) for _ in range(5)]
     monkeypatch.setattr(cuts, "BLOCK", 300)
-    monkeypatch.setattr(cuts, "plan", lambda script, start, end, data: SimpleNamespace(first_session=start))
+    monkeypatch.setattr(cuts, "plan", lambda script, start, end, data: SimpleNamespace(reach=data.sessions.index(start)))
     (tmp_path / "pieces").mkdir()
     pieces = cuts.cut_files(None, written(rows, tmp_path / "whole"), spans, tmp_path / "pieces")
     for piece, (first, last) in zip(pieces, spans):
