@@ -94,9 +94,9 @@ def stooq(prices: pd.DataFrame, symbol: Optional[str] = None) -> dict[str, pd.Da
         other = plain.per.astype(str) != "D"
         if other.any():
             raise DataFault(f"stooq: the period of a bar is {plain.per[other].iloc[0]}", "only D, days, are read")
+    _need(plain, ["date", *PRICES], "stooq")
     if "symbol" not in plain:
         plain = plain.assign(symbol=_given(symbol, "stooq"))
-    _need(plain, ["date", *PRICES], "stooq")
     return {"bars": plain[[*KEYS, *(name for name in BARS if name in plain)]]}
 
 
@@ -451,6 +451,8 @@ def _later_splits(rows: pd.DataFrame, splits: pd.DataFrame, same_day: bool = Fal
 
 def _of_symbols(prices: pd.DataFrame, symbol: Optional[str], what: str) -> pd.DataFrame:
     """A frame by day, of one symbol or with a level of symbols in its columns, as rows with small letters as names."""
+    if prices.columns.nlevels == 1:
+        prices = prices.set_index([name for name in prices.columns if str(name).lower() == "date"] or prices.index)
     days = read_days(pd.Series(prices.index, dtype=prices.index.dtype, name="the index"), what).to_numpy()
     if prices.columns.nlevels == 1:
         return (
