@@ -50,7 +50,7 @@ FRONT = np.frombuffer(
 
 
 class Batch(NamedTuple):
-    """Bars by asset and day, which `read` gives from place to place; those of an asset begin at its place in `starts`."""
+    """Bars by asset and day, which `read` gives from place to place; `starts` has where an asset's begin."""
 
     read: Callable[[int, int], Array]
     starts: Array
@@ -285,7 +285,7 @@ def _keys(assets: Array, days: Array) -> Array:
 def gathered(
     folder: Path, bars: AnyBars, progress: bool = False, kept: Optional[Callable[[pd.DataFrame], Array]] = None
 ) -> Iterator[Bars]:
-    """Bars of any form, whose batches are in the folder within the block; of the rows those that `kept` says, or all."""
+    """Bars of any form, with batches in the folder within the block; of the rows those that `kept` says, or all."""
     found = Bars(folder)
     try:
         with progress_bar(progress, "bars read") as bar:

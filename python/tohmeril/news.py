@@ -143,8 +143,8 @@ def _kept(rows: pd.DataFrame, store: Store, late: Optional[Day], early: list[pd.
         first = rows[~kept].iloc[0]
         if late is None:
             raise DataFault(
-                f"bars: that of {first.sid} on {first.session} is before {store.last}, the last session, whose rows were "
-                "shown without it",
+                f"bars: that of {first.sid} on {first.session} is before {store.last}, the last session, whose rows "
+                "were shown without it",
                 "give what is new alone, and a bar that is corrected or late as a revision; late=DAY takes all "
                 "such bars as revisions that became known on that day",
             )
