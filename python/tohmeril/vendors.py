@@ -359,6 +359,17 @@ def _lives(bars: pd.DataFrame) -> pd.DataFrame:
 def sas_days(values: pd.Series) -> pd.Series:
     """Days that SAS counts from 1960-01-01, as Timestamps.
 
+    Parameters
+    ----------
+    values : Series of int or float
+        A missing one stays missing.
+
+    Returns
+    -------
+    Series of Timestamp
+
+    Examples
+    --------
     >>> sas_days(pd.Series([23408.0])).dt.strftime("%Y-%m-%d").tolist()
     ['2024-02-02']
     """
@@ -368,8 +379,16 @@ def sas_days(values: pd.Series) -> pd.Series:
 def csvdir(folder: Union[str, Path]) -> dict[str, pd.DataFrame]:
     """The bars, splits and dividends of a folder of Zipline's csvdir bundle.
 
-    Each file of ``folder/daily``, or of the folder itself, is named by its symbol and has date, open, high, low, close,
-    volume, and perhaps dividend, in cash, and split, new shares for an old one.
+    Parameters
+    ----------
+    folder : str or Path
+        Each file of ``folder/daily``, or of the folder itself, is named by its symbol and has date, open, high, low,
+        close, volume, and perhaps dividend, in cash, and split, new shares for an old one.
+
+    Returns
+    -------
+    dict
+        bars, and perhaps splits and dividends.
 
     Parameters
     ----------
@@ -418,6 +437,11 @@ def unadjust(bars: pd.DataFrame, splits: pd.DataFrame) -> pd.DataFrame:
         symbol, date, and any of open, high, low, close and volume.
     splits : DataFrame
         symbol, date and split, new shares for an old one: all from the first bar to the day of the download.
+
+    Returns
+    -------
+    DataFrame
+        With the same rows.
 
     Examples
     --------
