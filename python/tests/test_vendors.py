@@ -61,7 +61,7 @@ def yahoo():
     return {"AAPL": apple, "ZZZ": other}
 
 
-@pytest.mark.parametrize("form", ["by price", "by symbol", "one"])
+@pytest.mark.parametrize("form", ["by price", "by symbol", "one", "one, with a column of days"])
 def test_yfinance(form, tmp_path):
     frames = yahoo()
     wide = pd.concat(frames, axis=1)
@@ -69,6 +69,7 @@ def test_yfinance(form, tmp_path):
         "by price": lambda: yfinance(wide.swaplevel(axis=1)),
         "by symbol": lambda: yfinance(wide),
         "one": lambda: yfinance(frames["AAPL"].tz_localize("America/New_York"), "AAPL"),
+        "one, with a column of days": lambda: yfinance(frames["AAPL"].reset_index(), "AAPL"),
     }
     data = Data.write(tmp_path, **given[form]())
     bars = lines(data)
@@ -81,8 +82,8 @@ def test_yfinance(form, tmp_path):
     assert rows(data, "splits") == [(SPLIT, 1, 4, 0)]
     # (455.61 - 0.82) / 455.61, and on the day of the split (499.23 - 0.4) / 499.23; (3 - 0.5) / 3 of the other
     assert rows(data, "dividends")[:2] == [(1596758400, 45479, 45561, 0), (SPLIT, 49883, 49923, 0)]
-    assert rows(data, "dividends")[2:] == ([] if form == "one" else [(SPLIT, 5, 6, 1)])
-    assert data.symbols.tolist() == (["AAPL"] if form == "one" else ["AAPL", "ZZZ"])
+    assert rows(data, "dividends")[2:] == ([] if "one" in form else [(SPLIT, 5, 6, 1)])
+    assert data.symbols.tolist() == (["AAPL"] if "one" in form else ["AAPL", "ZZZ"])
 
 
 def test_yfinance_of_adjusted_prices(tmp_path):

@@ -94,9 +94,9 @@ def stooq(prices: pd.DataFrame, symbol: Optional[str] = None) -> dict[str, pd.Da
         other = plain.per.astype(str) != "D"
         if other.any():
             raise DataFault(f"stooq: the period of a bar is {plain.per[other].iloc[0]}", "only D, days, are read")
+    _need(plain, ["date", *PRICES], "stooq")
     if "symbol" not in plain:
         plain = plain.assign(symbol=_given(symbol, "stooq"))
-    _need(plain, ["date", *PRICES], "stooq")
     return {"bars": plain[[*KEYS, *(name for name in BARS if name in plain)]]}
 
 
@@ -359,6 +359,17 @@ def _lives(bars: pd.DataFrame) -> pd.DataFrame:
 def sas_days(values: pd.Series) -> pd.Series:
     """Days that SAS counts from 1960-01-01, as Timestamps.
 
+    Parameters
+    ----------
+    values : Series of int or float
+        A missing one stays missing.
+
+    Returns
+    -------
+    Series of Timestamp
+
+    Examples
+    --------
     >>> sas_days(pd.Series([23408.0])).dt.strftime("%Y-%m-%d").tolist()
     ['2024-02-02']
     """
@@ -368,8 +379,16 @@ def sas_days(values: pd.Series) -> pd.Series:
 def csvdir(folder: Union[str, Path]) -> dict[str, pd.DataFrame]:
     """The bars, splits and dividends of a folder of Zipline's csvdir bundle.
 
-    Each file of ``folder/daily``, or of the folder itself, is named by its symbol and has date, open, high, low, close,
-    volume, and perhaps dividend, in cash, and split, new shares for an old one.
+    Parameters
+    ----------
+    folder : str or Path
+        Each file of ``folder/daily``, or of the folder itself, is named by its symbol and has date, open, high, low,
+        close, volume, and perhaps dividend, in cash, and split, new shares for an old one.
+
+    Returns
+    -------
+    dict
+        bars, and perhaps splits and dividends.
 
     Parameters
     ----------
@@ -419,6 +438,11 @@ def unadjust(bars: pd.DataFrame, splits: pd.DataFrame) -> pd.DataFrame:
     splits : DataFrame
         symbol, date and split, new shares for an old one: all from the first bar to the day of the download.
 
+    Returns
+    -------
+    DataFrame
+        With the same rows.
+
     Examples
     --------
     >>> bars = pd.DataFrame({"symbol": "AAPL", "date": ["2020-08-28", "2020-08-31"], "close": [124.8075, 129.04]})
@@ -451,6 +475,8 @@ def _later_splits(rows: pd.DataFrame, splits: pd.DataFrame, same_day: bool = Fal
 
 def _of_symbols(prices: pd.DataFrame, symbol: Optional[str], what: str) -> pd.DataFrame:
     """A frame by day, of one symbol or with a level of symbols in its columns, as rows with small letters as names."""
+    if prices.columns.nlevels == 1:
+        prices = prices.set_index([name for name in prices.columns if str(name).lower() == "date"] or prices.index)
     days = read_days(pd.Series(prices.index, dtype=prices.index.dtype, name="the index"), what).to_numpy()
     if prices.columns.nlevels == 1:
         return (
