@@ -31,11 +31,19 @@ def number_of(day: str) -> int:
 def drawn(draw: random.Random) -> dict[str, list[tuple]]:
     """Rows of each part in any order. Days of lives, labels, numbers and adjustments need not be sessions."""
     sessions = sorted(draw.sample(DAYS, 14))
-    since = [(name, sid, day) for name in ("sector", "earnings") for sid in SIDS
-             for day in draw.sample(DAYS, draw.randint(0, 5))]
+    since = [
+        (name, sid, day)
+        for name in ("sector", "earnings")
+        for sid in SIDS
+        for day in draw.sample(DAYS, draw.randint(0, 5))
+    ]
     bars = [(sid, day, *draw.choices(range(1, 99), k=5)) for sid in SIDS for day in sessions if draw.random() < 0.8]
-    revised = {(sid, day, draw.choice(["open", "close", "volume"]), known) for sid, day, *_ in draw.sample(bars, 12)
-               for known in DAYS if known > day and draw.random() < 0.1}
+    revised = {
+        (sid, day, draw.choice(["open", "close", "volume"]), known)
+        for sid, day, *_ in draw.sample(bars, 12)
+        for known in DAYS
+        if known > day and draw.random() < 0.1
+    }
     rows = {
         "sessions": [(day,) for day in sessions],
         "assets": [(sid, *sorted(draw.sample(DAYS, 2))) for sid in SIDS],
@@ -43,9 +51,18 @@ def drawn(draw: random.Random) -> dict[str, list[tuple]]:
         "numbers": [(*row, draw.choice([1, 2.5, ""])) for row in since if row[0] == "earnings"],
         "bars": bars,
         "revisions": [(sid, day, column, draw.choice([7, ""]), known) for sid, day, column, known in sorted(revised)],
-        **{table: [(at, number_of(draw.choice(DAYS)) * SECONDS + draw.choice([0, 50_000, SECONDS - 1]),
-                    *draw.choices(range(1, 4), k=2), draw.choice([*SIDS, 99])) for at in range(12)]
-           for table in TABLES},
+        **{
+            table: [
+                (
+                    at,
+                    number_of(draw.choice(DAYS)) * SECONDS + draw.choice([0, 50_000, SECONDS - 1]),
+                    *draw.choices(range(1, 4), k=2),
+                    draw.choice([*SIDS, 99]),
+                )
+                for at in range(12)
+            ]
+            for table in TABLES
+        },
     }
     for part in rows.keys() - {"sessions", *TABLES}:
         draw.shuffle(rows[part])
@@ -77,7 +94,7 @@ def read(data: Data) -> dict[str, list[tuple]]:
             store.close()
         else:
             with open(path, newline="") as file:
-                rows[part] = [tuple(row) for row in csv.reader(file)][part in HEADERS:]
+                rows[part] = [tuple(row) for row in csv.reader(file)][part in HEADERS :]
     return rows
 
 
@@ -95,10 +112,15 @@ def cut(rows: dict[str, list[tuple]], first: str, last: str) -> dict[str, list[t
         "labels": [row for row in rows["labels"] if counts(row, rows["labels"])],
         "numbers": [row for row in rows["numbers"] if counts(row, rows["numbers"])],
         "bars": [row for row in rows["bars"] if row[0] in kept and first <= row[1] < last],
-        "revisions": [row for row in rows["revisions"]
-                      if row[0] in kept and first <= row[1] < last and first < row[4] <= last],
-        **{table: [row for row in rows[table]
-                   if row[4] in kept and number_of(first) < row[1] // SECONDS <= number_of(last)] for table in TABLES},
+        "revisions": [
+            row for row in rows["revisions"] if row[0] in kept and first <= row[1] < last and first < row[4] <= last
+        ],
+        **{
+            table: [
+                row for row in rows[table] if row[4] in kept and number_of(first) < row[1] // SECONDS <= number_of(last)
+            ]
+            for table in TABLES
+        },
     }
 
 
@@ -113,7 +135,9 @@ def test_the_files_of_a_piece_are_the_cut(seed, tmp_path, monkeypatch):
     rows = drawn(draw)
     spans = [sorted(draw.sample([day for day, in rows["sessions"]], 2)) for _ in range(5)]
     monkeypatch.setattr(cuts, "BLOCK", 300)
-    monkeypatch.setattr(cuts, "plan", lambda script, start, end, data: SimpleNamespace(first_session=start))
+    monkeypatch.setattr(
+        cuts, "plan", lambda script, start, end, data: SimpleNamespace(reach=data.sessions.index(start))
+    )
     (tmp_path / "pieces").mkdir()
     pieces = cuts.cut_files(None, written(rows, tmp_path / "whole"), spans, tmp_path / "pieces")
     for piece, (first, last) in zip(pieces, spans):
@@ -127,13 +151,19 @@ def reading():
     """Terms that read each part, over windows, ranks, labels and calendars."""
     close, sector, earned = EquityPricing.close.latest, Label("sector"), Fundamentals.earnings.latest
     mean = SimpleMovingAverage([EquityPricing.close], window_length=3)
-    return Pipeline({
-        "mean": mean, "place": Returns(window_length=2).rank(groupby=sector), "earned": earned, "sector": sector,
-        "old": close.downsample("week_start"), "often": All([earned > 1], window_length=2),
-        "peers": sector.peer_count(),
-        "places": SimpleMovingAverage([mean.rank()], window_length=2),
-        "money": EquityPricing.volume.latest.demean(),
-    })
+    return Pipeline(
+        {
+            "mean": mean,
+            "place": Returns(window_length=2).rank(groupby=sector),
+            "earned": earned,
+            "sector": sector,
+            "old": close.downsample("week_start"),
+            "often": All([earned > 1], window_length=2),
+            "peers": sector.peer_count(),
+            "places": SimpleMovingAverage([mean.rank()], window_length=2),
+            "money": EquityPricing.volume.latest.demean(),
+        }
+    )
 
 
 @pytest.mark.parametrize("seed", range(12))

@@ -14,10 +14,25 @@ from tohmeril.pipeline.data import Column, DataSet, DataSetFamily, EquityPricing
 
 PAGES = [CHECKOUT / "python/README.md", CHECKOUT / "docs/ZIPLINE.md"]
 ZIPLINE = PAGES[1].read_text()
-NAMES = {**vars(factors), **vars(filters), **vars(classifiers), "Labels": Labels, "c": Labels.sector.latest, "y": factors.Returns(window_length=5),
-         "z": factors.RSI(), **{name: getattr(EquityPricing, name) for name in ("open", "high", "low", "close", "volume")}}
-NAMES.update(Column=Column, DataSetFamily=DataSetFamily, Fundamentals=type("Fundamentals", (DataSet,), {"earnings": Column(float)}),
-             f=NAMES["close"].latest > 5, g=NAMES["volume"].latest > 0, abs=abs, len=len)
+NAMES = {
+    **vars(factors),
+    **vars(filters),
+    **vars(classifiers),
+    "Labels": Labels,
+    "c": Labels.sector.latest,
+    "y": factors.Returns(window_length=5),
+    "z": factors.RSI(),
+    **{name: getattr(EquityPricing, name) for name in ("open", "high", "low", "close", "volume")},
+}
+NAMES.update(
+    Column=Column,
+    DataSetFamily=DataSetFamily,
+    Fundamentals=type("Fundamentals", (DataSet,), {"earnings": Column(float)}),
+    f=NAMES["close"].latest > 5,
+    g=NAMES["volume"].latest > 0,
+    abs=abs,
+    len=len,
+)
 
 
 def cells(heading):
@@ -29,23 +44,41 @@ def cells(heading):
 
 @pytest.mark.parametrize("page", PAGES, ids=lambda page: page.name)
 def test_examples(page, data, tmp_path):
-    found = doctest.testfile(str(page), module_relative=False, globs={"data": data, "folder": tmp_path},
-                             optionflags=doctest.NORMALIZE_WHITESPACE | doctest.REPORT_NDIFF)
+    found = doctest.testfile(
+        str(page),
+        module_relative=False,
+        globs={"data": data, "folder": tmp_path},
+        optionflags=doctest.NORMALIZE_WHITESPACE | doctest.REPORT_NDIFF,
+    )
     assert found.attempted and not found.failed
 
 
-@pytest.mark.parametrize("code", [code for code in re.findall(r"\n\n((?:    .+\n)+)", PAGES[0].read_text()) if "pip install" not in code])
+@pytest.mark.parametrize(
+    "code", [code for code in re.findall(r"\n\n((?:    .+\n)+)", PAGES[0].read_text()) if "pip install" not in code]
+)
 def test_code_without_its_output(code, data, tmp_path, monkeypatch):
     pytest.importorskip("matplotlib")
     monkeypatch.chdir(tmp_path)
-    names = {**NAMES, "Pipeline": Pipeline, "run_pipeline": run_pipeline, "run_chunked_pipeline": run_chunked_pipeline, "plots": plots,
-             "data": data, "start": "2023-12-01", "end": "2023-12-29", "momentum": NAMES["y"], "pipe": Pipeline({"y": NAMES["y"]}),
-             "dask": SimpleNamespace(distributed=SimpleNamespace(Client=lambda address: ThreadPoolExecutor(2)))}
+    names = {
+        **NAMES,
+        "Pipeline": Pipeline,
+        "run_pipeline": run_pipeline,
+        "run_chunked_pipeline": run_chunked_pipeline,
+        "plots": plots,
+        "data": data,
+        "start": "2023-12-01",
+        "end": "2023-12-29",
+        "momentum": NAMES["y"],
+        "pipe": Pipeline({"y": NAMES["y"]}),
+        "dask": SimpleNamespace(distributed=SimpleNamespace(Client=lambda address: ThreadPoolExecutor(2))),
+    }
     exec(textwrap.dedent(code), names)
     assert len(names["frame"])
 
 
-@pytest.mark.parametrize("python, text", [(python, text) for row in cells("What is here") for python, text in [row[:2]] if python])
+@pytest.mark.parametrize(
+    "python, text", [(python, text) for row in cells("What is here") for python, text in [row[:2]] if python]
+)
 def test_what_is_here(python, text):
     for code, wanted in zip(python, text or python):
         assert repr(eval(code, dict(NAMES))) == (wanted if text else repr(eval(wanted, dict(NAMES))))

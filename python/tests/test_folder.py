@@ -27,7 +27,11 @@ DAYS = pd.bdate_range("2024-01-01", periods=60)
 CLOSE = pd.DataFrame({sid: range(100 + sid, 160 + sid) for sid in range(40)}, index=DAYS, dtype=float)
 HALVED = pd.concat([CLOSE[:30], CLOSE[30:] / 2])
 SPLITS = pd.DataFrame({"sid": range(40), "effective_date": DAYS[30], "ratio": 0.5})
-OLD = {"bars": {"close": HALVED, "volume": HALVED}, "splits": SPLITS, "labels": {"sector": dict.fromkeys(range(40), "Tech")}}
+OLD = {
+    "bars": {"close": HALVED, "volume": HALVED},
+    "splits": SPLITS,
+    "labels": {"sector": dict.fromkeys(range(40), "Tech")},
+}
 NEW = {"bars": {"close": CLOSE * 3, "volume": CLOSE}, "numbers": {"score": CLOSE.iloc[:3]}}
 pipe = Pipeline({"close": EquityPricing.close.latest, "year": Returns(window_length=40)})
 forks = get_context("fork")
@@ -114,6 +118,7 @@ def test_a_full_disk(most, tables, tmp_path):
             Data.write(tmp_path, **NEW)
         except OSError as error:
             os._exit(error.errno)
+
     Data.write(tmp_path, **OLD)
     before = files(tmp_path)
     writer = started(write)
@@ -130,6 +135,7 @@ def test_an_interrupted_writer(tables, tmp_path):
             write_for(tmp_path, time.monotonic() + 60)
         except KeyboardInterrupt:
             os._exit(3)
+
     Data.write(tmp_path, **OLD)
     for _ in range(5):
         ready = forks.Event()
@@ -166,7 +172,11 @@ def test_a_version_stays_while_it_is_held(tables, tmp_path):
     del again, newest
     Data.write(tmp_path, **NEW)
     assert not held.exists() and len(list((tmp_path / "versions").glob("[0-9]*"))) == 2
-    assert (tmp_path / "p.pl").exists() and not (tmp_path / "labels.csv").is_symlink() and (tmp_path / "numbers.csv").exists()
+    assert (
+        (tmp_path / "p.pl").exists()
+        and not (tmp_path / "labels.csv").is_symlink()
+        and (tmp_path / "numbers.csv").exists()
+    )
 
 
 def test_files_that_were_put_there(tables, tmp_path):
@@ -219,7 +229,9 @@ def test_no_adjustments(market, tmp_path):
     assert "adjustments" in Data(tmp_path).files
     (tmp_path / "adjustments.sql").unlink()
     (tmp_path / "adjustments.db").unlink()
-    with pytest.raises(ReadFault, match="recipes/adjustments.sh SPLITS.csv MERGERS.csv DIVIDENDS.csv .*\n.*adjustments=None"):
+    with pytest.raises(
+        ReadFault, match="recipes/adjustments.sh SPLITS.csv MERGERS.csv DIVIDENDS.csv .*\n.*adjustments=None"
+    ):
         Data(tmp_path)
     with pytest.raises(ReadFault, match="read: .*nowhere/sessions.csv"):
         run_text(pipe, DAYS[1], DAYS[2], Data(tmp_path / "nowhere"))

@@ -11,15 +11,22 @@ from tohmeril import Data
 
 def recipe(name, *words):
     """The output of a recipe, with the package of this checkout."""
-    done = subprocess.run([sys.executable, CHECKOUT / "examples/recipes" / name, *map(str, words)], stdout=subprocess.PIPE, check=True,
-                          env={**os.environ, "PYTHONPATH": str(CHECKOUT / "python")})
+    done = subprocess.run(
+        [sys.executable, CHECKOUT / "examples/recipes" / name, *map(str, words)],
+        stdout=subprocess.PIPE,
+        check=True,
+        env={**os.environ, "PYTHONPATH": str(CHECKOUT / "python")},
+    )
     return done.stdout.decode()
 
 
 def test_bars(tmp_path):
     (tmp_path / "close.csv").write_text("day,AAA,BBB\n2024-01-02,10,20\n2024-01-03,11,\n")
     assert "bars" in recipe("bars.py", tmp_path / "data", tmp_path / "close.csv")
-    assert Data(tmp_path / "data").sids(["AAA", "BBB"]) == [0, 1] and len((tmp_path / "data/bars.csv").read_text().splitlines()) == 4
+    assert (
+        Data(tmp_path / "data").sids(["AAA", "BBB"]) == [0, 1]
+        and len((tmp_path / "data/bars.csv").read_text().splitlines()) == 4
+    )
 
 
 def test_table(market):

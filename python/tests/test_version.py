@@ -40,8 +40,13 @@ def test_which_program(places, monkeypatch, tmp_path):
 def test_version(named, status, said, monkeypatch, tmp_path, capsys):
     total = hashlib.sha256(Path(os.environ["TOHMERIL"]).read_bytes()).hexdigest()
     if named:
-        text = f"Of a release.\n\ncommit: 1a2b\ngate: 9 passed, 0 failed\nprogram: {total if named == HERE else named}\n"
+        text = (
+            f"Of a release.\n\ncommit: 1a2b\ngate: 9 passed, 0 failed\nprogram: {total if named == HERE else named}\n"
+        )
         (tmp_path / "PROVED").write_text(text)
     monkeypatch.setattr(version, "PROVED", tmp_path / "PROVED")
     assert main(["version"]) == status
-    assert capsys.readouterr().out == f"tohmeril {__version__}\nprogram: {os.environ['TOHMERIL']}\nsha256: {total}\nrelease: {said}\n"
+    assert (
+        capsys.readouterr().out
+        == f"tohmeril {__version__}\nprogram: {os.environ['TOHMERIL']}\nsha256: {total}\nrelease: {said}\n"
+    )

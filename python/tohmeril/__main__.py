@@ -1,7 +1,7 @@
-"""Two commands: the job of each morning, ``python3 -m tohmeril append STORE NEWS TODAY``, and ``python3 -m tohmeril version``.
+"""Two commands: the job of each morning, ``python3 -m tohmeril append STORE NEWS TODAY``, and ``version``.
 
 The first adds the CSV files of the folder NEWS to the folder STORE and makes TODAY its last session, by the rules of
-`tohmeril.news.append`. The second prints which version this is, and whether the program is the one that its release names.
+`tohmeril.news.append`. The second prints which version this is, and whether the program is that of its release.
 """
 from __future__ import annotations
 
@@ -26,18 +26,30 @@ def parser() -> argparse.ArgumentParser:
     """The words of the commands."""
     parser = argparse.ArgumentParser(prog="python3 -m tohmeril")
     commands = parser.add_subparsers(required=True, metavar="COMMAND")
-    told = commands.add_parser("version", help="print the version, the program with its sum, and whether the release names it")
+    told = commands.add_parser(
+        "version", help="print the version, the program with its sum, and whether the release names it"
+    )
     told.set_defaults(call=tell_version)
     append = commands.add_parser(
-        "append", help="add what came since the last session", description="Adds the files of NEWS to STORE and makes TODAY its last "
-        "session: bars.csv (those of the session before), assets.csv, labels.csv, numbers.csv, revisions.csv, splits.csv, mergers.csv, "
-        "dividends.csv, as far as they are there. Where something is wrong, STORE stays as it was. A second call adds nothing.")
+        "append",
+        help="add what came since the last session",
+        description="Adds the files of NEWS to STORE and makes TODAY its last "
+        "session: bars.csv (those of the session before), assets.csv, labels.csv, numbers.csv, revisions.csv, "
+        "splits.csv, mergers.csv, dividends.csv, as far as they are there. Where something is wrong, STORE stays as it "
+        "was. A second call adds nothing.",
+    )
     append.add_argument("store", type=Path, metavar="STORE")
     append.add_argument("news", type=Path, metavar="NEWS")
     append.add_argument("today", metavar="TODAY")
-    append.add_argument("--without-bars", action="store_true", help="go on though no bars of the session before have come")
-    append.add_argument("--late", action="store_true", help="take bars of earlier sessions as revisions that are known TODAY")
-    append.add_argument("--weekend", action="store_true", help="TODAY is a session though no other one falls on its day of the week")
+    append.add_argument(
+        "--without-bars", action="store_true", help="go on though no bars of the session before have come"
+    )
+    append.add_argument(
+        "--late", action="store_true", help="take bars of earlier sessions as revisions that are known TODAY"
+    )
+    append.add_argument(
+        "--weekend", action="store_true", help="TODAY is a session though no other one falls on its day of the week"
+    )
     append.set_defaults(call=add_news)
     return parser
 
@@ -69,14 +81,27 @@ def append(store: Path, news: Path, today: str, without_bars: bool, late: bool, 
     if today < data.sessions[-1]:
         raise DataFault(f"append: {today} is no day after {data.sessions[-1]}, the last session")
     name = pd.Timestamp(today).day_name()
-    if name in ("Saturday", "Sunday") and not weekend and all(pd.Timestamp(day).day_name() != name for day in data.sessions):
-        raise DataFault(f"append: {today} is a {name}, and no session is one", "where there is trade on it, say so by --weekend")
+    if (
+        name in ("Saturday", "Sunday")
+        and not weekend
+        and all(pd.Timestamp(day).day_name() != name for day in data.sessions)
+    ):
+        raise DataFault(
+            f"append: {today} is a {name}, and no session is one", "where there is trade on it, say so by --weekend"
+        )
     frames = {part: read(news / f"{part}.csv") for part in PARTS if (news / f"{part}.csv").exists()}
-    days = set(map(read_day, select_columns(frames["bars"], "bars", "session").session.unique())) if "bars" in frames else set()
+    days = (
+        set(map(read_day, select_columns(frames["bars"], "bars", "session").session.unique()))
+        if "bars" in frames
+        else set()
+    )
     if data.sessions[-1] not in days and not without_bars:
         there = f"; there are those of {max(days)}" if days else ""
-        raise DataFault(f"append: {news} has no bars of {data.sessions[-1]}, the last session{there}",
-                        "the vendor may be late: call again when they have come, or go on by --without-bars; then they can come by --late")
+        raise DataFault(
+            f"append: {news} has no bars of {data.sessions[-1]}, the last session{there}",
+            "the vendor may be late: call again when they have come, or go on by --without-bars; then they can come by "
+            "--late",
+        )
     return data.append(**frames, sessions=[today], late=today if late else None)
 
 

@@ -1,7 +1,7 @@
 """Bars of one frame or of many, one after the other, as the lines of a file, with little memory.
 
-A bar is a record of 52 bytes. Full batches of them are sorted by asset and day and laid into a file; in the end the bars of some
-assets at a time are read from all batches, and are written in the order of their sids.
+A bar is a record of 52 bytes. Full batches of them are sorted by asset and day and laid into a file; in the end the
+bars of some assets at a time are read from all batches, and are written in the order of their sids.
 """
 from __future__ import annotations
 
@@ -9,7 +9,19 @@ import os
 from contextlib import contextmanager, nullcontext
 from functools import lru_cache, partial
 from pathlib import Path
-from typing import TYPE_CHECKING, Any, BinaryIO, Callable, ContextManager, Iterable, Iterator, Mapping, NamedTuple, Optional, Union
+from typing import (
+    TYPE_CHECKING,
+    Any,
+    BinaryIO,
+    Callable,
+    ContextManager,
+    Iterable,
+    Iterator,
+    Mapping,
+    NamedTuple,
+    Optional,
+    Union,
+)
 
 import numpy as np
 import pandas as pd
@@ -28,13 +40,18 @@ MISSING = np.iinfo("i8").min  # of a cell, which is in millionths
 BATCH = 1 << 22  # records in memory
 BLOCK = 1 << 14  # records that are turned at a time, which the processor's cache holds
 GROUP = 1 << 18  # records that are read from the batches at a time
-TWO = np.array([b"\0.%02d" % number for number in range(100)]).view("u4")  # the point and the first two digits of a fraction
+TWO = np.array([b"\0.%02d" % number for number in range(100)]).view(
+    "u4"
+)  # the point and the first two digits of a fraction
 FOUR = np.array([b"%04d" % number for number in range(10_000)]).view("u4")
-FRONT = np.frombuffer(b"".join((b"%d" % number).rjust(4, b"\0") for number in range(10_000)), "u4")  # without zeros in front
+FRONT = np.frombuffer(
+    b"".join((b"%d" % number).rjust(4, b"\0") for number in range(10_000)), "u4"
+)  # without zeros in front
 
 
 class Batch(NamedTuple):
-    """Bars by asset and day, which `read` gives from one place to another; those of an asset begin at its place in `starts`."""
+    """Bars by asset and day, which `read` gives from place to place; `starts` has where an asset's begin."""
+
     read: Callable[[int, int], Array]
     starts: Array
 
@@ -54,7 +71,8 @@ class Bars:
     days : set of int
         The days that have a bar with a value, in days since 1970-01-01, as all days here.
     first, last : ndarray of int
-        The days of the first and the last bar with a value of each asset; where it has none the last one is before the first.
+        The days of the first and the last bar with a value of each asset; where it has none the last one is before
+        the first.
     """
 
     def __init__(self, folder: Path):
@@ -74,7 +92,11 @@ class Bars:
 
     def begin(self, index: Optional[pd.Index]) -> None:
         """Begin a frame, whose index tells the places of faults; None where its rows are none of the user's."""
-        if index is not None and (self.frames or any(name is not None for name in index.names)) and not isinstance(index, pd.RangeIndex):
+        if (
+            index is not None
+            and (self.frames or any(name is not None for name in index.names))
+            and not isinstance(index, pd.RangeIndex)
+        ):
             index = pd.RangeIndex(len(index))  # an index of each frame would take memory
         self.frames.append((self.rows, index))
 
@@ -96,7 +118,7 @@ class Bars:
         for start in range(0, len(rows), BLOCK):
             if self.filled + BLOCK > BATCH:
                 self._flush()
-            part = self.records[self.filled:self.filled + min(BLOCK, len(rows) - start)]
+            part = self.records[self.filled : self.filled + min(BLOCK, len(rows) - start)]
             step = slice(start, start + len(part))
             part["asset"], part["day"] = numbers[step], days[step]
             part["row"] = places[step]
@@ -107,8 +129,14 @@ class Bars:
     def _values(self, rows: pd.DataFrame, places: Array, name: str) -> Array:
         """A column as floats, which has no value that a bar can't have."""
         values: Array = to_numbers(rows[name], "bars").to_numpy("float64")
-        for wrong, hint in ((np.isinf(values), "give NaN for a missing value"), (values < 0, NEGATIVE[name == "volume"]),
-                            (values > float(GREATEST), f"the greatest is {GREATEST}: give volumes in thousands, or prices in a greater unit")):
+        for wrong, hint in (
+            (np.isinf(values), "give NaN for a missing value"),
+            (values < 0, NEGATIVE[name == "volume"]),
+            (
+                values > float(GREATEST),
+                f"the greatest is {GREATEST}: give volumes in thousands, or prices in a greater unit",
+            ),
+        ):
             if wrong.any():
                 self._refuse(rows, places, wrong, f"the {name} of {{}} is {values[wrong.argmax()]:.12g}", hint)
         return values
@@ -119,7 +147,10 @@ class Bars:
             at = int(wrong.argmax())
             place = self._place(places[at])
             place = place and f"row {place}{and_others(int(wrong.sum()) - 1)}"
-            raise DataFault("bars: " + told.format(f"{rows.sid.iloc[at]} on {rows.session.iloc[at]}"), "; ".join(filter(None, (place, hint))))
+            raise DataFault(
+                "bars: " + told.format(f"{rows.sid.iloc[at]} on {rows.session.iloc[at]}"),
+                "; ".join(filter(None, (place, hint))),
+            )
 
     def _place(self, row: int) -> str:
         """A row as the user counts it; empty where bars are no rows."""
@@ -143,7 +174,7 @@ class Bars:
 
     def _sorted(self) -> Batch:
         """The batch in memory by asset and day; its days are noted."""
-        records = self.records[:self.filled]
+        records = self.records[: self.filled]
         key = _keys(records["asset"], records["day"])
         order = np.argsort(key, kind="stable")
         key = key[order]
@@ -154,7 +185,7 @@ class Bars:
         fresh = np.full(len(self.numbers) - len(self.first), np.iinfo("i4").max, "i4")
         self.first, self.last = np.append(self.first, fresh), np.append(self.last, -fresh)
         begins = np.flatnonzero(np.diff(asset, prepend=-1))
-        ends = np.append(begins[1:], len(asset))[:len(begins)] - 1
+        ends = np.append(begins[1:], len(asset))[: len(begins)] - 1
         there = asset[begins]
         self.first[there] = np.minimum(self.first[there], day[begins])
         self.last[there] = np.maximum(self.last[there], day[ends])
@@ -166,7 +197,10 @@ class Bars:
             self._flush()
         else:
             self.batches.append(self._sorted())
-        self.batches = [Batch(read, np.append(starts, np.full(len(self.numbers) + 1 - len(starts), starts[-1]))) for read, starts in self.batches]
+        self.batches = [
+            Batch(read, np.append(starts, np.full(len(self.numbers) + 1 - len(starts), starts[-1])))
+            for read, starts in self.batches
+        ]
 
     def write(self, out: BinaryIO, sids: Array, progress: bool = False) -> int:
         """Write the lines of the bars that have a value, by sid and session; their count.
@@ -184,12 +218,12 @@ class Bars:
                 same = keys[1:] == keys[:-1]
                 begins = np.flatnonzero(same & ~np.append(False, same[:-1]))
                 if len(begins) and not doubled:
-                    first = records[begins[0]:begins[0] + 1 + int(np.append(same[begins[0]:], False).argmin())]
+                    first = records[begins[0] : begins[0] + 1 + int(np.append(same[begins[0] :], False).argmin())]
                 doubled += len(begins)
                 kept = records[(records["cells"] != MISSING).any(axis=1)]
                 written += len(kept)
                 for start in range(0, 0 if doubled else len(kept), BLOCK):
-                    part = kept[start:start + BLOCK]
+                    part = kept[start : start + BLOCK]
                     out.write(lines(sids[part["asset"]], part["day"], part["cells"]))
                 if bar is not None:
                     bar.update(len(records))
@@ -214,7 +248,9 @@ class Bars:
             group = assets[begin:end]
             breaks = [0, *(np.flatnonzero(np.diff(group) != 1) + 1), len(group)]
             ranges = [(group[a], group[b - 1] + 1) for a, b in zip(breaks, breaks[1:])]
-            records = np.concatenate([batch.read(batch.starts[a], batch.starts[b]) for batch in self.batches for a, b in ranges])
+            records = np.concatenate(
+                [batch.read(batch.starts[a], batch.starts[b]) for batch in self.batches for a, b in ranges]
+            )
             keys = _keys(places[records["asset"]], records["day"])
             if (keys[1:] < keys[:-1]).any():
                 order = np.argsort(keys, kind="stable")
@@ -246,8 +282,10 @@ def _keys(assets: Array, days: Array) -> Array:
 
 
 @contextmanager
-def gathered(folder: Path, bars: AnyBars, progress: bool = False, kept: Optional[Callable[[pd.DataFrame], Array]] = None) -> Iterator[Bars]:
-    """Bars of any form, whose batches are in the folder within the block; of the rows of frames those that `kept` says, or all."""
+def gathered(
+    folder: Path, bars: AnyBars, progress: bool = False, kept: Optional[Callable[[pd.DataFrame], Array]] = None
+) -> Iterator[Bars]:
+    """Bars of any form, with batches in the folder within the block; of the rows those that `kept` says, or all."""
     found = Bars(folder)
     try:
         with progress_bar(progress, "bars read") as bar:
@@ -264,7 +302,9 @@ def gathered(folder: Path, bars: AnyBars, progress: bool = False, kept: Optional
         found.close()
 
 
-def _frames(bars: AnyBars) -> Iterator[tuple[Optional[pd.Index], Iterable[Union[pd.DataFrame, Mapping[str, pd.DataFrame]]]]]:
+def _frames(
+    bars: AnyBars,
+) -> Iterator[tuple[Optional[pd.Index], Iterable[Union[pd.DataFrame, Mapping[str, pd.DataFrame]]]]]:
     """Each frame in slices, so that no copy of a whole one is made, with its index where its rows are the bars."""
     if isinstance(bars, Mapping):
         frames = list(bars.values())
@@ -276,9 +316,14 @@ def _frames(bars: AnyBars) -> Iterator[tuple[Optional[pd.Index], Iterable[Union[
         return
     for frame in [bars] if isinstance(bars, pd.DataFrame) else bars:
         if not isinstance(frame, pd.DataFrame):
-            raise DataFault(f"bars: {type(frame).__name__} is no frame", "one takes a frame, frames by name, or long frames one after the other")
+            raise DataFault(
+                f"bars: {type(frame).__name__} is no frame",
+                "one takes a frame, frames by name, or long frames one after the other",
+            )
         wide = frame.columns.nlevels == 2
-        yield None if wide else frame.index, (frame.iloc[step] for step in _steps(len(frame), max(1, frame.shape[1] // 5) if wide else 1))
+        yield None if wide else frame.index, (
+            frame.iloc[step] for step in _steps(len(frame), max(1, frame.shape[1] // 5) if wide else 1)
+        )
 
 
 def _steps(length: int, width: int) -> Iterator[slice]:
@@ -292,6 +337,7 @@ def progress_bar(wanted: bool, told: str, total: Optional[int] = None) -> Contex
     if wanted:
         try:
             from tqdm import tqdm
+
             bar: ContextManager[Any] = tqdm(total=total, desc=told, unit="", unit_scale=True)
             return bar
         except ImportError:
@@ -340,7 +386,8 @@ def millionths(values: Array) -> Array:
 def lines(sids: Array, days: Array, cells: Array) -> bytes:
     """The lines of bars: all fields at their greatest width, without the zero bytes that fill them.
 
-    >>> print(lines(np.array([7, 107]), np.array([0, 19_724]), np.array([[1, 25, -500_000, 10**12, MISSING], [0] * 5])).decode(), end="")
+    >>> cells = np.array([[1, 25, -500_000, 10**12, MISSING], [0] * 5])
+    >>> print(lines(np.array([7, 107]), np.array([0, 19_724]), cells).decode(), end="")
     7,1970-01-01,0.000001,0.000025,-0.500000,1000000.000000,
     107,2024-01-02,0.000000,0.000000,0.000000,0.000000,0.000000
     """
@@ -352,7 +399,12 @@ def lines(sids: Array, days: Array, cells: Array) -> bytes:
     widths = [-(-len(str(int(greatest))) // 4) for greatest in (sids.max(), *wholes.max(axis=1))]
     form: list[tuple[Any, ...]] = [("sid", "u4", (widths[0],)), ("day", "S11")]
     for name, width in zip(BARS, widths[1:]):
-        form += [(f"{name} sign", "S2"), (f"{name} whole", "u4", (width,)), (f"{name} point", "u4"), (f"{name} end", "u4")]
+        form += [
+            (f"{name} sign", "S2"),
+            (f"{name} whole", "u4", (width,)),
+            (f"{name} point", "u4"),
+            (f"{name} end", "u4"),
+        ]
     row = np.zeros(1, np.dtype([*form, ("end", "S1")]))
     row["end"] = b"\n"
     for name in BARS:

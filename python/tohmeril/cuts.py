@@ -1,4 +1,4 @@
-"""The files that a piece of a range reads, cut from larger ones in one pass, with memory for a block of bars and not for all.
+"""The files that a piece of a range reads, cut from larger ones in one pass, with memory for a block of bars.
 
 Beside each cut file stand the numbers that its records have in the whole file, for faults.
 """
@@ -25,11 +25,15 @@ from .pipeline.script import Script
 from .plans import plan
 
 BLOCK = 8 << 20  # bytes of bars at a time
-SINCE = {"labels": "start", "numbers": "known"}  # the day from which on a record of these files holds, until the next one of its name
+SINCE = {
+    "labels": "start",
+    "numbers": "known",
+}  # the day from which on a record of these files holds, until the next one of its name
 
 
 class Span(NamedTuple):
-    """A piece: its folder, the first session whose bars it reads, its last session, and the assets that exist between them."""
+    """A piece: its folder, the first session whose bars it reads, its last one, and the assets that exist between."""
+
     folder: Path
     first: str
     last: str
@@ -37,7 +41,7 @@ class Span(NamedTuple):
 
 
 def cut_files(script: Script, data: Data, ranges: Sequence[tuple[str, str]], folder: Path) -> list[Data]:
-    """For each range of sessions, the files with what a pipeline reads for it and no more. The sessions are kept whole."""
+    """For each range of sessions, the files with what a pipeline reads for it and no more, and all sessions."""
     for part, path in data.files.items():
         if part != "adjustments" and not os.access(path, os.R_OK):
             raise ReadFault(f"read: {path}")
@@ -46,7 +50,9 @@ def cut_files(script: Script, data: Data, ranges: Sequence[tuple[str, str]], fol
     spans = []
     for at, (start, end) in enumerate(ranges):
         first = data.sessions[plan(script, start, end, data).reach]
-        spans.append(Span(folder / str(at), first, end, frozenset(assets.sid[(assets.start < end) & (assets.end >= first)])))
+        spans.append(
+            Span(folder / str(at), first, end, frozenset(assets.sid[(assets.start < end) & (assets.end >= first)]))
+        )
     for span in spans:
         span.folder.mkdir()
         shutil.copyfile(data.files["sessions"], span.folder / FILES["sessions"])
@@ -65,7 +71,9 @@ def of_whole(fault: DataFault, data: Data, piece: Data) -> DataFault:
     assert fault.path is not None and fault.record is not None  # it is the program's
     part = {name: part for part, name in FILES.items()}[Path(fault.path).name]
     records = piece.folder / f"{part}.records"
-    return fault.moved(data.files[part], int(np.fromfile(records, "i8")[fault.record - 1]) if records.exists() else fault.record)
+    return fault.moved(
+        data.files[part], int(np.fromfile(records, "i8")[fault.record - 1]) if records.exists() else fault.record
+    )
 
 
 def packed(data: Data) -> dict[str, bytes]:
@@ -105,7 +113,11 @@ def _table(data: Data, part: str) -> pd.DataFrame:
             column.extend(map(once.setdefault, fields, fields))
     table = pd.DataFrame(columns, dtype=object)
     table.index += 1
-    return table.sort_values(SINCE[part], kind="stable", key=lambda days: days.astype("category").cat.codes) if part in SINCE else table
+    return (
+        table.sort_values(SINCE[part], kind="stable", key=lambda days: days.astype("category").cat.codes)
+        if part in SINCE
+        else table
+    )
 
 
 def _kept(part: str, table: pd.DataFrame, span: Span) -> pd.Series:
@@ -127,7 +139,10 @@ def _bars(data: Data, spans: Sequence[Span], assets: pd.Index) -> None:
     The header, and a line of an unknown asset or session, go into each piece, where the program judges them.
     """
     sessions, last = pd.Index(data.sessions), 0  # the number of the last record
-    pieces = [(span.folder, np.append(assets.isin(span.sids), False), *sessions.get_indexer([span.first, span.last])) for span in spans]
+    pieces = [
+        (span.folder, np.append(assets.isin(span.sids), False), *sessions.get_indexer([span.first, span.last]))
+        for span in spans
+    ]
     for folder, *_ in pieces:
         (folder / FILES["bars"]).touch()
     with open(data.files["bars"], "rb") as bars:
@@ -140,9 +155,19 @@ def _bars(data: Data, spans: Sequence[Span], assets: pd.Index) -> None:
             is_record = lengths - (text[ends - 1] == ord("\r")) > 1
             numbers = last + np.cumsum(is_record, dtype="i8")
             last = numbers[-1]
-            keys = pd.read_csv(io.BytesIO(block), header=None, names=["sid", "session"], usecols=[0, 1], index_col=False, dtype="category",
-                               quoting=csv.QUOTE_NONE, keep_default_na=False, skip_blank_lines=False, lineterminator="\n",
-                               encoding_errors="replace")
+            keys = pd.read_csv(
+                io.BytesIO(block),
+                header=None,
+                names=["sid", "session"],
+                usecols=[0, 1],
+                index_col=False,
+                dtype="category",
+                quoting=csv.QUOTE_NONE,
+                keep_default_na=False,
+                skip_blank_lines=False,
+                lineterminator="\n",
+                encoding_errors="replace",
+            )
             asset, session = _places(keys.sid, assets), _places(keys.session, sessions)
             unknown = (asset < 0) | (session < 0) | (numbers == 1)
             for folder, mine, first, end in pieces:
@@ -155,7 +180,9 @@ def _bars(data: Data, spans: Sequence[Span], assets: pd.Index) -> None:
 
 def _places(keys: pd.Series, known: pd.Index) -> np.ndarray[Any, Any]:
     """The places of keys among the known ones; -1 for one that is not."""
-    places: np.ndarray[Any, Any] = np.append(known.get_indexer([str(key).strip('"') for key in keys.cat.categories]), -1)
+    places: np.ndarray[Any, Any] = np.append(
+        known.get_indexer([str(key).strip('"') for key in keys.cat.categories]), -1
+    )
     found: np.ndarray[Any, Any] = places[keys.cat.codes.to_numpy()]
     return found
 
@@ -168,7 +195,10 @@ def _adjustments(source: Path, span: Span) -> None:
             store.execute("ATTACH ? AS source", (read_only(source),))
             for table in TABLES:
                 store.execute(CREATE.format(table))
-                store.execute(f"INSERT INTO {table} SELECT id, effective_date, num, den, sid FROM source.{table} "
-                              "WHERE effective_date >= ? AND effective_date < ?", days)
+                store.execute(
+                    f"INSERT INTO {table} SELECT id, effective_date, num, den, sid FROM source.{table} "
+                    "WHERE effective_date >= ? AND effective_date < ?",
+                    days,
+                )
     except sqlite3.Error as error:
         raise StoreFault(f"store: {source}") from error

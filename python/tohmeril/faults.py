@@ -50,8 +50,7 @@ HINTS = {  # by the last word of the line; docs/FILES.md and docs/LANGUAGE.md in
     "UnknownSid": "add the asset to the assets, or drop the record",
     "Negative": (
         "a bar has no values below 0; leave a missing one empty. In CRSP a minus says that the price is a mean of "
-        "bid and ask: "
-        "give it without its sign"
+        "bid and ask: give it without its sign"
     ),
     "Duplicate": "keep one of the two records",
     "LabelTooLong": "a label has at most 64 bytes",

@@ -1,13 +1,14 @@
-"""Folders that are whole or not there: each write makes a version beside the others, and one rename makes it the one that counts.
+"""Folders that are whole or not there: a write makes a version beside the others, and one rename lets it count.
 
     folder/versions/7/bars.csv, ..        all files of one version, which nobody changes any more
     folder/versions/current -> 7          the version that counts
     folder/bars.csv -> versions/current/bars.csv, ..    the plain names, for commands
 
-A writer brings all files of a new version to the disk before it renames a link of its own over `current`. That rename is one step of
-the file system: whoever reads `current` finds the old version or the new one, and each of them has all its files, wherever the writer
-is ended. `Data` reads `current` once and then names the files of that version alone, so that it sees one version from its first read
-to its last. It holds a shared lock on it for as long as it lives, and a writer removes no version that is held. Writers take turns.
+A writer brings all files of a new version to the disk before it renames a link of its own over `current`. That rename
+is one step of the file system: whoever reads `current` finds the old version or the new one, and each of them has all
+its files, wherever the writer is ended. `Data` reads `current` once and then names the files of that version alone,
+so that it sees one version from its first read to its last. It holds a shared lock on it for as long as it lives, and
+a writer removes no version that is held. Writers take turns.
 """
 from __future__ import annotations
 
@@ -127,7 +128,7 @@ def writing(folder: Path, names: Sequence[str]) -> Iterator[Path]:
     finally:
         if current(folder) is None:  # so that nothing is left of a first write that ended early
             (versions / "lock").unlink(missing_ok=True)
-            for path in [versions, folder][:1 + fresh]:
+            for path in [versions, folder][: 1 + fresh]:
                 if path.exists() and not any(path.iterdir()):
                     path.rmdir()
 

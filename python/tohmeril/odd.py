@@ -106,8 +106,7 @@ def _sessions(data: Data) -> Iterator[str]:
         if len(free) and (names == other).mean() < 0.1:  # else it is a market that trades on all days
             yield (
                 f"sessions: {len(free)} of {len(days)} are a {name}, as {free[0]:%Y-%m-%d}: a day in UTC is another "
-                "one "
-                "east of it, so give days of the exchange's own clock"
+                "one east of it, so give days of the exchange's own clock"
             )
 
 
@@ -118,8 +117,7 @@ def _lives(data: Data, assets: pd.DataFrame) -> Iterator[str]:
         first = never.iloc[0]
         yield (
             f"assets: {len(never)} of {len(assets)} exist on no session, as {_asset(data, first.sid)} after "
-            f"{first.start} "
-            f"up to {first.end}"
+            f"{first.start} up to {first.end}"
         )
     ending = (assets["end"] == last).sum()
     if ending:
@@ -181,9 +179,8 @@ class _Bars:
 
     def __init__(self, data: Data, sids: pd.Series, adjustments: pd.DataFrame):
         self.data, self.sids, self.sessions = data, pd.Index(np.unique(sids)), pd.Index(data.sessions)
-        self.close, self.place = np.full(len(self.sids), np.nan), np.full(
-            len(self.sids), -1
-        )  # the newest of each asset
+        self.close = np.full(len(self.sids), np.nan)  # the newest one of each asset, and its session
+        self.place = np.full(len(self.sids), -1)
         self.greatest: list[pd.Series] = []
         self.zeros, self.zero, self.steps, self.step = 0, "", 0, ""
         self.width = len(self.sessions) + 1  # a key is the place of the asset times this and that of the session
@@ -193,11 +190,7 @@ class _Bars:
         self.keys, self.logs = keys[order], np.append(0, np.cumsum(np.log(acting.ratio.to_numpy())[order]))
         plain = (acting.table == "splits").to_numpy() & (np.abs(np.log(acting.ratio.to_numpy())) > np.log(PLAIN))
         self.splits, self.split_keys = acting[plain], keys[plain]
-        self.seen, self.flat, self.first_flat = (
-            0,
-            0,
-            "",
-        )  # how many splits were seen, and how many without a fall or a rise
+        self.seen, self.flat, self.first_flat = 0, 0, ""  # splits, and those without a fall or a rise
 
     def add(self, block: pd.DataFrame) -> None:
         """Look at some bars."""
@@ -232,17 +225,19 @@ class _Bars:
         newest = newest[place[newest] > self.place[asset[newest]]]
         self.close[asset[newest]], self.place[asset[newest]] = close[newest], place[newest]
         change = close / before
-        for at in np.flatnonzero((change < 1 / GREAT) | (change > GREAT)):
-            low, high = np.searchsorted(self.keys, [keys[at] - place[at] + since[at], keys[at]], "right")
-            rest = change[at] / np.exp(self.logs[high] - self.logs[low])  # without what the adjustments explain
-            times = max(rest, 1 / rest)
-            if times > GREAT and abs(times / round(times) - 1) < LIKE:
-                self.steps += 1
-                self.step = self.step or self._told(_Change(asset[at], place[at], before[at], close[at]))
+        great = np.flatnonzero((change < 1 / GREAT) | (change > GREAT))
+        low = np.searchsorted(self.keys, keys[great] - place[great] + since[great], "right")
+        high = np.searchsorted(self.keys, keys[great], "right")
+        rest = change[great] / np.exp(self.logs[high] - self.logs[low])  # without what the adjustments explain
+        times = np.maximum(rest, 1 / rest)
+        steps = great[(times > GREAT) & (np.abs(times / np.round(times) - 1) < LIKE)]
+        self.steps += len(steps)
+        for at in steps[:1]:
+            self.step = self.step or self._told(_Change(asset[at], place[at], before[at], close[at]))
         at = np.minimum(np.searchsorted(keys, self.split_keys), len(keys) - 1)
         own = (asset[at] == self.split_keys // self.width) & (keys[at] >= self.split_keys)
         here = own & (since[at] < self.split_keys % self.width) & ~np.isnan(before[at])
-        for row, pair in zip(self.splits[here].itertuples(), at[here]):
+        for row, pair in zip(self.splits[here].itertuples(), at[here].tolist()):
             self.seen += 1
             if abs(np.log(change[pair])) < abs(np.log(change[pair] / row.ratio)):
                 self.flat += 1
@@ -261,16 +256,14 @@ class _Bars:
             elif greatest > NEAR:
                 yield (
                     f"bars: {name} goes up to {greatest:.0f}, and what passes 100000000000 is missing: give the "
-                    "volume in "
-                    "thousands, or prices in a greater unit"
+                    "volume in thousands, or prices in a greater unit"
                 )
         if self.zeros:
             yield f"bars: {self.zeros} have a price of 0, as that of {self.zero}: leave a missing one empty"
         if self.steps:
             yield (
                 f"bars: {self.steps} closes fall to about a half, a third, .. or rise to the double, the triple, .. "
-                "without "
-                f"a split, as that of {self.step}: give the splits, or see whether the bar is of another asset"
+                f"without a split, as that of {self.step}: give the splits, or see whether the bar is of another asset"
             )
         if self.flat:
             yield f"splits: {self.flat} of {self.seen} show no fall or rise on their day, as {self.first_flat}: " + (

@@ -60,8 +60,8 @@ def foreign(path: str, answer: bytes) -> Fault:
     shown = repr(answer[:60].decode(errors="replace")) if answer else "nothing"
     return Fault(
         f"the program {path} wrote {shown}",
-        "so it is no tohmeril, or one of another version than this package: let "
-        "TOHMERIL name the one that belongs to it, which ./tohmeril builds in the checkout",
+        "so it is no tohmeril, or one of another version than this package: let TOHMERIL name the one that belongs "
+        "to it, which ./tohmeril builds in the checkout",
     )
 
 

@@ -22,8 +22,8 @@ def read_proved(path: Path) -> dict[str, str]:
     Returns
     -------
     dict of str to str
-        The values by their names, as `commit`, `toolchain`, `gate`, `sources` and `program`. It is empty where there is no
-        such file, as in a checkout.
+        The values by their names, as `commit`, `toolchain`, `gate`, `sources` and `program`. It is empty where
+        there is no such file, as in a checkout.
     """
     if not path.exists():
         return {}
@@ -37,7 +37,7 @@ def describe() -> tuple[str, bool]:
     Returns
     -------
     text : str
-        Four lines: the version, the path of the program, the sha256 of its file, and whether the release names that sum.
+        Four lines: the version, the path of the program, the sha256 of its file, and whether the release names it.
     agrees : bool
         False where the release names another program.
 

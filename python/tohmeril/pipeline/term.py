@@ -452,8 +452,8 @@ class Factor(Term):
         if isinstance(max_percentile, Real) and max_percentile <= 1:
             warnings.warn(
                 f"percentile_between({min_percentile!r}, {max_percentile!r}) is the part of a hundredth of the values "
-                "or less, since "
-                f"percentiles are from 0 to 100: was ({100 * min_percentile:g}, {100 * max_percentile:g}) meant?",
+                f"or less, since percentiles are from 0 to 100: was ({100 * min_percentile:g}, "
+                f"{100 * max_percentile:g}) meant?",
                 stacklevel=2,
             )
         return Filter(MEMBER, "percentile_between", self, min_percentile, max_percentile, mask=mask)

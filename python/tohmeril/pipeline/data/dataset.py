@@ -53,8 +53,8 @@ class Column:
         if pandas_dtype(dtype).kind != "f":
             Absent(
                 f"Column({getattr(dtype, '__name__', dtype)})",
-                "Column(float) for numbers, also whole ones, and true or false as 1 "
-                "and 0; Labels.NAME.latest for texts",
+                "Column(float) for numbers, also whole ones, and true or false as 1 and 0; Labels.NAME.latest for "
+                "texts",
             )()
         if missing_value == missing_value:
             Absent(f"missing_value={missing_value!r}", "NaN, and .latest.fillna(value)")()
@@ -66,8 +66,7 @@ class Column:
         if not is_name(name):
             raise ValueError(
                 f"{dataset}.{attribute}: {name!r} can't be the name of a number, which is a letter or _ and then "
-                "letters, "
-                "digits or _, at most 32 in all, and no keyword of the language"
+                "letters, digits or _, at most 32 in all, and no keyword of the language"
             )
         return NumberColumn(TEXT, name, f"{dataset}.{attribute}")
 
