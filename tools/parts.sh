@@ -11,7 +11,7 @@ left_out=,${TOHMERIL_WITHOUT:-},
 declare -A command_of=([gcc]=gcc [git]=git [graphviz]=dot [man]=man [parallel]=parallel [python3]=python3 [sqlite3]=sqlite3)
 declare -A module_of=([black]=black [distributed]=distributed [matplotlib]=matplotlib [mypy]=mypy [pandas]=pandas [pytest]=pytest
     [setuptools]=setuptools [tqdm]=tqdm [venv]=ensurepip [wheel]=wheel)
-declare -A package_of=([man]=man-db [distributed]=python3-distributed [matplotlib]=python3-matplotlib [pandas]=python3-pandas
+declare -A package_of=([gcc]="gcc libc6-dev" [man]=man-db [distributed]=python3-distributed [matplotlib]=python3-matplotlib [pandas]=python3-pandas
     [pytest]=python3-pytest [setuptools]=python3-setuptools [tqdm]=python3-tqdm [venv]=python3-venv [wheel]=python3-wheel)
 
 # The parts of the first example, and those of all tests.
