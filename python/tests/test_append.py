@@ -298,6 +298,14 @@ def command(store, tmp_path, capsys):
     return run
 
 
+@pytest.mark.parametrize("folder", ["nowhere", "news"])
+def test_the_command_over_no_data(folder, tmp_path, capsys):
+    (tmp_path / "news").mkdir()
+    assert __main__.main(["append", str(tmp_path / folder), str(tmp_path / "news"), "2024-01-05"]) == 7
+    assert "append adds to a folder that is there: Data.write makes one" in capsys.readouterr().err
+    assert [path.name for path in tmp_path.iterdir()] == ["news"] and not list((tmp_path / "news").iterdir())
+
+
 def test_the_command(command, store):
     status, said = command(
         "volume,symbol,date,close\n5,AAA,2024-01-04,13", "2024-01-05"

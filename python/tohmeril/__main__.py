@@ -16,7 +16,7 @@ import pandas as pd
 from . import version
 from .data import Data
 from .days import NoDay, read_day
-from .faults import DataFault, Fault
+from .faults import DataFault, Fault, ReadFault
 from .frames import select_columns
 
 PARTS = ("bars", "assets", "labels", "numbers", "revisions", "splits", "mergers", "dividends")
@@ -75,6 +75,10 @@ def append(store: Path, news: Path, today: str, without_bars: bool, late: bool, 
         today = read_day(today)
     except NoDay as error:
         raise DataFault(f"append: {error.why}", error.instead) from None
+    if not data.sessions:
+        raise ReadFault(
+            f"read: {data.files['sessions']}", "append adds to a folder that is there: Data.write makes one"
+        )
     if today == data.sessions[-1]:
         print(f"append: {today} is the last session already, so nothing is added", file=sys.stderr)
         return None
