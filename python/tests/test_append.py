@@ -192,6 +192,20 @@ def test_late_bars(store):
     ]
 
 
+def test_a_missing_value_ends_what_the_folder_has(store):
+    def wide(cells, day):
+        return pd.DataFrame(cells, index=[day])
+
+    data = store.append(numbers={"score": wide({"AAA": [5.0]}, DAYS[3])}, sessions=[DAYS[3]])
+    empty = {"AAA": [np.nan], "BBB": [np.nan], "ZZZ": [np.nan]}
+    data = data.append(
+        numbers={"score": wide(empty, DAYS[4])}, labels={"sector": wide(empty, DAYS[4])}, sessions=[DAYS[4]]
+    )
+    table = data.run_pipeline(Pipeline({"score": Figures.score.latest, "sector": sector}), DAYS[3], DAYS[4])
+    table = table.xs(0, level="asset")
+    assert table.score.tolist()[0] == 5 and table.sector.tolist()[0] == "Tech" and table.iloc[1].isna().all()
+
+
 @pytest.mark.parametrize(
     "parts, told",
     [

@@ -257,7 +257,7 @@ def _beside(
 ) -> dict[str, pd.DataFrame]:
     """The new records of the other files, which are seen after the last session alone."""
     first = days[0] if days else as_text(as_number(store.last) + 1)
-    files = beside_bars(sids, first, labels, revisions, numbers, after_close)
+    files = beside_bars(sids, first, labels, revisions, numbers, after_close, news=True)
     if early:
         cells = pd.concat(early).melt(["sid", "session"], list(BARS), "column", "value").dropna(subset=["value"])
         cells = sids.records(
