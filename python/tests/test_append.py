@@ -178,6 +178,29 @@ def rows_of_sector(data):
     return run_text(Pipeline({"sector": sector, "close": EquityPricing.close.latest}), DAYS[1], DAYS[2], data)
 
 
+def test_symbols(tmp_path):
+    close = pd.DataFrame({3: [1.0, 1.1], 7: [4.0, 4.1]}, index=DAYS[:2])
+    by_sid = ("sid", "date", "close")
+    data = Data.write(tmp_path / "named", {"close": close}, symbols={"AAA": 3, "BBB": 7})
+    grown = data.append(news((9, DAYS[2], 1.0), columns=by_sid), symbols={"AAA": 3, "CCC": 9})
+    assert grown.sids(["AAA", "BBB", "CCC"]) == [3, 7, 9] and grown.added["symbols"] == 1
+    grown = grown.append(news((11, DAYS[3], 1.0), columns=by_sid))  # one without a symbol
+    assert grown.added == {"sessions": 1, "bars": 1, "assets": 1}
+    for symbols in ({"AAA": 7, "BBB": 3}, {"AAA": 8}):
+        with pytest.raises(DataFault, match="symbols: 'AAA' has the sid 3, and not [78]\n"):
+            grown.append(sessions=[DAYS[4]], symbols=symbols)
+    with pytest.raises(DataFault, match="symbols: the sid 7 of 'DDD' is of another"):
+        grown.append(news((7, DAYS[4], 1.0), columns=by_sid), symbols={"DDD": 7})
+    data = Data.write(tmp_path / "plain", {"close": close})
+    with pytest.raises(DataFault, match="symbols: the data have none"):
+        data.append(news((9, DAYS[2], 1.0), columns=by_sid), symbols={"CCC": 9})
+
+
+def test_a_new_asset_without_any_value(store):
+    data = store.append(news(("AAA", DAYS[3], 1.0), ("NEW", DAYS[3], np.nan)))
+    assert data.added == {"sessions": 1, "bars": 1, "symbols": 1}
+
+
 def test_late_bars(store):
     data = store.append(sessions=[DAYS[3], DAYS[4]])
     data = data.append(
