@@ -343,6 +343,22 @@ def test_the_command_over_no_data(folder, tmp_path, capsys):
     assert [path.name for path in tmp_path.iterdir()] == ["news"] and not list((tmp_path / "news").iterdir())
 
 
+def test_files_that_the_command_cannot_read(command, store, tmp_path):
+    for text, told in (
+        ("\n", "bars.csv: No columns to parse from file"),
+        ("symbol,date,close\nAAA,2024-01-03,1\nAAA,2024-01-03,1,2,3\n", "Expected 3 fields in line 3, saw 5"),
+        ("symbol,date,close\nAAA,,1\n", "bars: a day is missing in session"),
+        ("symbol,date,close\nAAA,03/01/2024,1\n", "bars: '03/01/2024' may be a day of January or of March"),
+    ):
+        status, said = command(text, "2024-01-05")
+        assert status == 4 and told in said
+    (tmp_path / "news/bars.csv").write_bytes(b"symbol,date,close\nAAA\xe9,2024-01-03,1\n")
+    with pytest.raises(DataFault, match="bars.csv: 'utf-8' codec can't decode"):
+        __main__.read(tmp_path / "news/bars.csv")
+    assert command("sid,date,close\nNEW,2024-01-03,13\n", "2024-01-05")[0] == 0  # symbols under the name of sids
+    assert Data(store.folder).sids(["NEW"]) == [2]
+
+
 def test_the_command(command, store):
     status, said = command(
         "volume,symbol,date,close\n5,AAA,2024-01-04,13", "2024-01-05"
