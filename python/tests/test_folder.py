@@ -8,7 +8,7 @@ import shutil
 import signal
 import subprocess
 import time
-from concurrent.futures import ProcessPoolExecutor
+from concurrent.futures import ProcessPoolExecutor, ThreadPoolExecutor
 from multiprocessing import get_context
 
 import pandas as pd
@@ -17,6 +17,7 @@ from conftest import CHECKOUT
 
 from tohmeril import Data, ReadFault, run_text
 from tohmeril.data import FILES
+from tohmeril.folder import writing
 from tohmeril.pipeline import Pipeline
 from tohmeril.pipeline.data import EquityPricing
 from tohmeril.pipeline.factors import Returns
@@ -229,6 +230,27 @@ def test_writers_take_turns(tables, tmp_path):
         writer.join()
         assert writer.exitcode == 0
     assert table(tmp_path) == tables[1]
+
+
+def test_first_writers_with_faults_take_turns(tmp_path):
+    found = []
+
+    def work():
+        end = time.monotonic() + 1.5
+        while time.monotonic() < end:
+            try:
+                with writing(tmp_path / "data", ["a"]) as new:
+                    (new / "a").write_text("x")
+                    time.sleep(0.001)
+                    assert [path.name for path in new.iterdir()] == ["a"]
+                    raise KeyError
+            except BaseException as error:
+                found.append(repr(error))
+
+    with ThreadPoolExecutor(4) as pool:
+        for done in [pool.submit(work) for _ in range(4)]:
+            done.result()
+    assert set(found) == {"KeyError()"} and not list(tmp_path.glob("data/*"))
 
 
 def test_no_adjustments(market, tmp_path):

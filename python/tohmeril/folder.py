@@ -16,7 +16,7 @@ import fcntl
 import os
 import shutil
 import sqlite3
-from contextlib import closing, contextmanager
+from contextlib import closing, contextmanager, suppress
 from pathlib import Path
 from typing import Iterator, Mapping, Optional, Sequence
 
@@ -36,10 +36,7 @@ class Held:
 
     def is_there(self) -> bool:
         """Whether the version was there when it was locked, and no writer had just removed it."""
-        try:
-            return os.path.samestat(os.fstat(self.lock), os.stat(self.path / "lock"))
-        except FileNotFoundError:
-            return False
+        return _is_at(self.lock, self.path / "lock")
 
     def __del__(self) -> None:
         if hasattr(self, "lock"):
@@ -128,25 +125,37 @@ def writing(folder: Path, names: Sequence[str]) -> Iterator[Path]:
                 _publish(folder, new, names)
             finally:
                 shutil.rmtree(new, ignore_errors=True)
+                if current(folder) is None:  # so that nothing is left of a first write that ended early
+                    (versions / "lock").unlink(missing_ok=True)  # within the turn: later it may be the lock of the next writer
             _tidy(versions)
     finally:
-        if current(folder) is None:  # so that nothing is left of a first write that ended early
-            (versions / "lock").unlink(missing_ok=True)
-            for path in [versions, folder][: 1 + fresh]:
-                if path.exists() and not any(path.iterdir()):
+        if current(folder) is None:
+            with suppress(OSError):  # there is something in it, perhaps by the next writer
+                for path in [versions, folder][: 1 + fresh]:
                     path.rmdir()
 
 
 @contextmanager
 def _turn(versions: Path) -> Iterator[None]:
-    """One writer at a time; the next one waits."""
+    """One writer at a time; the next one waits.
+
+    Again and again, since a first writer that ends early takes the lock and its folder away.
+    """
+    missed = 0
     while True:
-        versions.mkdir(parents=True, exist_ok=True)
-        with open(versions / "lock", "a") as lock:
+        try:
+            versions.mkdir(parents=True, exist_ok=True)
+            lock = open(versions / "lock", "a")
+        except (FileNotFoundError, FileExistsError):
+            missed += 1
+            if missed > 1000:
+                raise
+            continue
+        with lock:
             fcntl.flock(lock, fcntl.LOCK_EX)
-            if os.path.exists(lock.name) and os.path.samestat(os.fstat(lock.fileno()), os.stat(lock.name)):
+            if _is_at(lock.fileno(), versions / "lock"):
                 yield
-                return  # else a first writer ended early and took it away
+                return
 
 
 def _take_in(folder: Path, names: Sequence[str]) -> None:
@@ -191,6 +200,14 @@ def _publish(folder: Path, new: Path, names: Sequence[str]) -> None:
             for log in ("wal", "shm"):
                 (folder / f"{name}-{log}").unlink(missing_ok=True)
     _sync(folder)
+
+
+def _is_at(file: int, path: Path) -> bool:
+    """Whether an open file is still the one of this name."""
+    try:
+        return os.path.samestat(os.fstat(file), os.stat(path))
+    except FileNotFoundError:
+        return False
 
 
 def _link(versions: Path, target: str, path: Path) -> None:
