@@ -197,6 +197,27 @@ def test_files_that_were_put_there(tables, tmp_path):
     assert table(tmp_path) == tables[1]
 
 
+def test_files_of_another_user(tables, tmp_path, monkeypatch):
+    """One may neither be linked nor removed."""
+
+    def refuse(source, target):
+        if os.path.basename(target) == "gone" or rename is None:
+            raise PermissionError(errno.EPERM, "Operation not permitted", source)
+        rename(source, target)
+
+    rename = None
+    for name, content in files(Data.write(tmp_path / "made", **OLD).folder).items():
+        (tmp_path / name).write_bytes(content)
+    monkeypatch.setattr(os, "link", refuse)
+    held = Data.write(tmp_path, **NEW).files["bars"]
+    rename = os.rename
+    monkeypatch.setattr(os, "rename", refuse)
+    for parts, shown in ((OLD, tables[0]), (OLD, tables[0]), (NEW, tables[1])):
+        Data.write(tmp_path, **parts)
+        assert table(tmp_path) == shown
+    assert held.exists() and not (tmp_path / "versions/gone/bars.csv").exists()
+
+
 def test_a_copy(tables, tmp_path):
     Data.write(tmp_path / "made", **OLD)
     Data.write(tmp_path / "made", **NEW)

@@ -126,7 +126,9 @@ def writing(folder: Path, names: Sequence[str]) -> Iterator[Path]:
             finally:
                 shutil.rmtree(new, ignore_errors=True)
                 if current(folder) is None:  # so that nothing is left of a first write that ended early
-                    (versions / "lock").unlink(missing_ok=True)  # within the turn: later it may be the lock of the next writer
+                    (versions / "lock").unlink(
+                        missing_ok=True
+                    )  # within the turn: later it may be the lock of the next writer
             _tidy(versions)
     finally:
         if current(folder) is None:
@@ -169,7 +171,10 @@ def _take_in(folder: Path, names: Sequence[str]) -> None:
             with closing(sqlite3.connect(source)) as store, closing(sqlite3.connect(old / name)) as copy:
                 store.backup(copy)
         elif is_plain(source) and not source.is_symlink():
-            os.link(source, old / name)
+            try:
+                os.link(source, old / name)
+            except OSError:  # a file system without such links, or a file of somebody else
+                shutil.copyfile(source, old / name)
         elif source.exists():
             shutil.copyfile(source, old / name)
     _publish(folder, old, names)
@@ -226,7 +231,10 @@ def _numbers(versions: Path) -> list[int]:
 
 
 def _tidy(versions: Path) -> None:
-    """Remove the versions that nobody holds, but for the newest ones up to the current one."""
+    """Remove the versions that nobody holds, but for the newest ones up to the current one.
+
+    What was written counts by now, so that a version which may not be removed, as that of another user, stays.
+    """
     numbers = _numbers(versions)
     newest = [number for number in numbers if number <= int(os.readlink(versions / "current"))][-KEPT:]
     for number in {*numbers} - {*newest}:
@@ -235,7 +243,7 @@ def _tidy(versions: Path) -> None:
                 fcntl.flock(lock, fcntl.LOCK_EX | fcntl.LOCK_NB)
                 os.rename(versions / str(number), _emptied(versions / "gone"))
                 shutil.rmtree(versions / "gone")
-        except BlockingIOError:
+        except (BlockingIOError, PermissionError):
             continue
 
 
