@@ -335,6 +335,22 @@ def test_crsp(factors, tmp_path):
     assert frame.change["2024-01-05", 10003] == -0.75 and ("2024-01-08", 10003) not in frame.index
 
 
+def test_crsp_of_texts_and_of_a_weekend():
+    days = ["2024-01-05", "2024-01-06", "2024-01-05", "2024-01-06", "2024-01-07"]
+    frame = pd.DataFrame({"PERMNO": list("ABCCC"), "date": ["2024-01-05", *days[1:]], "PRC": 10.0, "CFACPR": 1.0})
+    ends = pd.DataFrame({"PERMNO": ["A", "B"], "DLSTCD": 574, "DLRET": [None, -0.5]})
+    with pytest.warns(UserWarning, match="CRSP: 1 of 2 delisting returns are left out, as that of A: they"):
+        lives = crsp(frame, ends)["assets"].set_index("symbol").end
+    assert lives.to_dict() == {"A": "2024-01-05", "B": "2024-01-08", "C": "2199-12-31"}
+
+
+@pytest.mark.parametrize("split", [np.inf, -2.0, 0.0, np.nan])
+def test_unadjust_by_no_split(split):
+    splits = pd.DataFrame({"symbol": ["AAA"], "date": ["2024-01-03"], "split": [split]})
+    with pytest.raises(DataFault, match=f"^splits: AAA has {split} shares for an old one"):
+        unadjust(pd.DataFrame({"symbol": ["AAA"], "date": ["2024-01-02"], "close": [1.0]}), splits)
+
+
 @pytest.mark.parametrize("price, volume", [(np.nan, np.nan), (0, 0), (np.nan, 7)])
 def test_crsp_with_a_delisting_on_a_day_without_a_price(price, volume, tmp_path):
     frame = daily()

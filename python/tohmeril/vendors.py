@@ -15,7 +15,7 @@ import pandas as pd
 
 from .days import Day, read_day, read_days
 from .faults import DataFault
-from .frames import FOREVER, listed, ratio, to_long, to_numbers
+from .frames import FOREVER, listed, ratio, to_long, to_numbers, whole_number
 from .pipeline.script import BARS
 
 PRICES = ("open", "high", "low", "close")
@@ -335,7 +335,7 @@ def _delisted(
     if len(kept) < len(added):
         lost = added.index.difference(kept.symbol)
         warnings.warn(
-            f"CRSP: {len(lost)} of {len(added)} delisting returns are left out, as that of {lost[0]:.0f}: they are "
+            f"CRSP: {len(lost)} of {len(added)} delisting returns are left out, as that of {whole_number(lost[0]) or lost[0]}: they are "
             "missing, or no session follows the asset's last bar",
             stacklevel=3,
         )
@@ -343,7 +343,9 @@ def _delisted(
         return bars, lives
     kept = kept.merge(bars.drop(columns="close"), "left", KEYS)  # a bar without a price may be there already
     bars = bars[~pd.MultiIndex.from_frame(bars[KEYS]).isin(pd.MultiIndex.from_frame(kept[KEYS]))]
-    ending = {symbol: after[day] or str(np.busday_offset(day, 1)) for symbol, day in zip(kept.symbol, kept.date)}
+    ending = {
+        symbol: after[day] or str(np.busday_offset(day, 1, "backward")) for symbol, day in zip(kept.symbol, kept.date)
+    }
     return pd.concat([bars, kept], ignore_index=True), lives.assign(end=lives.symbol.map(ending).fillna(lives.end))
 
 
@@ -466,7 +468,13 @@ def _later_splits(rows: pd.DataFrame, splits: pd.DataFrame, same_day: bool = Fal
         if symbol in places:
             after = [Fraction(1)]  # the product of the splits from each one on
             for split in reversed(mine.split.tolist()):
-                after.append(after[-1] / ratio(split, inverse=True))
+                try:
+                    old = ratio(split, inverse=True)
+                except (TypeError, ValueError, ArithmeticError):
+                    old = Fraction(0)
+                if old <= 0:
+                    raise DataFault(f"splits: {symbol} has {split} shares for an old one")
+                after.append(after[-1] / old)
             products = np.array([float(each) for each in reversed(after)])
             at = places[symbol]
             factor[at] = products[
