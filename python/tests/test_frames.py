@@ -234,6 +234,18 @@ def test_after_the_close(after_close, known, start, tmp_path):
     assert wide["numbers"] == found["numbers"] and wide["labels"] == [*found["labels"], "first,0,2024-01-02,x"]
 
 
+@pytest.mark.parametrize("names", [["AAA", "LOW"], ["LOW", "OPEN"], ["OPEN"]])
+def test_symbols_that_are_names_of_prices(names, tmp_path):
+    wide = {name: pd.concat({symbol: CLOSE.iloc[:, 0] for symbol in names}, axis=1) for name in ("close", "volume")}
+    frame = pd.concat(wide, axis=1)
+    for given in (frame, frame.swaplevel(axis=1)):
+        if "AAA" in names:
+            assert texts(tmp_path, given) == texts(tmp_path, wide)
+            continue
+        with pytest.raises(DataFault, match="may be names of prices\ngive frames by name"):
+            texts(tmp_path, given)
+
+
 def test_wide_labels_of_any_order(tmp_path):
     labels = pd.DataFrame({"AAA": ["x", "x", "y"]}, index=pd.to_datetime(["2024-01-09", "2024-01-02", "2024-01-05"]))
     assert texts(tmp_path, labels={"sector": labels})["labels"] == [

@@ -274,7 +274,7 @@ def by_day(frame: Any, part: str, name: Any, read: Callable[[pd.Series, str], pd
 def long_bars(bars: Union[pd.DataFrame, Mapping[str, pd.DataFrame]]) -> pd.DataFrame:
     """Bars of any of the forms as sid, session and the five columns."""
     if isinstance(bars, pd.DataFrame) and bars.columns.nlevels == 2:
-        level = int(bool({str(name).lower() for name in bars.columns.unique(1)} & set(BARS)))
+        level = price_level(bars.columns)
         bars = {name: bars.xs(name, axis=1, level=level) for name in bars.columns.unique(level)}
     if isinstance(bars, pd.DataFrame):
         if not (has_column(bars, "open") or has_column(bars, "close")):
@@ -287,6 +287,17 @@ def long_bars(bars: Union[pd.DataFrame, Mapping[str, pd.DataFrame]]) -> pd.DataF
     if frame.empty:
         raise DataFault("bars: there is none", "the frame is empty")
     return frame
+
+
+def price_level(columns: pd.MultiIndex) -> int:
+    """Which of two levels has the names of prices; those of the other one are assets, and one may be called LOW."""
+    first, second = ({str(name).lower() for name in columns.unique(level)} for level in (0, 1))
+    if first | second <= set(BARS):
+        raise DataFault(
+            f"bars: both {listed(columns.unique(0))} and {listed(columns.unique(1))} may be names of prices",
+            "give frames by name, as {name: bars.xs(name, axis=1, level=0) for name in bars.columns.unique(0)}",
+        )
+    return int((second <= set(BARS), len(second & set(BARS))) > (first <= set(BARS), len(first & set(BARS))))
 
 
 def refuse_versions(columns: Iterable[Any]) -> None:
