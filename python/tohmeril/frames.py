@@ -195,6 +195,22 @@ def late_parts(after_close: Union[bool, str, Iterable[str]]) -> frozenset[str]:
     return frozenset(parts)
 
 
+def require_frame(given: Any, what: str) -> pd.DataFrame:
+    """What was given, where it is a frame.
+
+    >>> require_frame({"AAPL": 2}, "splits")
+    Traceback (most recent call last):
+    tohmeril.faults.DataFault: splits: dict is no frame
+    give a DataFrame of pandas: help(tohmeril.ingest.write) has its columns
+    """
+    if not isinstance(given, pd.DataFrame):
+        raise DataFault(
+            f"{what}: {type(given).__name__} is no frame",
+            "give a DataFrame of pandas: help(tohmeril.ingest.write) has its columns",
+        )
+    return given
+
+
 def has_column(frame: pd.DataFrame, name: str) -> bool:
     """Whether a frame has a column of this name or of another one for it."""
     return not {name, *OTHER.get(name, ())}.isdisjoint(str(each).lower() for each in frame.columns)
@@ -206,6 +222,7 @@ def select_columns(frame: pd.DataFrame, what: str, *wanted: str, optional: Itera
     They may have other names, in letters of any size, and may be in the frame's index. Those that are optional and not
     there are missing values. The own name of a column comes before another one for it; two other ones are a fault.
     """
+    frame = require_frame(frame, what)
     frame = frame.reset_index() if any(name is not None for name in frame.index.names) else frame
     there: dict[str, list[Any]] = {}
     for name in frame.columns:
@@ -330,7 +347,7 @@ def long_labels(labels: Union[pd.DataFrame, Mapping[Any, Any]], first: str, late
     def read(values: pd.Series, what: str) -> pd.Series:
         return read_known(values, what, late)
 
-    if isinstance(labels, pd.DataFrame):
+    if not isinstance(labels, Mapping):
         found = select_columns(labels, "labels")
         return found.assign(
             label=found.label.astype(object).where(found.label.notna(), ""), start=read(found.start, "labels")
@@ -365,11 +382,11 @@ def long_revisions(revisions: pd.DataFrame, late: bool = False) -> pd.DataFrame:
 
 def long_numbers(numbers: Union[pd.DataFrame, Mapping[Any, Any]], late: bool = False) -> pd.DataFrame:
     """Numbers of either form as name, sid, known and value."""
-    if isinstance(numbers, pd.DataFrame):
+    if not isinstance(numbers, Mapping):
         found = select_columns(numbers, "numbers")
         found = found.assign(known=read_known(found.known, "numbers", late))
     else:
-        names = [getattr(key, "name", key) for key in numbers]  # of texts and of a DataSet's columns
+        names: list[Any] = [getattr(key, "name", key) for key in numbers]  # of texts and of a DataSet's columns
         require_unique(pd.DataFrame({"name": names}), ["name"], "numbers")
         parts = [changes(name, frame, late) for name, frame in zip(names, numbers.values())]
         found = pd.concat(parts or [pd.DataFrame(columns=HEADERS["numbers"])], ignore_index=True)
@@ -383,7 +400,7 @@ def long_numbers(numbers: Union[pd.DataFrame, Mapping[Any, Any]], late: bool = F
         row = found.iloc[great.argmax()]
         told = f"is {row.value:.12g}; the greatest is {GREATEST}: give it in thousands or millions"
         raise DataFault(f"numbers: {row['name']} of {row.sid}, known on {row.known}, {told}", rows_of(found, great))
-    if isinstance(numbers, pd.DataFrame) and has_column(numbers, "period"):
+    if not isinstance(numbers, Mapping) and has_column(numbers, "period"):
         given = select_columns(numbers, "numbers", "known", "period")
         warn_of_periods(found.assign(known=read_days(given.known, "numbers"), period=given.period))
     return require_unique(found, ["name", "sid", "known"], "numbers")
