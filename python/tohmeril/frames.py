@@ -211,6 +211,11 @@ def require_frame(given: Any, what: str) -> pd.DataFrame:
     return given
 
 
+def require_mapping(given: Any, what: str) -> Mapping[Any, Any]:
+    """What was given, where it is no frame and yet frames by name."""
+    return given if isinstance(given, Mapping) else require_frame(given, what)
+
+
 def has_column(frame: pd.DataFrame, name: str) -> bool:
     """Whether a frame has a column of this name or of another one for it."""
     return not {name, *OTHER.get(name, ())}.isdisjoint(str(each).lower() for each in frame.columns)
@@ -382,11 +387,12 @@ def long_revisions(revisions: pd.DataFrame, late: bool = False) -> pd.DataFrame:
 
 def long_numbers(numbers: Union[pd.DataFrame, Mapping[Any, Any]], late: bool = False) -> pd.DataFrame:
     """Numbers of either form as name, sid, known and value."""
-    if not isinstance(numbers, Mapping):
+    if isinstance(numbers, pd.DataFrame):
         found = select_columns(numbers, "numbers")
         found = found.assign(known=read_known(found.known, "numbers", late))
     else:
-        names: list[Any] = [getattr(key, "name", key) for key in numbers]  # of texts and of a DataSet's columns
+        numbers = require_mapping(numbers, "numbers")
+        names = [getattr(key, "name", key) for key in numbers]  # of texts and of a DataSet's columns
         require_unique(pd.DataFrame({"name": names}), ["name"], "numbers")
         parts = [changes(name, frame, late) for name, frame in zip(names, numbers.values())]
         found = pd.concat(parts or [pd.DataFrame(columns=HEADERS["numbers"])], ignore_index=True)
@@ -400,7 +406,7 @@ def long_numbers(numbers: Union[pd.DataFrame, Mapping[Any, Any]], late: bool = F
         row = found.iloc[great.argmax()]
         told = f"is {row.value:.12g}; the greatest is {GREATEST}: give it in thousands or millions"
         raise DataFault(f"numbers: {row['name']} of {row.sid}, known on {row.known}, {told}", rows_of(found, great))
-    if not isinstance(numbers, Mapping) and has_column(numbers, "period"):
+    if isinstance(numbers, pd.DataFrame) and has_column(numbers, "period"):
         given = select_columns(numbers, "numbers", "known", "period")
         warn_of_periods(found.assign(known=read_days(given.known, "numbers"), period=given.period))
     return require_unique(found, ["name", "sid", "known"], "numbers")
