@@ -203,17 +203,12 @@ def require_frame(given: Any, what: str) -> pd.DataFrame:
     tohmeril.faults.DataFault: splits: dict is no frame
     give a DataFrame of pandas: help(tohmeril.ingest.write) has its columns
     """
-    if not isinstance(given, pd.DataFrame):
-        raise DataFault(
-            f"{what}: {type(given).__name__} is no frame",
-            "give a DataFrame of pandas: help(tohmeril.ingest.write) has its columns",
-        )
-    return given
-
-
-def require_mapping(given: Any, what: str) -> Mapping[Any, Any]:
-    """What was given, where it is no frame and yet frames by name."""
-    return given if isinstance(given, Mapping) else require_frame(given, what)
+    if isinstance(given, pd.DataFrame):
+        return given
+    raise DataFault(
+        f"{what}: {type(given).__name__} is no frame",
+        "give a DataFrame of pandas: help(tohmeril.ingest.write) has its columns",
+    )
 
 
 def has_column(frame: pd.DataFrame, name: str) -> bool:
@@ -391,7 +386,8 @@ def long_numbers(numbers: Union[pd.DataFrame, Mapping[Any, Any]], late: bool = F
         found = select_columns(numbers, "numbers")
         found = found.assign(known=read_known(found.known, "numbers", late))
     else:
-        numbers = require_mapping(numbers, "numbers")
+        if not isinstance(numbers, Mapping):
+            require_frame(numbers, "numbers")
         names = [getattr(key, "name", key) for key in numbers]  # of texts and of a DataSet's columns
         require_unique(pd.DataFrame({"name": names}), ["name"], "numbers")
         parts = [changes(name, frame, late) for name, frame in zip(names, numbers.values())]
