@@ -325,6 +325,11 @@ def _frames(
         else:
             yield None, [bars]
         return
+    if isinstance(bars, (str, Path)) or not isinstance(bars, Iterable):
+        raise DataFault(
+            f"bars: {type(bars).__name__} is no frame",
+            "one takes a frame, as pd.read_csv makes of a file, frames by name, or long frames one after the other",
+        )
     for frame in [bars] if isinstance(bars, pd.DataFrame) else bars:
         if not isinstance(frame, pd.DataFrame):
             raise DataFault(
