@@ -288,5 +288,5 @@ def test_no_adjustments(market, tmp_path):
         ReadFault, match="recipes/adjustments.sh SPLITS.csv MERGERS.csv DIVIDENDS.csv .*\n.*adjustments=None"
     ):
         Data(tmp_path)
-    with pytest.raises(ReadFault, match="read: .*nowhere/sessions.csv"):
+    with pytest.raises(ReadFault, match="read: .*nowhere/sessions.csv\nthere is no folder .*nowhere: Data.write makes"):
         run_text(pipe, DAYS[1], DAYS[2], Data(tmp_path / "nowhere"))

@@ -1,5 +1,6 @@
 """What `Data.write` refuses in frames, and what it takes, by the frames alone."""
 import warnings
+from pathlib import Path
 
 import numpy as np
 import pandas as pd
@@ -49,6 +50,13 @@ REFUSED = {
     ),
     "a name twice": ({"bars": {"close": CLOSE, "Close": CLOSE}}, "bars: close is there twice"),
     "no frame": ({"bars": {"close": CLOSE.AAA}}, "bars: close is no frame"),
+    "a path in place of bars": ({"bars": Path("bars.csv")}, "bars: PosixPath is no frame\n.*pd.read_csv"),
+    "a text in place of bars": ({"bars": "bars.csv"}, "bars: str is no frame\n.*pd.read_csv"),
+    "a text in place of labels": ({"bars": {"close": CLOSE}, "labels": "sector"}, "labels: str is no frame\ngive a"),
+    "a list of numbers": ({"bars": {"close": CLOSE}, "numbers": [1.5]}, "numbers: list is no frame\ngive a"),
+    "splits by symbol": ({"bars": {"close": CLOSE}, "splits": {"AAA": 2}}, "splits: dict is no frame\ngive a"),
+    "a path of revisions": ({"bars": {"close": CLOSE}, "revisions": Path("x")}, "revisions: PosixPath is no frame"),
+    "a list of assets": ({"bars": {"close": CLOSE}, "assets": ["AAA"]}, "assets: list is no frame"),
     "no bars": ({"bars": {}}, "bars: there is none"),
     "an empty frame": ({"bars": LONG[:0]}, "bars: there is none\nthe frame is empty"),
     "no value": ({"bars": {"close": CLOSE * np.nan}}, "bars: there is none\neach value is missing"),

@@ -204,6 +204,8 @@ def test_percentiles_below_1(low, high, told):
         ({"pieces": 0}, ValueError, "pieces is 1 or more, and not 0"),
         ({"pieces": -3}, ValueError, "and not -3"),
         ({"pieces": True}, TypeError, "pieces is a whole number of pieces, and not True"),
+        ({"cut": 5}, TypeError, "cut is True or False, or a folder that all machines see, and not 5"),
+        ({"cut": None}, TypeError, "and not None"),
         ({"symbols": True}, KeyError, "the data have no symbols, which symbols=True asks for"),
         ({"pieces_": 2}, TypeError, "pieces_"),
     ],
@@ -211,7 +213,7 @@ def test_percentiles_below_1(low, high, told):
 def test_options(options, sort, told, data):
     with pytest.raises(sort, match=told):
         run_pipeline(pipe, *RANGE, data, **options)
-    if options.keys() <= {"executor", "pieces"}:
+    if options.keys() <= {"executor", "pieces", "cut"}:
         with pytest.raises(sort, match=told):
             run_text(pipe, *RANGE, data, **options)
 

@@ -267,7 +267,18 @@ class LimitFault(Fault, status=6):
 
 
 class ReadFault(Fault, status=7):
-    """A file can't be read."""
+    """A file can't be read; `note` says that it is not there."""
+
+    def __init__(self, line: str, note: str = ""):
+        super().__init__(line, note or _absent(line.partition("read: ")[2]))
+
+
+def _absent(path: str) -> str:
+    """What of a path is not there."""
+    folder = os.path.dirname(path)
+    if not folder or os.path.exists(path):
+        return ""
+    return "there is no such file" if os.path.isdir(folder) else f"there is no folder {folder}: Data.write makes one"
 
 
 class StoreFault(Fault, status=8):

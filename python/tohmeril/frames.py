@@ -200,6 +200,22 @@ def late_parts(after_close: Union[bool, str, Iterable[str]]) -> frozenset[str]:
     return frozenset(parts)
 
 
+def require_frame(given: Any, what: str) -> pd.DataFrame:
+    """What was given, where it is a frame.
+
+    >>> require_frame({"AAPL": 2}, "splits")
+    Traceback (most recent call last):
+    tohmeril.faults.DataFault: splits: dict is no frame
+    give a DataFrame of pandas: help(tohmeril.ingest.write) has its columns
+    """
+    if isinstance(given, pd.DataFrame):
+        return given
+    raise DataFault(
+        f"{what}: {type(given).__name__} is no frame",
+        "give a DataFrame of pandas: help(tohmeril.ingest.write) has its columns",
+    )
+
+
 def has_column(frame: pd.DataFrame, name: str) -> bool:
     """Whether a frame has a column of this name or of another one for it."""
     return not {name, *OTHER.get(name, ())}.isdisjoint(str(each).lower() for each in frame.columns)
@@ -211,6 +227,7 @@ def select_columns(frame: pd.DataFrame, what: str, *wanted: str, optional: Itera
     They may have other names, in letters of any size, and may be in the frame's index. Those that are optional and not
     there are missing values. The own name of a column comes before another one for it; two other ones are a fault.
     """
+    frame = require_frame(frame, what)
     frame = frame.reset_index() if any(name is not None for name in frame.index.names) else frame
     there: dict[str, list[Any]] = {}
     for name in frame.columns:
@@ -351,7 +368,7 @@ def long_labels(
     def read(values: pd.Series, what: str) -> pd.Series:
         return read_known(values, what, late)
 
-    if isinstance(labels, pd.DataFrame):
+    if not isinstance(labels, Mapping):
         found = select_columns(labels, "labels")
         return found.assign(
             label=found.label.astype(object).where(found.label.notna(), ""), start=read(found.start, "labels")
@@ -395,6 +412,8 @@ def long_numbers(
         found = select_columns(numbers, "numbers")
         found = found.assign(known=read_known(found.known, "numbers", late))
     else:
+        if not isinstance(numbers, Mapping):
+            require_frame(numbers, "numbers")
         names = [getattr(key, "name", key) for key in numbers]  # of texts and of a DataSet's columns
         require_unique(pd.DataFrame({"name": names}), ["name"], "numbers")
         parts = [changes(name, frame, late, there) for name, frame in zip(names, numbers.values())]
