@@ -178,6 +178,29 @@ def rows_of_sector(data):
     return run_text(Pipeline({"sector": sector, "close": EquityPricing.close.latest}), DAYS[1], DAYS[2], data)
 
 
+def test_symbols(tmp_path):
+    close = pd.DataFrame({3: [1.0, 1.1], 7: [4.0, 4.1]}, index=DAYS[:2])
+    by_sid = ("sid", "date", "close")
+    data = Data.write(tmp_path / "named", {"close": close}, symbols={"AAA": 3, "BBB": 7})
+    grown = data.append(news((9, DAYS[2], 1.0), columns=by_sid), symbols={"AAA": 3, "CCC": 9})
+    assert grown.sids(["AAA", "BBB", "CCC"]) == [3, 7, 9] and grown.added["symbols"] == 1
+    grown = grown.append(news((11, DAYS[3], 1.0), columns=by_sid))  # one without a symbol
+    assert grown.added == {"sessions": 1, "bars": 1, "assets": 1}
+    for symbols in ({"AAA": 7, "BBB": 3}, {"AAA": 8}):
+        with pytest.raises(DataFault, match="symbols: 'AAA' has the sid 3, and not [78]\n"):
+            grown.append(sessions=[DAYS[4]], symbols=symbols)
+    with pytest.raises(DataFault, match="symbols: the sid 7 of 'DDD' is of another"):
+        grown.append(news((7, DAYS[4], 1.0), columns=by_sid), symbols={"DDD": 7})
+    data = Data.write(tmp_path / "plain", {"close": close})
+    with pytest.raises(DataFault, match="symbols: the data have none"):
+        data.append(news((9, DAYS[2], 1.0), columns=by_sid), symbols={"CCC": 9})
+
+
+def test_a_new_asset_without_any_value(store):
+    data = store.append(news(("AAA", DAYS[3], 1.0), ("NEW", DAYS[3], np.nan)))
+    assert data.added == {"sessions": 1, "bars": 1, "symbols": 1}
+
+
 def test_late_bars(store):
     data = store.append(sessions=[DAYS[3], DAYS[4]])
     data = data.append(
@@ -190,6 +213,20 @@ def test_late_bars(store):
         "0,2024-01-03,close,12.500000,2024-01-08",
         "1,2024-01-04,close,23.000000,2024-01-08",
     ]
+
+
+def test_a_missing_value_ends_what_the_folder_has(store):
+    def wide(cells, day):
+        return pd.DataFrame(cells, index=[day])
+
+    data = store.append(numbers={"score": wide({"AAA": [5.0]}, DAYS[3])}, sessions=[DAYS[3]])
+    empty = {"AAA": [np.nan], "BBB": [np.nan], "ZZZ": [np.nan]}
+    data = data.append(
+        numbers={"score": wide(empty, DAYS[4])}, labels={"sector": wide(empty, DAYS[4])}, sessions=[DAYS[4]]
+    )
+    table = data.run_pipeline(Pipeline({"score": Figures.score.latest, "sector": sector}), DAYS[3], DAYS[4])
+    table = table.xs(0, level="asset")
+    assert table.score.tolist()[0] == 5 and table.sector.tolist()[0] == "Tech" and table.iloc[1].isna().all()
 
 
 @pytest.mark.parametrize(
@@ -304,6 +341,22 @@ def test_the_command_over_no_data(folder, tmp_path, capsys):
     assert __main__.main(["append", str(tmp_path / folder), str(tmp_path / "news"), "2024-01-05"]) == 7
     assert "append adds to a folder that is there: Data.write makes one" in capsys.readouterr().err
     assert [path.name for path in tmp_path.iterdir()] == ["news"] and not list((tmp_path / "news").iterdir())
+
+
+def test_files_that_the_command_cannot_read(command, store, tmp_path):
+    for text, told in (
+        ("\n", "bars.csv: No columns to parse from file"),
+        ("symbol,date,close\nAAA,2024-01-03,1\nAAA,2024-01-03,1,2,3\n", "Expected 3 fields in line 3, saw 5"),
+        ("symbol,date,close\nAAA,,1\n", "bars: a day is missing in session"),
+        ("symbol,date,close\nAAA,03/01/2024,1\n", "bars: '03/01/2024' may be a day of January or of March"),
+    ):
+        status, said = command(text, "2024-01-05")
+        assert status == 4 and told in said
+    (tmp_path / "news/bars.csv").write_bytes(b"symbol,date,close\nAAA\xe9,2024-01-03,1\n")
+    with pytest.raises(DataFault, match="bars.csv: 'utf-8' codec can't decode"):
+        __main__.read(tmp_path / "news/bars.csv")
+    assert command("sid,date,close\nNEW,2024-01-03,13\n", "2024-01-05")[0] == 0  # symbols under the name of sids
+    assert Data(store.folder).sids(["NEW"]) == [2]
 
 
 def test_the_command(command, store):

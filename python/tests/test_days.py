@@ -87,6 +87,7 @@ REFUSED = [
     (22000101, "22000101 is not of the years"),
     (dt.date(1899, 12, 31), "1899-12-31 is not of the years"),
     (pd.Timestamp("1850-01-01"), "is not of the years"),
+    (np.datetime64("20000-01-01"), "20000-01-01 is not of the years"),
     (["2024-05-02"], "a list is no day"),
     (dt.timedelta(1), "is no day"),
 ]
@@ -181,6 +182,8 @@ def test_millions_of_rows_within_a_second():
 )
 def test_known_after_the_close(known, late):
     assert read_known(pd.Series([known, known]), "numbers", True).tolist() == [late, late]
+    with pytest.raises(DataFault, match="^numbers: '9999-12-31' is not of the years"):
+        read_known(pd.Series([known, "9999-12-31"], dtype=object), "numbers", True)
 
 
 @pytest.mark.parametrize(

@@ -214,6 +214,15 @@ def test_files_that_are_written_while_they_are_read(tables, tmp_path):
         Data.write(tmp_path, **NEW)
 
 
+def test_files_of_two_folders(tables, tmp_path):
+    for name, parts in (("old", OLD), ("new", NEW)):
+        Data.write(tmp_path / name, **parts)
+    data = Data(tmp_path / "new", bars=str(tmp_path / "old/bars.csv"), adjustments="../old/adjustments.db")
+    assert run_text(pipe, DAYS[45], DAYS[59], data) == tables[0]
+    Data.write(tmp_path / "old", **NEW)
+    assert run_text(pipe, DAYS[45], DAYS[59], data) == tables[0]
+
+
 def test_writers_take_turns(tables, tmp_path):
     writers = [started(write_for, tmp_path, time.monotonic() + 1) for _ in range(3)]
     for writer in writers:

@@ -242,6 +242,15 @@ def test_after_the_close(after_close, known, start, tmp_path):
     assert wide["numbers"] == found["numbers"] and wide["labels"] == [*found["labels"], "first,0,2024-01-02,x"]
 
 
+def test_wide_labels_of_any_order(tmp_path):
+    labels = pd.DataFrame({"AAA": ["x", "x", "y"]}, index=pd.to_datetime(["2024-01-09", "2024-01-02", "2024-01-05"]))
+    assert texts(tmp_path, labels={"sector": labels})["labels"] == [
+        "sector,0,2024-01-02,x",
+        "sector,0,2024-01-05,y",
+        "sector,0,2024-01-09,x",
+    ]
+
+
 def test_times_after_the_close(tmp_path):
     found = texts(
         tmp_path,

@@ -335,6 +335,16 @@ def test_crsp(factors, tmp_path):
     assert frame.change["2024-01-05", 10003] == -0.75 and ("2024-01-08", 10003) not in frame.index
 
 
+@pytest.mark.parametrize("price, volume", [(np.nan, np.nan), (0, 0), (np.nan, 7)])
+def test_crsp_with_a_delisting_on_a_day_without_a_price(price, volume, tmp_path):
+    frame = daily()
+    last = frame.PERMNO.eq(10003) & frame.DLSTCD.notna()
+    frame.loc[last, ["PRC", "VOL"]] = [price, volume]
+    bars = Data.write(tmp_path, **crsp(frame)).files["bars"].read_text().split()
+    shown = "" if np.isnan(volume) else f"{volume}.000000"
+    assert [line for line in bars if line.startswith("10003,")][1:] == [f"10003,2024-01-03,,,,2.000000,{shown}"]
+
+
 def test_crsp_without_a_delisting_return(tmp_path):
     ends = pd.DataFrame({"PERMNO": [10001, 10002, 10003], "DLSTCD": [100, 233, 574], "DLRET": ["A", 0.02, "P"]})
     with pytest.warns(

@@ -15,7 +15,7 @@ import pandas as pd
 
 from . import version
 from .data import Data
-from .days import NoDay, read_day
+from .days import NoDay, read_day, read_days
 from .faults import DataFault, Fault, ReadFault
 from .frames import select_columns
 
@@ -63,9 +63,16 @@ def tell_version() -> int:
 
 def read(path: Path) -> pd.DataFrame:
     """A file of the news; fields are texts, and an empty one is missing."""
-    frame = pd.read_csv(path, dtype=str, keep_default_na=False, na_values=[""], encoding="utf-8-sig")
-    wide = {str(name).lower(): name for name in frame.columns}
-    return frame.assign(**{wide["sid"]: pd.to_numeric(frame[wide["sid"]])}) if "sid" in wide else frame
+    try:
+        frame = pd.read_csv(path, dtype=str, keep_default_na=False, na_values=[""], encoding="utf-8-sig")
+    except ValueError as error:  # of pandas and of the encoding
+        raise DataFault(f"append: {path}: {str(error).strip()}", "a file is CSV in UTF-8 with a header") from None
+    name = next((name for name in frame.columns if str(name).lower() == "sid"), None)
+    if name is not None:
+        numbers = pd.to_numeric(frame[name], errors="coerce")
+        if numbers.notna().equals(frame[name].notna()):  # else there are symbols
+            frame[name] = numbers
+    return frame
 
 
 def append(store: Path, news: Path, today: str, without_bars: bool, late: bool, weekend: bool) -> Optional[Data]:
@@ -95,9 +102,7 @@ def append(store: Path, news: Path, today: str, without_bars: bool, late: bool, 
         )
     frames = {part: read(news / f"{part}.csv") for part in PARTS if (news / f"{part}.csv").exists()}
     days = (
-        set(map(read_day, select_columns(frames["bars"], "bars", "session").session.unique()))
-        if "bars" in frames
-        else set()
+        set(read_days(select_columns(frames["bars"], "bars", "session").session, "bars")) if "bars" in frames else set()
     )
     if data.sessions[-1] not in days and not without_bars:
         there = f"; there are those of {max(days)}" if days else ""

@@ -234,6 +234,17 @@ class Bars:
             raise DataFault(f"bars: {told}{rows}{and_others(doubled - 1, verb=True)}")
         return written
 
+    def frames_of(self, sids: Array) -> Iterator[pd.DataFrame]:
+        """The bars that `write` writes, as frames of the file's columns, one after the other."""
+        days = np.array(sorted(self.days), "i4")
+        texts = pd.Index([as_text(day) for day in days.tolist()])
+        for records, _ in self._groups(sids):
+            rows = records[(records["cells"] != MISSING).any(axis=1)]
+            cells = np.where(rows["cells"] == MISSING, np.nan, rows["cells"] / 1e6)
+            sessions = pd.Categorical.from_codes(np.searchsorted(days, rows["day"]), texts)
+            columns = {name: cells[:, at] for at, name in enumerate(BARS)}
+            yield pd.DataFrame({"sid": sids[rows["asset"]], "session": sessions, **columns}, copy=False)
+
     def _groups(self, sids: Array) -> Iterator[tuple[Array, Array]]:
         """All bars by sid and day, those of some assets at a time, with numbers that are in this order."""
         if not len(sids):

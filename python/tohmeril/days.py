@@ -116,7 +116,7 @@ def read_known(values: pd.Series, what: str, after_close: bool) -> pd.Series:
         the open of that session or after it.
     """
     if after_close:
-        return _taken(*_distinct(values, what), lambda value: _date(value) + timedelta(days=1), values, what)
+        return _taken(*_distinct(values, what), _day_after, values, what)
     codes, distinct = _distinct(values, what, keep_times=True)
     timed = np.array([_has_time(value) for value in distinct], dtype=bool)
     if timed.any():
@@ -166,10 +166,16 @@ def _known(day: date, value: Any) -> date:
     return day
 
 
+def _day_after(value: Any) -> date:
+    return _known(_date(value), value) + timedelta(days=1)
+
+
 def _datetime64(value: np.datetime64) -> date:
     if np.datetime_data(value.dtype)[0] in ("Y", "M", "W"):
         raise NoDay(f"{value} is a period", "give one of its days")
-    day: date = value.astype("datetime64[D]").item()
+    day: Union[date, int] = value.astype("datetime64[D]").item()
+    if isinstance(day, int):  # of a year that no date has
+        raise NoDay(f"{value} is not of the years {YEARS[0]} to {YEARS[-1]}")
     return day
 
 

@@ -86,7 +86,11 @@ def look(folder: Path, names: Mapping[str, str], needed: Sequence[str]) -> tuple
     while True:
         before, held, files = current(folder), hold(folder), {}
         for part, name in names.items():
-            path = held.path / name if held is not None and is_link(folder / name) else folder / name
+            path = folder / name
+            if path.parent != folder:
+                path = path.resolve() if is_link(path) else path  # to a version of another folder, which stays one
+            elif held is not None and is_link(path):
+                path = held.path / name
             if part in needed or path.exists():
                 files[part] = path
         if before == current(folder):  # else a name may have been of the version that came meanwhile

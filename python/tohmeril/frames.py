@@ -93,6 +93,11 @@ class Sids:
             raise DataFault(f"{what}: no asset has the symbol {asset!r}")
         return self.known[asset]
 
+    def has(self, asset: Any) -> bool:
+        """Whether there is an asset of this sid or symbol."""
+        sid = self.known.get(asset) if isinstance(asset, str) and self.known is not None else whole_number(asset)
+        return sid in self.there
+
     def records(self, frame: pd.DataFrame, what: str) -> pd.DataFrame:
         """A frame with sids and days as the program writes them."""
         days = {name: read_days(frame[name], what, seconds=name == "effective_date") for name in DAYS if name in frame}
@@ -341,8 +346,13 @@ def bars_by_name(bars: Mapping[str, pd.DataFrame]) -> pd.DataFrame:
     )
 
 
-def long_labels(labels: Union[pd.DataFrame, Mapping[Any, Any]], first: str, late: bool = False) -> pd.DataFrame:
-    """Labels of any of the forms as name, sid, start and label; those without a day start with the first session."""
+def long_labels(
+    labels: Union[pd.DataFrame, Mapping[Any, Any]], first: str, late: bool = False, there: Optional[Sids] = None
+) -> pd.DataFrame:
+    """Labels of any of the forms as name, sid, start and label; those without a day start with the first session.
+
+    The assets of `there` may have labels already, which an empty one in the first row ends.
+    """
 
     def read(values: pd.Series, what: str) -> pd.Series:
         return read_known(values, what, late)
@@ -355,12 +365,12 @@ def long_labels(labels: Union[pd.DataFrame, Mapping[Any, Any]], first: str, late
     parts = []
     for name, given in labels.items():
         frame = (
-            by_day(given, "labels", name, read)
+            by_day(given, "labels", name, read).sort_index()
             if isinstance(given, pd.DataFrame)
             else pd.Series(given).to_frame(first).T
         )
         rows = to_long(frame.astype(object).where(frame.notna(), ""), "start", "label")
-        changed = rows.label.ne(rows.groupby("sid", sort=False).label.shift(fill_value=""))
+        changed = rows.label.ne(rows.groupby("sid", sort=False).label.shift(fill_value="")) | first_rows(rows, there)
         parts.append(rows[changed].sort_values("start", kind="stable").assign(name=name))
     return pd.concat(parts or [pd.DataFrame(columns=HEADERS["labels"])], ignore_index=True)[HEADERS["labels"]]
 
@@ -380,8 +390,13 @@ def long_revisions(revisions: pd.DataFrame, late: bool = False) -> pd.DataFrame:
     )
 
 
-def long_numbers(numbers: Union[pd.DataFrame, Mapping[Any, Any]], late: bool = False) -> pd.DataFrame:
-    """Numbers of either form as name, sid, known and value."""
+def long_numbers(
+    numbers: Union[pd.DataFrame, Mapping[Any, Any]], late: bool = False, there: Optional[Sids] = None
+) -> pd.DataFrame:
+    """Numbers of either form as name, sid, known and value.
+
+    The assets of `there` may have numbers already, which a missing one in the first row ends.
+    """
     if isinstance(numbers, pd.DataFrame):
         found = select_columns(numbers, "numbers")
         found = found.assign(known=read_known(found.known, "numbers", late))
@@ -390,7 +405,7 @@ def long_numbers(numbers: Union[pd.DataFrame, Mapping[Any, Any]], late: bool = F
             require_frame(numbers, "numbers")
         names = [getattr(key, "name", key) for key in numbers]  # of texts and of a DataSet's columns
         require_unique(pd.DataFrame({"name": names}), ["name"], "numbers")
-        parts = [changes(name, frame, late) for name, frame in zip(names, numbers.values())]
+        parts = [changes(name, frame, late, there) for name, frame in zip(names, numbers.values())]
         found = pd.concat(parts or [pd.DataFrame(columns=HEADERS["numbers"])], ignore_index=True)
     found = found.assign(value=to_numbers(found.value, "numbers"))
     names = [name for name in found["name"].unique() if isinstance(name, str) and is_name(name)]
@@ -408,7 +423,13 @@ def long_numbers(numbers: Union[pd.DataFrame, Mapping[Any, Any]], late: bool = F
     return require_unique(found, ["name", "sid", "known"], "numbers")
 
 
-def changes(name: str, frame: pd.DataFrame, late: bool = False) -> pd.DataFrame:
+def first_rows(rows: pd.DataFrame, there: Optional[Sids]) -> pd.Series:
+    """Which rows are the first ones of the assets that may have records already."""
+    first = ~rows.duplicated("sid")
+    return first & rows.sid.isin([] if there is None else list(filter(there.has, rows.sid[first])))
+
+
+def changes(name: str, frame: pd.DataFrame, late: bool = False, there: Optional[Sids] = None) -> pd.DataFrame:
     """The values of a wide frame that differ from those of its row before."""
     rows = to_long(
         by_day(frame, "numbers", name, lambda values, what: read_known(values, what, late)).sort_index(),
@@ -416,7 +437,7 @@ def changes(name: str, frame: pd.DataFrame, late: bool = False) -> pd.DataFrame:
         "value",
     )
     before = rows.groupby("sid", sort=False).value.shift()
-    rows = rows[rows.value.ne(before) & (rows.value.notna() | before.notna())]
+    rows = rows[rows.value.ne(before) & (rows.value.notna() | before.notna()) | first_rows(rows, there)]
     return rows.sort_values("known", kind="stable").assign(name=name)[HEADERS["numbers"]]
 
 

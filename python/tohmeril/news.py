@@ -156,6 +156,8 @@ def _sids(store: Store, assets: Sequence[Union[int, str]], symbols: Optional[Map
     """The sids of assets, where new symbols get new ones."""
     fresh = sorted({asset for asset in assets if isinstance(asset, str)})
     if store.data.symbols is None:
+        if symbols:
+            raise DataFault("symbols: the data have none", "leave them out, and give sids")
         if fresh:
             raise DataFault(
                 f"bars: the data have no symbols, so no {fresh[0]!r}", "give sids, as the folder was written with them"
@@ -163,7 +165,12 @@ def _sids(store: Store, assets: Sequence[Union[int, str]], symbols: Optional[Map
         return Sids([*store.lives.index, *assets], None)
     known = dict(zip(store.data.symbols, map(int, store.data.symbols.index)))
     symbols = None if symbols is None else read_symbols(symbols)
-    fresh = [symbol for symbol in fresh if symbol not in known]
+    for symbol, sid in (symbols or {}).items():
+        if known.get(symbol, sid) != sid:
+            raise DataFault(f"symbols: {symbol!r} has the sid {known[symbol]}, and not {sid}", "a sid does not change")
+    named = {sid: symbol for symbol, sid in (symbols or {}).items()}  # also of assets that go by sids
+    fresh += [named[asset] for asset in assets if not isinstance(asset, str) and asset in named]
+    fresh = sorted({symbol for symbol in fresh if symbol not in known})
     after = max([*known.values(), *store.lives.index], default=-1) + 1
     for at, symbol in enumerate(fresh, after):
         sid = at if symbols is None else symbols.get(symbol)
@@ -174,7 +181,7 @@ def _sids(store: Store, assets: Sequence[Union[int, str]], symbols: Optional[Map
                 else f"symbols: the sid {sid} of {symbol!r} is of another"
             )
         known[symbol] = sid
-    return Sids([*known, *store.lives.index], known)
+    return Sids([*known, *store.lives.index, *assets], known)
 
 
 def _refuse_bars(store: Store, found: Bars, sids: Array) -> None:
@@ -257,7 +264,7 @@ def _beside(
 ) -> dict[str, pd.DataFrame]:
     """The new records of the other files, which are seen after the last session alone."""
     first = days[0] if days else as_text(as_number(store.last) + 1)
-    files = beside_bars(sids, first, labels, revisions, numbers, after_close)
+    files = beside_bars(sids, first, labels, revisions, numbers, after_close, news=True)
     if early:
         cells = pd.concat(early).melt(["sid", "session"], list(BARS), "column", "value").dropna(subset=["value"])
         cells = sids.records(
@@ -371,7 +378,7 @@ def _judge(new: Path) -> None:
 def _warn(store: Store, sids: Sids, lives: pd.DataFrame, found: Bars, own: Array, days: list[str]) -> None:
     """Warn of assets whose end is reached, and of bars of those that have ended."""
     ends = store.lives["end"].to_dict()
-    ends.update(zip(lives.sid, lives.end))
+    ends.update(zip(lives.sid, lives.end))  # an asset without any value has no lifetime
     reached = [_name(sids, sid) for sid, end in ends.items() if days and store.last <= end < days[-1]]
     if reached:
         warnings.warn(
@@ -382,7 +389,7 @@ def _warn(store: Store, sids: Sids, lives: pd.DataFrame, found: Bars, own: Array
     gone = [
         _name(sids, sid)
         for sid, last in zip(own, found.last)
-        if ends[int(sid)] < store.last and as_text(max(last, 0)) > ends[int(sid)]
+        if ends.get(int(sid), FOREVER) < store.last and as_text(max(last, 0)) > ends[int(sid)]
     ]
     if gone:
         warnings.warn(

@@ -5,7 +5,7 @@ from __future__ import annotations
 
 import sqlite3
 from contextlib import closing
-from typing import TYPE_CHECKING, Any, Container, Iterator, NamedTuple, Optional, Sequence
+from typing import TYPE_CHECKING, Any, Container, Iterable, Iterator, NamedTuple, Optional, Sequence
 
 import numpy as np
 import pandas as pd
@@ -60,7 +60,16 @@ def check(
     StoreFault
         Where the tables of the adjustments can't be read.
     """
-    data = as_data(data)
+    return [*check_files(as_data(data), pipelines, lacking), *_columns(table)]
+
+
+def check_files(
+    data: Data,
+    pipelines: Sequence[Piped] = (),
+    lacking: Container[str] = (),
+    bars: Optional[Iterable[pd.DataFrame]] = None,
+) -> list[str]:
+    """What `check` finds in the files; the bars are in these frames, one after the other, else in their file."""
     found: list[str] = []
     failed: Optional[Exception] = None
     last = data.sessions[-1] if data.sessions else "1970-01-01"
@@ -69,7 +78,7 @@ def check(
             ["run", name, *data.names, last, last, *data.options]
         ) as judged:
             try:
-                found += _looked(data, pipelines, lacking)
+                found += _looked(data, pipelines, lacking, _blocks(data) if bars is None else bars)
             except Exception as error:  # the program says better what is wrong in a file
                 failed = error
             judged.read()
@@ -77,17 +86,19 @@ def check(
         found.insert(0, str(fault).replace("\n", ": "))
     if failed is not None:
         raise failed
-    return [*found, *_columns(table)]
+    return found
 
 
-def _looked(data: Data, pipelines: Sequence[Piped], lacking: Container[str]) -> Iterator[str]:
+def _looked(
+    data: Data, pipelines: Sequence[Piped], lacking: Container[str], blocks: Iterable[pd.DataFrame]
+) -> Iterator[str]:
     """What looks odd in the files."""
     if not data.sessions:
         return
     assets = pd.read_csv(data.files["assets"], dtype={"sid": "int64", "start": str, "end": str})
     adjustments = _adjustments(data, assets.sid)
     bars = _Bars(data, assets.sid, adjustments)
-    for block in _blocks(data):
+    for block in blocks:
         bars.add(block)
     yield from _sessions(data)
     yield from _lives(data, assets)

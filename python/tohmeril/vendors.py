@@ -341,6 +341,8 @@ def _delisted(
         )
     if kept.empty:
         return bars, lives
+    kept = kept.merge(bars.drop(columns="close"), "left", KEYS)  # a bar without a price may be there already
+    bars = bars[~pd.MultiIndex.from_frame(bars[KEYS]).isin(pd.MultiIndex.from_frame(kept[KEYS]))]
     ending = {symbol: after[day] or str(np.busday_offset(day, 1)) for symbol, day in zip(kept.symbol, kept.date)}
     return pd.concat([bars, kept], ignore_index=True), lives.assign(end=lives.symbol.map(ending).fillna(lives.end))
 
