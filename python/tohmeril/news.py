@@ -165,9 +165,9 @@ def _sids(store: Store, assets: Sequence[Union[int, str]], symbols: Optional[Map
         return Sids([*store.lives.index, *assets], None)
     known = dict(zip(store.data.symbols, map(int, store.data.symbols.index)))
     symbols = None if symbols is None else read_symbols(symbols)
-    for symbol, sid in (symbols or {}).items():
-        if known.get(symbol, sid) != sid:
-            raise DataFault(f"symbols: {symbol!r} has the sid {known[symbol]}, and not {sid}", "a sid does not change")
+    for symbol, given in (symbols or {}).items():
+        if known.get(symbol, given) != given:
+            raise DataFault(f"symbols: {symbol!r} has the sid {known[symbol]}, not {given}", "a sid does not change")
     named = {sid: symbol for symbol, sid in (symbols or {}).items()}  # also of assets that go by sids
     fresh += [named[asset] for asset in assets if not isinstance(asset, str) and asset in named]
     fresh = sorted({symbol for symbol in fresh if symbol not in known})
