@@ -187,7 +187,7 @@ def test_symbols(tmp_path):
     grown = grown.append(news((11, DAYS[3], 1.0), columns=by_sid))  # one without a symbol
     assert grown.added == {"sessions": 1, "bars": 1, "assets": 1}
     for symbols in ({"AAA": 7, "BBB": 3}, {"AAA": 8}):
-        with pytest.raises(DataFault, match="symbols: 'AAA' has the sid 3, and not [78]\n"):
+        with pytest.raises(DataFault, match="symbols: 'AAA' has the sid 3, not [78]\n"):
             grown.append(sessions=[DAYS[4]], symbols=symbols)
     with pytest.raises(DataFault, match="symbols: the sid 7 of 'DDD' is of another"):
         grown.append(news((7, DAYS[4], 1.0), columns=by_sid), symbols={"DDD": 7})

@@ -53,6 +53,12 @@ REFUSED = {
     "a path in place of bars": ({"bars": Path("bars.csv")}, "bars: PosixPath is no frame\n.*pd.read_csv"),
     "a text in place of bars": ({"bars": "bars.csv"}, "bars: str is no frame\n.*pd.read_csv"),
     "a text in place of labels": ({"bars": {"close": CLOSE}, "labels": "sector"}, "labels: str is no frame\ngive a"),
+    "one label for all": (
+        {"bars": {"close": CLOSE}, "labels": {"sector": "Tech"}},
+        "labels: sector is no series by asset\ngive a mapping, as {'AAA': 'Tech'}",
+    ),
+    "labels in a list": ({"bars": {"close": CLOSE}, "labels": {"sector": ["Tech", "Energy"]}}, "is no series by asset"),
+    "symbols in a list": ({"bars": {"close": CLOSE}, "symbols": ["AAA"]}, "symbols: list is no mapping of symbols"),
     "a list of numbers": ({"bars": {"close": CLOSE}, "numbers": [1.5]}, "numbers: list is no frame\ngive a"),
     "splits by symbol": ({"bars": {"close": CLOSE}, "splits": {"AAA": 2}}, "splits: dict is no frame\ngive a"),
     "a path of revisions": ({"bars": {"close": CLOSE}, "revisions": Path("x")}, "revisions: PosixPath is no frame"),

@@ -218,6 +218,12 @@ def test_options(options, sort, told, data):
             run_text(pipe, *RANGE, data, **options)
 
 
+@pytest.mark.parametrize("asset", [101.5, True, None, float("nan"), [101]])
+def test_an_asset_that_is_none(asset, data):
+    with pytest.raises(TypeError, match="is neither a sid, which is a whole number, nor a symbol"):
+        explain(pipe, RANGE[1], asset, "y", data)
+
+
 def test_chunks_of_no_session(data):
     for size, sort in ((0, ValueError), (None, TypeError)):
         with pytest.raises(sort, match="chunksize is "):

@@ -127,6 +127,8 @@ def read_asset(asset: Any, what: str) -> Union[int, str]:
 
 def read_symbols(symbols: Mapping[str, int]) -> dict[str, int]:
     """The sids of symbols, one for each."""
+    if not isinstance(symbols, (Mapping, pd.Series)):
+        raise DataFault(f"symbols: {type(symbols).__name__} is no mapping of symbols to sids", "as {'AAA': 7}")
     owners: dict[int, str] = {}
     for symbol, given in symbols.items():
         if not isinstance(symbol, str) or not symbol.strip():
@@ -375,6 +377,8 @@ def long_labels(
         )
     parts = []
     for name, given in labels.items():
+        if not isinstance(given, (pd.DataFrame, pd.Series, Mapping)):
+            raise DataFault(f"labels: {name} is no series by asset", "give a mapping, as {'AAA': 'Tech'}")
         frame = (
             by_day(given, "labels", name, read).sort_index()
             if isinstance(given, pd.DataFrame)

@@ -167,9 +167,7 @@ def _sids(store: Store, assets: Sequence[Union[int, str]], symbols: Optional[Map
     symbols = None if symbols is None else read_symbols(symbols)
     for symbol, given in (symbols or {}).items():
         if known.get(symbol, given) != given:
-            raise DataFault(
-                f"symbols: {symbol!r} has the sid {known[symbol]}, and not {given}", "a sid does not change"
-            )
+            raise DataFault(f"symbols: {symbol!r} has the sid {known[symbol]}, not {given}", "a sid does not change")
     named = {sid: symbol for symbol, sid in (symbols or {}).items()}  # also of assets that go by sids
     fresh += [named[asset] for asset in assets if not isinstance(asset, str) and asset in named]
     fresh = sorted({symbol for symbol in fresh if symbol not in known})
