@@ -121,6 +121,9 @@ def test_titles_say_what_is_shown(frame):
             ValueError,
             "no asset has both a bin of 'half' and a return",
         ),
+        (lambda frame: plots.turnover(frame, "half", sessions=0), ValueError, "a whole number, 1 or more, and not 0"),
+        (lambda frame: plots.forward_returns(frame, "ahead", -5), ValueError, "1 or more, and not -5"),
+        (lambda frame: plots.factor(3, "change"), TypeError, "int is no frame: give what run_pipeline returns"),
     ],
 )
 def test_what_cannot_be_shown(call, sort, told, frame):

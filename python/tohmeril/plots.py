@@ -18,6 +18,7 @@ no later row.
 """
 from __future__ import annotations
 
+from numbers import Integral
 from typing import TYPE_CHECKING, Hashable, Iterable, Optional
 
 import numpy as np
@@ -45,7 +46,7 @@ def forward_returns(frame: pd.DataFrame, returns: str, sessions: int) -> pd.Seri
     Series
         Indexed as the frame, as 0.05 for 5 percent.
     """
-    wide = _column(frame, returns).unstack("asset").shift(-sessions)
+    wide = _column(frame, returns).unstack("asset").shift(-_whole(sessions))
     row = wide.index.get_indexer(frame.index.get_level_values("session"))
     column = wide.columns.get_indexer(frame.index.get_level_values("asset"))
     return pd.Series(wide.to_numpy()[row, column], index=frame.index, name=f"next {sessions}")
@@ -151,7 +152,7 @@ def turnover(frame: pd.DataFrame, bins: str, sessions: int = 1) -> Figure:
     wide = _bins(frame, bins).unstack("asset", fill_value=-1)
     greatest = frame[bins].max()
     top = wide == greatest
-    new = (top & ~top.shift(sessions, fill_value=False)).sum(axis=1) / top.sum(axis=1).replace(0, np.nan) * 100
+    new = (top & ~top.shift(_whole(sessions), fill_value=False)).sum(axis=1) / top.sum(axis=1).replace(0, np.nan) * 100
     figure, axes = _figure(
         f"turnover of the top bin of {bins}, {greatest}, within {sessions} session{'s' * (sessions > 1)}, percent"
     )
@@ -162,7 +163,15 @@ def turnover(frame: pd.DataFrame, bins: str, sessions: int = 1) -> Figure:
     return figure
 
 
+def _whole(sessions: int) -> int:
+    if isinstance(sessions, bool) or not isinstance(sessions, Integral) or sessions < 1:
+        raise ValueError(f"sessions is a whole number, 1 or more, and not {sessions!r}")
+    return int(sessions)
+
+
 def _column(frame: pd.DataFrame, name: str) -> pd.Series:
+    if not isinstance(frame, pd.DataFrame):
+        raise TypeError(f"{type(frame).__name__} is no frame: give what run_pipeline returns")
     if name not in frame.columns:
         raise KeyError(f"the frame has no column {name!r}; there are {', '.join(map(str, frame.columns))}")
     return frame[name]
