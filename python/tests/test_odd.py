@@ -114,19 +114,19 @@ def test_nothing_is_odd(tmp_path):
         # bars
         (
             {"splits": []},
-            "bars: 1 closes fall to about a half, a third, .. or rise to the double, the triple, .. without a split, "
+            "bars: once a close falls to about a half, a third, .. or rises to the double, the triple, .. without a split, "
             "as that of 2 on "
             "2024-01-08 from 23 to 12: give the splits",
         ),
         (
             {"closes": (UP, [10.0, 10, 10, 99, 101, 98, 99, 98]), "splits": []},
-            "bars: 1 closes fall to about a half, a third, .. or rise",
+            "bars: once a close falls to about a half, a third, .. or rises",
         ),
-        ({"closes": (UP, [10.0, np.nan, 10, np.nan, 3.4, 3.3, 3.3, 3.3]), "splits": []}, "bars: 1 closes fall"),
-        ({"closes": (UP, HALVED), "splits": [(2, DAYS[3], 1, 2)]}, "bars: 1 closes fall"),  # a day too soon
+        ({"closes": (UP, [10.0, np.nan, 10, np.nan, 3.4, 3.3, 3.3, 3.3]), "splits": []}, "bars: once a close falls"),
+        ({"closes": (UP, HALVED), "splits": [(2, DAYS[3], 1, 2)]}, "bars: once a close falls"),  # a day too soon
         (
             {"closes": (UP, [20.0, 0, 22, 23, 12, 0, 13, 13.5])},
-            "bars: 2 have a price of 0, as that of 2 on 2024-01-03: leave a missing one empty",
+            "bars: 2 with a price of 0, as that of 2 on 2024-01-03: leave a missing one empty",
         ),
         ({"volume": 48_000_000_000}, "bars: volume goes up to 48000000000"),
         ({"volume": 2_000_000_000}, "bars: close * volume goes up to 46000000000"),

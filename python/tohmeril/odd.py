@@ -270,10 +270,11 @@ class _Bars:
                     "volume in thousands, or prices in a greater unit"
                 )
         if self.zeros:
-            yield f"bars: {self.zeros} have a price of 0, as that of {self.zero}: leave a missing one empty"
+            yield f"bars: {self.zeros} with a price of 0, as that of {self.zero}: leave a missing one empty"
         if self.steps:
+            often = "once" if self.steps == 1 else f"{self.steps} times"
             yield (
-                f"bars: {self.steps} closes fall to about a half, a third, .. or rise to the double, the triple, .. "
+                f"bars: {often} a close falls to about a half, a third, .. or rises to the double, the triple, .. "
                 f"without a split, as that of {self.step}: give the splits, or see whether the bar is of another asset"
             )
         if self.flat:
