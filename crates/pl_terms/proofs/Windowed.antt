@@ -2,6 +2,7 @@
 use Rattle.std.proofs.Common.{◌≡◌, ℕ, zero, suc, ◌≤◌, ◌==◌, nat_le, true, List, [], ◌∷◌, ◌++◌, Option, Some, None, slice_get, refl, arith}
 use Rattle.std.proofs.lemmas.Bool.{and_parts}
 use Rattle.std.proofs.lemmas.Bool.Decides.{nat_tests}
+use Rattle.pl_spec.specs.Limits.{most_window}
 use Rattle.pl_pipeline.specs.Kind as kind
 use Rattle.pl_pipeline.specs.Kind.{Kind}
 use Rattle.pl_terms.specs.declared.kind.WindowForm.{WindowForm}
@@ -14,7 +15,7 @@ use Rattle.pl_terms.specs.Sorts.{has_window, form_fits, is_window_from}
 use Rattle.pl_terms.specs.Checked.{IsChecked}
 
 from-least : (least w : ℕ) → 1 ≤ least → is_window_from least w ≡ true → 1 ≤ w
-from-least least w h e = let r = (and_parts (nat_le least w) (nat_le w 1260) e).0 in grind (arith, nat_tests)
+from-least least w h e = let r = (and_parts (nat_le least w) (nat_le w most_window) e).0 in grind (arith, nat_tests)
 
 exactly : (n w : ℕ) → 1 ≤ n → (w == n) ≡ true → 1 ≤ w
 exactly n w h e = grind (arith, nat_tests)
