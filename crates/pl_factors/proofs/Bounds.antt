@@ -5,6 +5,7 @@ use Rattle.std.proofs.lemmas.Int.{ints}
 use Rattle.std.proofs.lemmas.Nat.{mul-le}
 use Rattle.std.proofs.lemmas.List.{length-take}
 use Rattle.std.proofs.lemmas.List.Elements.{All-take}
+use Rattle.pl_spec.specs.Limits.{most_window}
 use Rattle.pl_spec.specs.Rounding.{LIMIT, IsCell, is_missing}
 use Rattle.pl_spec.specs.Cells.{present_values, total}
 use Rattle.pl_pipeline.specs.Formula.{products, places, differences}
@@ -25,7 +26,7 @@ moved-is s t l m e f p q r = rw (p, q, r) refl
 pub before-cells : (xs : List ℤ) → All IsCell xs → All IsCell (before xs)
 before-cells xs cells = All-take IsCell (length xs - 1) xs cells
 
-pub before-few : (xs : List ℤ) → length xs ≤ 1261 → length (before xs) ≤ 1260
+pub before-few : (xs : List ℤ) → length xs ≤ most_window + 1 → length (before xs) ≤ most_window
 before-few xs few = omega (arith, length-take (length xs - 1) xs)
 
 -- ---- terms
@@ -56,23 +57,23 @@ swing-small false x y p q = gain-small x y _ _ refl refl p q
 
 -- ---- totals
 
-pub sum-within : (xs : List ℤ) → All IsCell xs → length xs ≤ 1260 → unsigned_abs (total (present_values xs)) ≤ 1260 * LIMIT
+pub sum-within : (xs : List ℤ) → All IsCell xs → length xs ≤ most_window → unsigned_abs (total (present_values xs)) ≤ most_window * LIMIT
 sum-within xs cells few = omega (arith, total-few xs cells, few-present xs)
 
-pub products-within : (xs ys : List ℤ) → All IsCell xs → All IsCell ys → length ys ≡ length xs → length xs ≤ 1260 → unsigned_abs (total (products xs ys)) ≤ 1260 * (LIMIT * LIMIT)
+pub products-within : (xs ys : List ℤ) → All IsCell xs → All IsCell ys → length ys ≡ length xs → length xs ≤ most_window → unsigned_abs (total (products xs ys)) ≤ most_window * (LIMIT * LIMIT)
 products-within xs ys cells others long few =
     let w = terms-within (λ i. product (get_or xs i (pos 0)) (get_or ys i (pos 0))) (LIMIT * LIMIT) (length xs)
     (λ i h. product-small _ _ _ _ refl refl (at-cell xs i cells) (at-cell ys i others)) in
-    rw (product-sum xs ys long) (omega (arith, w, most (length xs) 1260 (LIMIT * LIMIT) few))
+    rw (product-sum xs ys long) (omega (arith, w, most (length xs) most_window (LIMIT * LIMIT) few))
 
-pub placed-within : (xs : List ℤ) → All IsCell xs → length xs ≤ 1260 → unsigned_abs (total (products (places xs) xs)) ≤ 1260 * (LIMIT * LIMIT)
+pub placed-within : (xs : List ℤ) → All IsCell xs → length xs ≤ most_window → unsigned_abs (total (products (places xs) xs)) ≤ most_window * (LIMIT * LIMIT)
 placed-within xs cells few =
     let w = terms-within (λ i. product (pos (i + 1)) (get_or xs i (pos 0))) (LIMIT * LIMIT) (length xs)
     (λ i h. product-small _ _ _ _ refl refl (inr (omega arith)) (at-cell xs i cells)) in
-    rw (placed-sum xs) (omega (arith, w, most (length xs) 1260 (LIMIT * LIMIT) few))
+    rw (placed-sum xs) (omega (arith, w, most (length xs) most_window (LIMIT * LIMIT) few))
 
-pub swings-within : (falls : Bool) (xs : List ℤ) → All IsCell xs → length xs ≤ 1260 → unsigned_abs (total_swings falls (differences xs)) ≤ 1260 * (2 * LIMIT)
+pub swings-within : (falls : Bool) (xs : List ℤ) → All IsCell xs → length xs ≤ most_window → unsigned_abs (total_swings falls (differences xs)) ≤ most_window * (2 * LIMIT)
 swings-within falls xs cells few =
     let w = terms-within (λ i. swing falls (get_or xs i (pos 0)) (get_or xs (i + 1) (pos 0))) (2 * LIMIT) (length xs - 1)
     (λ i h. swing-small falls _ _ (at-cell xs i cells) (at-cell xs (i + 1) cells)) in
-    rw (swings-sum falls xs) (omega (arith, w, most (length xs - 1) 1260 (2 * LIMIT) (omega arith)))
+    rw (swings-sum falls xs) (omega (arith, w, most (length xs - 1) most_window (2 * LIMIT) (omega arith)))

@@ -1,6 +1,7 @@
 use Rattle.std.proofs.Common.{◌≡◌, ◌≤◌, ◌<◌, ◌/◌, ℕ, ℤ, List, rules, arith, ap, ap₂, ◌∙◌, pos, ◌-ℤ◌, unsigned_abs, FitsSigned, to_z, of_z, w64, length, sum_by, ne_eqb, nat_eq, false}
 use Rattle.std.specs.Int.{w128}
 use Rattle.std.proofs.lemmas.Int.{to_z-of_z, to_z_pos}
+use Rattle.pl_spec.specs.Limits.{most_window}
 use Rattle.pl_spec.specs.Rounding.{div_round, isqrt, to_cell}
 use Rattle.pl_spec.specs.Cells.{present_values, total, count}
 use Rattle.pl_pipeline.specs.Formula.{square, spread}
@@ -10,7 +11,7 @@ use Rattle.pl_factors.proofs.Kept.{kept_cell}
 use Rattle.pl_factors.proofs.deviations.deviation_of.Goals as goal
 
 -- the middle that the code computes
-middle : (r s : ℤ) (n : ℕ) (xs : List ℤ) → FitsSigned w128 s → length xs ≤ 1260 → s ≡ total (present_values xs) → n ≡ count xs
+middle : (r s : ℤ) (n : ℕ) (xs : List ℤ) → FitsSigned w128 s → length xs ≤ most_window → s ≡ total (present_values xs) → n ≡ count xs
     → r ≡ div_round (to_z w128 (of_z w128 s)) (unsigned_abs (to_z w128 n)) → r ≡ div_round (total (present_values xs)) (count xs)
 middle r s n xs fs few sum number is =
     let e : to_z w128 n ≡ pos (count xs) = to_z_pos w128 n (omega (arith, number, few-present xs, few)) ∙ ap pos number in
