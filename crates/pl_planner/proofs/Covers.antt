@@ -6,6 +6,7 @@ use Rattle.std.proofs.lemmas.Bool.Decides.{nat_tests}
 use Rattle.std.specs.Int.Signed.{lt_z}
 use Rattle.std.proofs.lemmas.Int.{ints, to_z-of_z}
 use Rattle.std.proofs.lemmas.Option.{slice_get_within}
+use Rattle.pl_spec.specs.Limits.{most_terms, most_extra_rows}
 use Rattle.pl_pipeline.specs.Table.{Pipeline}
 use Rattle.pl_pipeline.specs.Term.{Node, Graph}
 use Rattle.pl_pipeline.specs.Graph.{reads_at, contains, mentions_at, Used, used_terms, is_live, live_terms, columns_at, bound}
@@ -117,7 +118,7 @@ module _ (days : List ℤ) (rise : AllPairs (λ a b. a <ℤ b) days) (p : Pipeli
 
   module _ (slots : List TermSlots) (slotted : AreSlotted uses slots) (long : length slots ≡ length uses) (from to : ℕ) (order : from ≤ to) (within : to < length days)
       (extras : List ℕ) (rows : AreRows days p.graph (outputs p) from (to + 1 - from) extras)
-      (reach : ℤ) (held : ℕ) (least : reach ≡ least_reach days p.graph (outputs p) (pos from)) (early : pos 0 ≤ℤ reach) (held_is : held ≡ bound p.graph (outputs p)) (shallow : most_extra extras ≤ 4096) where
+      (reach : ℤ) (held : ℕ) (least : reach ≡ least_reach days p.graph (outputs p) (pos from)) (early : pos 0 ≤ℤ reach) (held_is : held ≡ bound p.graph (outputs p)) (shallow : most_extra extras ≤ most_extra_rows) where
     abbrev plan : Planned
     plan = record { from = from; to = to; reach = reach; bound = held; uses = uses; extras = extras; slots = slots }
 
@@ -147,7 +148,7 @@ module _ (days : List ℤ) (rise : AllPairs (λ a b. a <ℤ b) days) (p : Pipeli
       pub within-session : extra_of s t ≤ s
       within-session = let r = reached in let e = early in omega (arith, ints)
 
-      pub is-few : extra_of s t ≤ 4096
+      pub is-few : extra_of s t ≤ most_extra_rows
       is-few = let m = own-most days p checked from to order extras rows t s (let w = used-in t used in let z = are.size in omega arith) after until in omega arith
 
       pub is-low-at : low_at plan t s ≡ s - extra_of s t
@@ -401,7 +402,7 @@ module _ (days : List ℤ) (rise : AllPairs (λ a b. a <ℤ b) days) (p : Pipeli
       };
     }
 
-    pub limits : length p.graph ≤ 256 → held ≤ 261 → KeepsLimits plan
+    pub limits : length p.graph ≤ most_terms → held ≤ most_terms + 5 → KeepsLimits plan
     limits few most_held = record {
       order = order;
       early = early;

@@ -4,6 +4,7 @@ use Rattle.std.proofs.lemmas.Bool.{cases_lt, cases_eq, true≢false, or_cases, o
 use Rattle.std.proofs.lemmas.Int.{ints, by_lt_z}
 use Rattle.std.proofs.lemmas.List.{length-replicate}
 use Rattle.std.proofs.lemmas.Option.{slice_get_within}
+use Rattle.pl_spec.specs.Limits.{most_window}
 use Rattle.pl_spec.specs.Window.{before}
 use Rattle.pl_pipeline.specs.Term.{Node, Graph, IsGraph}
 use Rattle.pl_pipeline.specs.Kind.{Kind}
@@ -237,7 +238,7 @@ module _ (days : List ℤ) (s : ℕ) (g : Graph) (outputs : List ℕ) (within : 
 -- ---- no session is needed so far back
 
 -- a node reads no farther back than its window, from its session or from the first one of the calendar
-read-near : (days : List ℤ) (n : Node) (q : ℤ) (t : ℕ) (r : ℤ) → n.window ≤ 1260 → Reads days n q t r → (q ≤ℤ (r +ℤ pos 1260)) ⊎ (pos 0 ≤ℤ (r +ℤ pos 1260))
+read-near : (days : List ℤ) (n : Node) (q : ℤ) (t : ℕ) (r : ℤ) → n.window ≤ most_window → Reads days n q t r → (q ≤ℤ (r +ℤ pos most_window)) ⊎ (pos 0 ≤ℤ (r +ℤ pos most_window))
 read-near days n q t r w (Reads.input i e) =
     by_lt_z q (pos 0)
     (λ early. inl (omega (arith, ints, w, early-still days n.kind q early)))
@@ -245,8 +246,8 @@ read-near days n q t r w (Reads.input i e) =
 read-near days n q t r w (Reads.mask e) = inl (omega (arith, ints))
 read-near days n q t r w (Reads.group e) = inl (omega (arith, ints))
 
-pub needs-near : (days : List ℤ) (s : ℕ) (g : Graph) (outputs : List ℕ) → IsGraph g → ((t : ℕ) → contains outputs t ≡ true → t < length g) → ((k : ℕ) (n : Node) → slice_get g k ≡ Some n → n.window ≤ 1260)
-    → (t : ℕ) (r : ℤ) → Needs days g outputs (pos s) t r → (pos (1260 * t) ≤ℤ (r +ℤ pos (1260 * length g))) × (t < length g)
+pub needs-near : (days : List ℤ) (s : ℕ) (g : Graph) (outputs : List ℕ) → IsGraph g → ((t : ℕ) → contains outputs t ≡ true → t < length g) → ((k : ℕ) (n : Node) → slice_get g k ≡ Some n → n.window ≤ most_window)
+    → (t : ℕ) (r : ℤ) → Needs days g outputs (pos s) t r → (pos (most_window * t) ≤ℤ (r +ℤ pos (most_window * length g))) × (t < length g)
 needs-near days s g outputs ok within short t r (Needs.output h) = let l = within t h in (omega (arith, ints, l), l)
 needs-near days s g outputs ok within short t r (Needs.read u n q needs at reads) =
     let so_far = needs-near days s g outputs ok within short u q needs in

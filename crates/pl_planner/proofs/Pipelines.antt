@@ -4,6 +4,7 @@ use Rattle.std.proofs.lemmas.Int.{ints}
 use Rattle.std.proofs.lemmas.Bool.{and_parts, true≢false, eqb-true, or_cases, or_left, eq-eqb}
 use Rattle.std.proofs.lemmas.Bool.Decides.{nat_tests}
 use Rattle.std.proofs.lemmas.Option.{slice_get_within}
+use Rattle.pl_spec.specs.Limits.{most_window}
 use Rattle.pl_pipeline.specs.Kind as kind
 use Rattle.pl_pipeline.specs.Kind.{Kind}
 use Rattle.pl_pipeline.specs.Table.{Pipeline, NamedColumn}
@@ -32,15 +33,15 @@ use Rattle.pl_planner.proofs.Live.{used_within}
 use Rattle.pl_laws.proofs.Uses.{lower, used_terms-complete}
 
 abbrev Fits : ℕ → Type 0
-Fits w = (1 ≤ w) × (w ≤ 1260)
+Fits w = (1 ≤ w) × (w ≤ most_window)
 
 between : (least w : ℕ) → 1 ≤ least → is_window_from least w ≡ true → Fits w
 between least w h e =
-    let r = and_parts (nat_le least w) (nat_le w 1260) e in
+    let r = and_parts (nat_le least w) (nat_le w most_window) e in
     let low = r.0 in
     let high = r.1 in
     let a : 1 ≤ w = grind (arith, nat_tests) in
-    let b : w ≤ 1260 = grind (arith, nat_tests) in
+    let b : w ≤ most_window = grind (arith, nat_tests) in
     (a, b)
 
 exactly : (n w : ℕ) → 1 ≤ n → n ≤ 2 → (w == n) ≡ true → Fits w
@@ -82,7 +83,7 @@ reads-terms g k is h = inl (λ days s. refl)
 pub record IsPipeline (g : Graph) (outs : List ℕ) : Type 0 where
   pub graph : IsGraph g
   pub outputs_in : (t : ℕ) → contains outs t ≡ true → t < length g
-  pub windows : (k : ℕ) (n : Node) → slice_get g k ≡ Some n → (1 ≤ n.window) × (n.window ≤ 1260)
+  pub windows : (k : ℕ) (n : Node) → slice_get g k ≡ Some n → (1 ≤ n.window) × (n.window ≤ most_window)
   pub reads : (k : ℕ) (n : Node) → slice_get g k ≡ Some n → ReadsTerms n
 
 -- so are the terms that are used

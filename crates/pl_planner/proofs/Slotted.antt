@@ -5,23 +5,24 @@ use Rattle.std.proofs.lemmas.Bool.{cases_lt, cases_eq, true≢false, or_cases, o
 use Rattle.std.proofs.lemmas.List.Sums.{sum_by-set}
 use Rattle.std.proofs.lemmas.List.{get_or_append_left, get_or_past, get_or_push, length-replicate, length_push}
 use Rattle.std.proofs.lemmas.List.Folds.{sum_by-replicate}
+use Rattle.pl_spec.specs.Limits.{most_terms}
 use Rattle.pl_planner.specs.declared.uses.Use.{Use}
 use Rattle.pl_planner.specs.declared.slots.TermSlots.{TermSlots}
 use Rattle.pl_planner.specs.Uses.{is_kept}
 use Rattle.pl_planner.specs.Slotting.{no_slots, slots_at, own_slot, kept_below, one, IsHad, IsHadBefore, IsLowest, IsSlotted, AreSlotted, Takes, AreMarksOf, IsTaken}
 use Rattle.pl_planner.proofs.Counting.{all_same, count_more, one-or}
 
-pub none_taken : (uses : List Use) (slots : List TermSlots) (k : ℕ) (taken : List Bool) → taken ≡ replicate 260 false → IsTaken uses slots k 0 taken
+pub none_taken : (uses : List Use) (slots : List TermSlots) (k : ℕ) (taken : List Bool) → taken ≡ replicate (most_terms + 4) false → IsTaken uses slots k 0 taken
 none_taken uses slots k taken e = record {
-  size = ap length e ∙ length-replicate 260 false;
+  size = ap length e ∙ length-replicate (most_terms + 4) false;
   tells = record {
     yes = λ s h. (let l = h.below in absurd (omega arith));
-    no = λ s h. absurd (true≢false (sym h ∙ ap (λ l. get_or l s false) e ∙ all_same 260 s false));
+    no = λ s h. absurd (true≢false (sym h ∙ ap (λ l. get_or l s false) e ∙ all_same (most_terms + 4) s false));
   };
-  few = (let z : sum_by one taken ≡ 260 * 0 = ap (sum_by one) e ∙ sum_by-replicate one 260 false in omega arith);
+  few = (let z : sum_by one taken ≡ (most_terms + 4) * 0 = ap (sum_by one) e ∙ sum_by-replicate one (most_terms + 4) false in omega arith);
 }
 
-module _ (uses : List Use) (slots : List TermSlots) (k t : ℕ) (taken : List Bool) (so_far : IsTaken uses slots k t taken) (low : own_slot slots t ≤ 256) where
+module _ (uses : List Use) (slots : List TermSlots) (k t : ℕ) (taken : List Bool) (so_far : IsTaken uses slots k t taken) (low : own_slot slots t ≤ most_terms) where
   abbrev told : Bool
   told = get_or taken (own_slot slots t) false || is_kept uses k t
 
@@ -129,7 +130,7 @@ tells_more T taken slot tells inside = record {
 -- the marks tell which slots are taken, n at most
 record Stand (T : ℕ → Type 0) (taken : List Bool) (n : ℕ) : Type 0 where
   pub tells : AreMarksOf T taken
-  pub size : length taken ≡ 260
+  pub size : length taken ≡ most_terms + 4
   pub few : sum_by one taken ≤ n
 
 module _ (T : ℕ → Type 0) (taken new : List Bool) (n slot : ℕ) (is : Stand T taken n) (takes : Takes taken new slot) where
@@ -142,7 +143,7 @@ module _ (T : ℕ → Type 0) (taken new : List Bool) (n slot : ℕ) (is : Stand
     lowest = λ s l. is.tells.no s (takes.before s l);
   }
 
-  next : n < 260 → Stand (λ s. T s ⊎ (slot ≡ s)) new (n + 1)
+  next : n < most_terms + 4 → Stand (λ s. T s ⊎ (slot ≡ s)) new (n + 1)
   next few = record {
     tells = subst (AreMarksOf (λ s. T s ⊎ (slot ≡ s))) (sym takes.taken) (tells_more T taken slot is.tells (let l = low in let z = is.size in omega arith));
     size = takes.size ∙ is.size;
@@ -173,11 +174,11 @@ module _ (uses : List Use) (slots : List TermSlots) (k : ℕ) (new : TermSlots) 
   ]
 
   -- the i-th column takes its slot
-  column_taken : (i n : ℕ) (taken after : List Bool) → Stand (Before i) taken n → Takes taken after (get_or new.columns i 0) → n < 260 → Stand (Before (i + 1)) after (n + 1)
+  column_taken : (i n : ℕ) (taken after : List Bool) → Stand (Before i) taken n → Takes taken after (get_or new.columns i 0) → n < most_terms + 4 → Stand (Before (i + 1)) after (n + 1)
   column_taken i n taken after is takes few =
       stands_as (λ s. Before i s ⊎ (get_or new.columns i 0 ≡ s)) (Before (i + 1)) after (n + 1) (one_before i) (last_before i) (next (Before i) taken after n (get_or new.columns i 0) is takes few)
 
-pub slotted : (uses : List Use) (slots : List TermSlots) (k : ℕ) (taken t1 t2 t3 t4 : List Bool) (own first second third : ℕ) → IsTaken uses slots k k taken → k < 256
+pub slotted : (uses : List Use) (slots : List TermSlots) (k : ℕ) (taken t1 t2 t3 t4 : List Bool) (own first second third : ℕ) → IsTaken uses slots k k taken → k < most_terms
     → Takes taken t1 own → Takes t1 t2 first → Takes t2 t3 second → Takes t3 t4 third → IsSlotted uses slots k (record { own = own; columns = first ∷ second ∷ third ∷ [] })
 slotted uses slots k taken t1 t2 t3 t4 own first second third is few a b c d =
     let new : TermSlots = record { own = own; columns = first ∷ second ∷ third ∷ [] } in
@@ -207,7 +208,7 @@ slotted uses slots k taken t1 t2 t3 t4 own first second third is few a b c d =
     below n l1 l2 l3 (suc (suc (suc i))) h = absurd (omega arith)
 
 -- there is room for four slots more
-pub four_free : (uses : List Use) (slots : List TermSlots) (k : ℕ) (taken : List Bool) → IsTaken uses slots k k taken → k < 256 → sum_by one taken + 3 < length taken
+pub four_free : (uses : List Use) (slots : List TermSlots) (k : ℕ) (taken : List Bool) → IsTaken uses slots k k taken → k < most_terms → sum_by one taken + 3 < length taken
 four_free uses slots k taken is few = omega (arith, is.few, is.size, few, count_few uses k k)
 
 -- ---- the slots of the terms before stay
@@ -244,7 +245,7 @@ module _ (uses : List Use) (slots : List TermSlots) (new : TermSlots) where
       Before : ℕ → ℕ → Type 0
       Before i s = (j : ℕ) × (j < i) × (get_or own.columns j 0 ≡ s)
 
-  pub more_slotted : length slots < 256 → AreSlotted uses slots → IsSlotted uses slots (length slots) new → AreSlotted uses (slots ++ new ∷ [])
+  pub more_slotted : length slots < most_terms → AreSlotted uses slots → IsSlotted uses slots (length slots) new → AreSlotted uses (slots ++ new ∷ [])
   more_slotted few so_far is = record {
     each = λ k h. elim (cases_lt k (length slots)) [
       | inl p ↦ subst (IsSlotted uses (slots ++ new ∷ []) k) (sym (get_or_append_left slots (new ∷ []) no_slots k p)) (still_slotted k (slots_at slots k) (omega arith) (so_far.each k p))

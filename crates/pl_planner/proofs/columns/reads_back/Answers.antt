@@ -1,4 +1,5 @@
 use Rattle.std.proofs.Common.{◌≤◌, ◌*◌, ◌+◌, arith, rules}
+use Rattle.pl_spec.specs.Limits.{most_sessions, most_terms, most_window}
 use Rattle.pl_terms.specs.Checked.{pipeline_of}
 use Rattle.pl_terms.specs.Nodes.{node_of}
 use Rattle.pl_planner.proofs.Pipelines.{pipeline-for}
@@ -14,7 +15,7 @@ overflow_add-result c =
     let from = c.back_from.ensures in
     let few = c.requires.asked.days.few in
     let inside = c.requires.session in
-    let small : c.back_from.result + c.bars_back.result ≤ 16000 + 1260 * 257 = omega arith in
+    let small : c.back_from.result + c.bars_back.result ≤ most_sessions + most_window * (most_terms + 1) = omega arith in
     search rules
 
 pub returns-then-uses-t-clause-few : goal.returns-then-uses-t-clause-few

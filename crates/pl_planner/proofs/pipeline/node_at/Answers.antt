@@ -1,10 +1,11 @@
 use Rattle.std.proofs.Common.{◌≡◌, ◌<◌, ap, ◌∙◌, sym, length, arith, slice_get, rules}
+use Rattle.pl_spec.specs.Limits.{most_terms}
 use Rattle.pl_terms.proofs.Graphs.{graph-long, graph-at}
 use Rattle.pl_planner.proofs.pipeline.node_at.Goals as goal
 
 pub overflow_cast-k : goal.overflow_cast-k
 overflow_cast-k c =
-    let small : c.args.k < 256 = omega (arith, c.requires.within, c.requires.few) in
+    let small : c.args.k < most_terms = omega (arith, c.requires.within, c.requires.few) in
     search rules
 
 pub node-requires : goal.node-requires

@@ -1,5 +1,6 @@
 use Rattle.std.proofs.Common.{rules, arith, ◌≤◌, ◌<◌, ◌≡◌, ◌≤ℤ◌, pos, ap, ◌∙◌, FitsSigned, w64, subst, sym, length, List}
 use Rattle.std.proofs.lemmas.Int.{to_z-of_z}
+use Rattle.pl_spec.specs.Limits.{most_extra_rows}
 use Rattle.pl_terms.specs.Checked.{pipeline_of}
 use Rattle.pl_terms.specs.Uses.{outputs}
 use Rattle.pl_planner.specs.declared.uses.Use.{Use}
@@ -15,14 +16,14 @@ returns-then-rows-gt-MOST_ROWS-clause-fault c =
     let early : pos 0 ≤ℤ c.reach_of-reach.result = not-early c.reach_of-reach.result fit c.if-reach-lt0.false in
     let reached = (rw c.deref.ensures.value at c.reach_of-reach.ensures) (outputs (pipeline_of c.args.checked.now)) in
     let l = rw (reached c.in-Ok.ensures.uses c.in-Ok.ensures.extras) at early in
-    let deep : 4096 < c.most_extra-rows.result = c.if-rows-gt-MOST_ROWS.true in
+    let deep : most_extra_rows < c.most_extra-rows.result = c.if-rows-gt-MOST_ROWS.true in
     let d = deepest c.args.sessions.now (pipeline_of c.args.checked.now) c.are_asked.ensures.checked c.args.from c.args.to c.requires.order c.in-Ok-gather_rows.extras.items c.in-Ok-gather_rows.ensures (omega arith) in
     (l, subst (IsDeepest c.args.sessions.now (pipeline_of c.args.checked.now) c.args.from c.args.to) (sym e) d, deep)
 
 pub invariant_of-result : goal.invariant_of-result
 invariant_of-result c =
     let e : c.most_extra-rows.result ≡ most_extra c.in-Ok-gather_rows.extras.items = c.most_extra-rows.ensures ∙ ap most_extra c.deref-2.ensures.value in
-    let few : most_extra c.in-Ok-gather_rows.extras.items ≤ 4096 = omega (arith, e, c.if-rows-gt-MOST_ROWS.false) in
+    let few : most_extra c.in-Ok-gather_rows.extras.items ≤ most_extra_rows = omega (arith, e, c.if-rows-gt-MOST_ROWS.false) in
     let fit : FitsSigned w64 c.reach_of-reach.result = search rules in
     let early : pos 0 ≤ℤ c.reach_of-reach.result = not-early c.reach_of-reach.result fit c.if-reach-lt0.false in
     let reached = (rw c.deref.ensures.value at c.reach_of-reach.ensures) (outputs (pipeline_of c.args.checked.now)) in
@@ -37,7 +38,7 @@ invariant_of-result c =
 pub returns-clause-plan : goal.returns-clause-plan
 returns-clause-plan c =
     let e : c.most_extra-rows.result ≡ most_extra c.in-Ok-gather_rows.extras.items = c.most_extra-rows.ensures ∙ ap most_extra c.deref-2.ensures.value in
-    let few : most_extra c.in-Ok-gather_rows.extras.items ≤ 4096 = omega (arith, e, c.if-rows-gt-MOST_ROWS.false) in
+    let few : most_extra c.in-Ok-gather_rows.extras.items ≤ most_extra_rows = omega (arith, e, c.if-rows-gt-MOST_ROWS.false) in
     let fit : FitsSigned w64 c.reach_of-reach.result = search rules in
     let early : pos 0 ≤ℤ c.reach_of-reach.result = not-early c.reach_of-reach.result fit c.if-reach-lt0.false in
     let reached = (rw c.deref.ensures.value at c.reach_of-reach.ensures) (outputs (pipeline_of c.args.checked.now)) in
