@@ -5,6 +5,7 @@ use Rattle.std.specs.Ordering.{int_eq}
 use Rattle.std.proofs.lemmas.List.{length-map}
 use Rattle.std.proofs.lemmas.List.Sums.{count_by-le-length, length-filter}
 use Rattle.std.proofs.lemmas.List.FromFn.{length-range_with_len}
+use Rattle.pl_spec.specs.Limits.{most_assets}
 use Rattle.pl_spec.specs.Rounding.{MISSING, MILLION, LIMIT, IsCell}
 use Rattle.pl_pipeline.specs.Kind.{CrossKind}
 use Rattle.pl_pipeline.specs.Kind.CrossKind.{Rank, Demean, ZScore, Quantiles, PeerCount}
@@ -29,14 +30,14 @@ distinct-few (v ∷ vs) = here (list_any (int_eq v) vs) (distinct-few vs)
     here true h = omega arith
     here false h = omega arith
 
-module _ (list : List Entry) (a : ℕ) (x : ℤ) (few : length list ≤ 8000) where
+module _ (list : List Entry) (a : ℕ) (x : ℤ) (few : length list ≤ most_assets) where
   long : length (values list) ≡ length list
   long = length-map list (λ (e : Entry). e.1)
 
-  before-few : (order : RankOrder) → preceding order x (values list) ≤ 8000
+  before-few : (order : RankOrder) → preceding order x (values list) ≤ most_assets
   before-few order = let c = count_by-le-length (λ v. precedes order v x) (values list) in let l = long in omega arith
 
-  same-few : count_equal x (values list) ≤ 8000
+  same-few : count_equal x (values list) ≤ most_assets
   same-few = let c = count_by-le-length (int_eq x) (values list) in let l = long in omega arith
 
   rank-cell : (m : RankMethod) (order : RankOrder) → IsCell (pos (rank m order list a x))
@@ -66,7 +67,7 @@ module _ (list : List Entry) (a : ℕ) (x : ℤ) (few : length list ≤ 8000) wh
       let l : bin_of bins (values list) x ≤ LIMIT = omega arith in
       small-cell _ l
 
-cross-cell : (k : CrossKind) (list : List Entry) (a : ℕ) (x : ℤ) → IsRight k → length list ≤ 8000 → IsCell (cross k list a x)
+cross-cell : (k : CrossKind) (list : List Entry) (a : ℕ) (x : ℤ) → IsRight k → length list ≤ most_assets → IsCell (cross k list a x)
 unfolding cross
 cross-cell (Rank m order) list a x r few = rank-cell list a x few m order
 cross-cell Demean list a x r few = sub-cell _ _
@@ -86,9 +87,9 @@ entries-few vs keep labels i =
     let r = length-range_with_len 0 (length vs) in
     omega (arith, m, f, c, r)
 
-pub section-is-cell : (k : CrossKind) (vs keep : List ℤ) (labels : _) (i : ℕ) → IsRight k → length vs ≤ 8000 → IsCell (section_at k vs keep labels i)
+pub section-is-cell : (k : CrossKind) (vs keep : List ℤ) (labels : _) (i : ℕ) → IsRight k → length vs ≤ most_assets → IsCell (section_at k vs keep labels i)
 section-is-cell k vs keep labels i r few =
     let l = entries-few vs keep (labels_for k vs labels) i in
-    let m : length (entries_for vs keep (labels_for k vs labels) i) ≤ 8000 = omega arith in
+    let m : length (entries_for vs keep (labels_for k vs labels) i) ≤ most_assets = omega arith in
     chosen-has IsCell (list_any (λ (e : Entry). e.0 == i) (entries_for vs keep (labels_for k vs labels) i)) _ (empty_number k)
     (cross-cell k (entries_for vs keep (labels_for k vs labels) i) i (array_at vs i) r m) (empty-cell k)

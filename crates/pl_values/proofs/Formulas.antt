@@ -5,6 +5,7 @@ use Rattle.std.specs.Int.RustNames.{int_lt}
 use Rattle.std.proofs.lemmas.Int.{ints}
 use Rattle.std.proofs.lemmas.Bool.{and_parts, and_from}
 use Rattle.std.proofs.lemmas.Bool.Decides.{nat_tests}
+use Rattle.pl_spec.specs.Limits.{most_window}
 use Rattle.pl_spec.specs.Rounding.{MILLION, IsCell}
 use Rattle.pl_spec.specs.World.{World}
 use Rattle.pl_spec.specs.Window.{before, downward, seen_cell}
@@ -69,10 +70,10 @@ window-of : (k : Kind) (f : WindowKind) (w : ℕ) → k ≡ Window f → has_win
 unfolding has_window
 window-of k f w e h = rw e at h
 
-from-most : (least w : ℕ) → (nat_le least w && nat_le w 1260) ≡ true → w ≤ 1260
-from-most least w h = let m : nat_le w 1260 ≡ true = (and_parts (nat_le least w) (nat_le w 1260) h).1 in grind (arith, nat_tests)
+from-most : (least w : ℕ) → (nat_le least w && nat_le w most_window) ≡ true → w ≤ most_window
+from-most least w h = let m : nat_le w most_window ≡ true = (and_parts (nat_le least w) (nat_le w most_window) h).1 in grind (arith, nat_tests)
 
-form-most : (f : WindowForm) (w : ℕ) → form_fits f w ≡ true → w ≤ 1260
+form-most : (f : WindowForm) (w : ℕ) → form_fits f w ≡ true → w ≤ most_window
 form-most Bar w h = let e : w ≡ 1 = grind (arith, nat_tests) in omega arith
 form-most TwoColumns w h = let e : w ≡ 2 = grind (arith, nat_tests) in omega arith
 form-most f w h = from-most _ w h
@@ -94,7 +95,7 @@ module _ (w : World) (p : Pipeline) (sids : List ℕ) (ok : IsChecked p) (k : �
   pub fit : all_fit p.graph (window_places f) n.inputs ≡ true
   fit = ap (λ ps. all_fit p.graph ps n.inputs) (sym (places-of n.kind f e)) ∙ (ok.nodes k n is).inputs
 
-  pub most : n.window ≤ 1260
+  pub most : n.window ≤ most_window
   most = form-most (row_of f).form n.window (window-of n.kind f n.window e (ok.nodes k n is).window)
 
   -- there is a first window

@@ -1,5 +1,6 @@
 use Rattle.std.proofs.Common.{◌≡◌, ℕ, ◌<◌, ◌≤◌, true, false, ◌∙◌, ℤ, List, length, All, refl, sym, arith, subst, Option}
 use Rattle.std.proofs.lemmas.List.{get_or_default}
+use Rattle.pl_spec.specs.Limits.{most_assets}
 use Rattle.pl_spec.specs.Rounding.{MISSING, IsCell}
 use Rattle.pl_pipeline.specs.Cross.{array_at}
 use Rattle.pl_pipeline.specs.Kind.{Kind, CrossKind}
@@ -9,7 +10,7 @@ use Rattle.pl_cross.specs.Arrays.{section_at}
 use Rattle.pl_values.proofs.CrossCells.{section-is-cell}
 use Rattle.pl_values.proofs.sections.section_values.Goals as goal
 
-cells-out : (k : Kind) → is_section k ≡ true → HasParameters k → (vs keep out : List ℤ) (labels : Option (List ℤ)) → length vs ≤ 8000 → length out ≡ length vs
+cells-out : (k : Kind) → is_section k ≡ true → HasParameters k → (vs keep out : List ℤ) (labels : Option (List ℤ)) → length vs ≤ most_assets → length out ≡ length vs
     → ((f : CrossKind) → k ≡ Cross f → (i : ℕ) → i < length vs → array_at out i ≡ section_at f vs keep labels i) → All IsCell out
 cells-out (Cross f) h r vs keep out labels few long each = λ i d l.
     let m : i < length vs = omega (arith, l, long) in
