@@ -7,6 +7,7 @@ use Rattle.std.proofs.lemmas.Int.{ints}
 use Rattle.std.proofs.lemmas.List.{take_more, map-append}
 use Rattle.std.proofs.lemmas.List.Sums.{fold-append}
 use Rattle.std.proofs.lemmas.Option.{get_or_from_slice_get}
+use Rattle.pl_spec.specs.Limits.{most_columns}
 use Rattle.pl_spec.specs.Rounding.{LIMIT}
 use Rattle.pl_spec.specs.World.{World}
 use Rattle.pl_pipeline.specs.Table.{Pipeline, NamedColumn, Row, value_of, summand}
@@ -45,7 +46,7 @@ values_sum-more w p a d cs i c h e =
     one x = omega (arith, ints)
 
 -- one cell more
-pub sum-grows : (a r : ℤ) (i : ℕ) → unsigned_abs a ≤ i * LIMIT → unsigned_abs r ≤ LIMIT → i < 64 → FitsSigned w128 (a +ℤ r) × (unsigned_abs (a +ℤ r) ≤ (i + 1) * LIMIT)
+pub sum-grows : (a r : ℤ) (i : ℕ) → unsigned_abs a ≤ i * LIMIT → unsigned_abs r ≤ LIMIT → i < most_columns → FitsSigned w128 (a +ℤ r) × (unsigned_abs (a +ℤ r) ≤ (i + 1) * LIMIT)
 sum-grows a r i h k few =
     let size : unsigned_abs (a +ℤ r) ≤ (i + 1) * LIMIT = omega (arith, ints, unsigned_abs-parts a, unsigned_abs-parts r, unsigned_abs-parts (a +ℤ r)) in
     (record { sfits = omega (arith, ints, unsigned_abs-parts (a +ℤ r), size) }, size)

@@ -4,6 +4,7 @@ use Rattle.std.specs.Prelude.{unsigned_abs}
 use Rattle.std.proofs.lemmas.Int.{to_z-of_z}
 use Rattle.std.proofs.lemmas.List.{take_all}
 use Rattle.std.proofs.lemmas.Option.{slice_get_within}
+use Rattle.pl_spec.specs.Limits.{most_columns}
 use Rattle.pl_spec.specs.Rounding.{LIMIT}
 use Rattle.pl_pipeline.specs.Table.{NamedColumn}
 use Rattle.pl_cross.specs.Arrays.{sid_in}
@@ -30,7 +31,7 @@ loop-column-preserved c =
     let w = world_in o in let p = pipeline_in o in let a = sid_in (sids_in o) c.args.cells.now.place in let i = c.loop-column.column in
     let d = has-column o.asked.checked.now.columns i (omega (arith, c.columns-column-end.ensures)) in
     let inside = slice_get_within p.columns i d.0 d.1 in
-    let few : i < 64 = omega (arith, inside, c.requires.cells.outcome.asked.checked.few_columns) in
+    let few : i < most_columns = omega (arith, inside, c.requires.cells.outcome.asked.checked.few_columns) in
     let put = c.put_value-sum.ensures.value d.0 d.1 in
     let fr : FitsSigned w128 c.put_value-sum.result = search rules in
     let grown = sum-grows (to_z w128 c.loop-column.sum-bits) c.put_value-sum.result i c.loop-column.invariant.small c.put_value-sum.ensures.small few in
