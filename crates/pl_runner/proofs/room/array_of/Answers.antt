@@ -1,5 +1,6 @@
-use Rattle.std.proofs.Common.{rules, vec_len, ◌≡◌, ◌∙◌, length, ap, arith}
+use Rattle.std.proofs.Common.{rules, vec_len, ◌^◌, ◌≡◌, ◌∙◌, length, ap, arith}
 use Rattle.std.proofs.lemmas.Nat.{mul-le}
+use Rattle.pl_spec.specs.Limits.{most_assets}
 use Rattle.pl_world.specs.Worlds.{world_of}
 use Rattle.pl_terms.specs.Checked.{pipeline_of}
 use Rattle.pl_runner.specs.Chunks.{columns_of}
@@ -11,7 +12,7 @@ pub overflow_mul-result : goal.overflow_mul-result
 overflow_mul-result c =
     let few = columns_of-few (world_of c.args.asked.now.world) (pipeline_of c.args.asked.now.checked.now) c.args.asked.now.plan.now c.args.chunk in
     let cols : c.len.result ≡ length (columns_of (world_of c.args.asked.now.world) (pipeline_of c.args.asked.now.checked.now) c.args.asked.now.plan.now c.args.chunk) = (let v : vec_len c.put_columns.new.cols ≡ length c.put_columns.new.cols.items = search rules in c.len.ensures ∙ v) ∙ ap length c.put_columns.ensures.cols in
-    let product = mul-le c.len.result c.most_rows.result 8000 8589934592 (omega (arith, few, cols, c.requires.asked.sound.assets.few)) (omega (arith, c.most_rows.ensures.few)) in
+    let product = mul-le c.len.result c.most_rows.result most_assets (2 ^ 33) (omega (arith, few, cols, c.requires.asked.sound.assets.few)) (omega (arith, c.most_rows.ensures.few)) in
     omega (arith, product)
 
 pub returns-clause-each : goal.returns-clause-each
