@@ -3,6 +3,7 @@ use Rattle.std.proofs.Common.{◌≡◌, ℕ, Bool, true, false, ◌&&◌, ◌==
 use Rattle.std.specs.List.{list_all}
 use Rattle.std.proofs.lemmas.Bool.{and_parts}
 use Rattle.std.proofs.lemmas.Bool.Decides.{nat_tests}
+use Rattle.pl_spec.specs.Limits.{most_chunk}
 use Rattle.pl_spec.specs.Decimals.{sid_in}
 use Rattle.pl_words.specs.declared.commands.OptionName.TheVariants as option
 use Rattle.pl_words.specs.declared.commands.CommandName.{CommandName}
@@ -19,20 +20,20 @@ mapped : {X Y : Type 0} (P : Y → Type 0) (f : X → Y) (o : Option X) → IfSo
 mapped P f None h = tt
 mapped P f (Some x) h = h
 
-number : (n : ℕ) → IfSome (cond (nat_le 1 n && nat_le n 4096) (Some n) None) IsChunk
-number n = here (nat_le 1 n && nat_le n 4096) refl
+number : (n : ℕ) → IfSome (cond (nat_le 1 n && nat_le n most_chunk) (Some n) None) IsChunk
+number n = here (nat_le 1 n && nat_le n most_chunk) refl
   where
-    here : (b : Bool) → (nat_le 1 n && nat_le n 4096) ≡ b → IfSome (cond b (Some n) None) IsChunk
+    here : (b : Bool) → (nat_le 1 n && nat_le n most_chunk) ≡ b → IfSome (cond b (Some n) None) IsChunk
     here false e = tt
     here true e =
-        let r = and_parts (nat_le 1 n) (nat_le n 4096) e in
+        let r = and_parts (nat_le 1 n) (nat_le n most_chunk) e in
         let low = r.0 in
         let high = r.1 in
         (grind (arith, nat_tests), grind (arith, nat_tests))
 
 value : (o : Option Word) → IfSome (chunk_or o) IsChunk
 value None = (omega arith, omega arith)
-value (Some text) = then IsChunk (λ n. cond (nat_le 1 n && nat_le n 4096) (Some n) None) (sid_in text) number
+value (Some text) = then IsChunk (λ n. cond (nat_le 1 n && nat_le n most_chunk) (Some n) None) (sid_in text) number
 
 of-chunk : (values : Values) → IfSome (chunk_by values) IsChunk
 of-chunk values = then IsChunk chunk_or (one_value (values option.Chunk)) value
