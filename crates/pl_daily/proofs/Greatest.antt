@@ -3,6 +3,7 @@ use Rattle.std.proofs.Common.{◌≡◌, ℕ, zero, suc, ◌≤◌, Bool, true, 
 use Rattle.std.specs.List.{range_with_len}
 use Rattle.std.proofs.lemmas.Bool.{or_left, or_right, eq-eqb}
 use Rattle.std.proofs.lemmas.Option.{slice_get_within}
+use Rattle.pl_spec.specs.Limits.{most_window}
 use Rattle.pl_spec.specs.declared.Column.{Column}
 use Rattle.pl_spec.specs.World.{column_number}
 use Rattle.pl_pipeline.specs.Term.{Input, Node}
@@ -55,19 +56,19 @@ most-few : (f : ℕ → ℕ) (b : ℕ) → ((k : ℕ) → f k ≤ b) → (ks : L
 most-few f b each [] a h = h
 most-few f b each (k ∷ ks) a h = let l : f k ≤ b = each k in most-few f b each ks (max a (f k)) (omega arith)
 
-window-few : (passes : Node → Bool) (p : Pipeline) → IsChecked p → (k : ℕ) → window_if passes (slice_get p.graph k) ≤ 1260
+window-few : (passes : Node → Bool) (p : Pipeline) → IsChecked p → (k : ℕ) → window_if passes (slice_get p.graph k) ≤ most_window
 window-few passes p ok k = found (slice_get p.graph k) refl
   where
-    few : (n : Node) (b : Bool) → n.window ≤ 1260 → cond b n.window 0 ≤ 1260
+    few : (n : Node) (b : Bool) → n.window ≤ most_window → cond b n.window 0 ≤ most_window
     few n true h = h
     few n false h = omega arith
 
-    found : (o : Option Node) → slice_get p.graph k ≡ o → window_if passes o ≤ 1260
+    found : (o : Option Node) → slice_get p.graph k ≡ o → window_if passes o ≤ most_window
     found None e = omega arith
     found (Some n) e = few n (passes n) ((is-pipeline p ok).windows k n e).1
 
-pub greatest-few : (passes : Node → Bool) (p : Pipeline) → IsChecked p → greatest_window passes p ≤ 1260
-greatest-few passes p ok = most-few (λ k. window_if passes (slice_get p.graph k)) 1260 (window-few passes p ok) (used_terms p.graph (outputs p)) 0 (omega arith)
+pub greatest-few : (passes : Node → Bool) (p : Pipeline) → IsChecked p → greatest_window passes p ≤ most_window
+greatest-few passes p ok = most-few (λ k. window_if passes (slice_get p.graph k)) most_window (window-few passes p ok) (used_terms p.graph (outputs p)) 0 (omega arith)
 
 -- ---- bar columns and terms
 

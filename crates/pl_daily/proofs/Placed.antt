@@ -1,6 +1,7 @@
 -- A used term on its day has what it reads.
 use Rattle.std.proofs.Common.{◌≡◌, ℕ, ◌<◌, ◌≤◌, true, ℤ, pos, List, [], ◌∷◌, length, get_or, Some, slice_get, refl, sym, ◌∙◌, ap, arith, subst, All, Bor}
 use Rattle.std.proofs.lemmas.List.{get_or_default}
+use Rattle.pl_spec.specs.Limits.{most_assets}
 use Rattle.pl_spec.specs.declared.Column.{Column}
 use Rattle.pl_spec.specs.declared.Frequency.{Frequency}
 use Rattle.pl_pipeline.specs.Kind.Kind.{Downsample}
@@ -53,7 +54,7 @@ module _ (t : TermDay) (next : FedDay) (days : List FedDay) (s : StartCells)
     (begun : IsStartOf (start_of t.assets.now t.labels.now (rows_lent t.numbers)) (next ∷ days) (pipeline_at t) t.term.0 s)
     (lent : t.start.now ≡ s.row.items) (room : IsStartRoom (assets_at t) (pipeline_at t) t.term.0 s)
     (are : AreTerms (assets_at t) (pipeline_at t) t.bars.now t.terms.now) (checked : IsChecked (pipeline_at t)) (used : is_used (pipeline_at t) t.term.0 ≡ true)
-    (node : slice_get (pipeline_at t).graph t.term.0 ≡ Some (node_at t)) (few : assets_at t ≤ 8000) (labels : AreLabels t.labels.now) where
+    (node : slice_get (pipeline_at t).graph t.term.0 ≡ Some (node_at t)) (few : assets_at t ≤ most_assets) (labels : AreLabels t.labels.now) where
   abbrev p : Pipeline
   p = pipeline_at t
 
@@ -161,7 +162,7 @@ moment_of l next days = record { world = fed (start_at l) (next ∷ days); sessi
 module _ (l : Lent) (terms : Bor (List TermCells)) (term : TermId) (node : Bor code.Node) (start : Bor (List ℤ)) (day : ℤ) (s : StartCells)
     (same : day ≡ l.day) (lent : start.now ≡ s.row.items) (room : IsStartRoom (Terms.assets_at l) (Terms.pipeline_at l) term.0 s)
     (are : AreTerms (Terms.assets_at l) (Terms.pipeline_at l) l.bars.now terms.now) (checked : IsChecked (Terms.pipeline_at l)) (used : is_used (Terms.pipeline_at l) term.0 ≡ true)
-    (is : slice_get (Terms.pipeline_at l).graph term.0 ≡ Some (node_of node.now)) (few : Terms.assets_at l ≤ 8000) (labels : AreLabels l.labels.now) where
+    (is : slice_get (Terms.pipeline_at l).graph term.0 ≡ Some (node_of node.now)) (few : Terms.assets_at l ≤ most_assets) (labels : AreLabels l.labels.now) where
   abbrev t : TermDay
   t = term_day_of l terms term node start day
 

@@ -1,5 +1,6 @@
 use Rattle.std.proofs.Common.{rules, ◌∙◌, ap, max, fold, map, ◌≡◌, ◌≤◌, length, arith}
 use Rattle.std.specs.List.{range_with_len}
+use Rattle.pl_spec.specs.Limits.{most_window}
 use Rattle.pl_terms.specs.Checked.{pipeline_of}
 use Rattle.pl_terms.specs.Nodes.{input_of}
 use Rattle.pl_planner.proofs.Counting.{most_more}
@@ -22,5 +23,5 @@ returns c =
     let is : c.loop-k.greatest ≡ greatest_window (reads (input_of c.args.input)) (pipeline_of c.args.checked.now)
     = c.loop-k.invariant ∙ ap (λ n. fold max 0 (map (used_window (reads (input_of c.args.input)) (pipeline_of c.args.checked.now)) (range_with_len 0 n))) end
     ∙ greatest-is (reads (input_of c.args.input)) (pipeline_of c.args.checked.now) in
-    let few : greatest_window (reads (input_of c.args.input)) (pipeline_of c.args.checked.now) ≤ 1260 = greatest-few (reads (input_of c.args.input)) (pipeline_of c.args.checked.now) c.count-k-end.ensures.checked in
+    let few : greatest_window (reads (input_of c.args.input)) (pipeline_of c.args.checked.now) ≤ most_window = greatest-few (reads (input_of c.args.input)) (pipeline_of c.args.checked.now) c.count-k-end.ensures.checked in
     record { value = is; few = omega arith }

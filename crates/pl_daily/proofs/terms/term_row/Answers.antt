@@ -1,5 +1,6 @@
 use Rattle.std.proofs.Common.{rules, ◌≡◌, ◌≤◌, ◌∙◌, sym, ap, subst, arith, length, drop, slice_get, All, FitsSigned, w32}
 use Rattle.std.proofs.lemmas.Int.{to_z-of_z}
+use Rattle.pl_spec.specs.Limits.{most_window}
 use Rattle.pl_spec.specs.Rounding.{IsCell}
 use Rattle.pl_terms.specs.Nodes.{node_of}
 use Rattle.pl_terms.proofs.Graphs.{graph-at}
@@ -19,7 +20,7 @@ fill_row-requires c =
     let room = c.requires.room in
     let fits : FitsSigned w32 c.args.lent.now.day = search rules in
     let at = graph-at l.checked.now.graph k n (ap (λ g. slice_get g k) (sym c.graph.ensures.value) ∙ c.node.ensures) in
-    let w : (node_of n).window ≤ 1260 = ((is-pipeline (pipeline_at l) c.requires.lent.checked).windows k (node_of n) at).1 in
+    let w : (node_of n).window ≤ most_window = ((is-pipeline (pipeline_at l) c.requires.lent.checked).windows k (node_of n) at).1 in
     record {
       term_day = (
         moment_of l next days,
