@@ -51,6 +51,12 @@ table=(run p.pl sessions.csv assets.csv bars.csv 2022-07-05 2023-12-29)
 # a short text is gathered, and fails as the program ends; a table of 7,120 rows fails in the run
 fails 9 write fmt p.pl
 fails 9 write "${table[@]}"
+# a pipeline file of 262,144 bytes is read whole, and one byte more is past the limit
+printf '%s%*s' "$(cat p.pl)" $((262145 - $(wc -c < p.pl))) '' > longest.pl
+{ cat longest.pl; echo; } > longer.pl
+cp p.pl wanted
+left 0 held /dev/full fmt longest.pl
+fails 6 'limit: pipeline' fmt longer.pl
 # another status stays, whatever becomes of its line
 fails 7 'read: no-such-file' fmt no-such-file
 fails 7 'read: .' fmt .
