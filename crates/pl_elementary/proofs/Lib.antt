@@ -1,0 +1,5 @@
+pub mod Bits
+pub mod Cells
+pub mod Parts
+pub mod Sizes
+pub mod Terms
