@@ -1,5 +1,6 @@
 pub mod Bits
 pub mod Cells
 pub mod Parts
+pub mod Rising
 pub mod Sizes
 pub mod Terms

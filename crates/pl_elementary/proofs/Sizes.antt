@@ -28,6 +28,8 @@ size-is (suc n) v (suc i) low high few =
 pub record IsSized (v gap : ℕ) : Type 0 where
   pub size : 63 - gap ≡ size_by 57 v
   pub few : size_by 57 v < 57
+  pub low : 2 ^ size_by 57 v ≤ v
+  pub high : v < 2 ^ suc (size_by 57 v)
   pub fits : v * 2 ^ (62 - size_by 57 v) < 2 ^ 63
 
 pub sized : (v : ℕ) → 0 < v → v ≤ LIMIT → IsSized v (count_leading_zeros 64 v)
@@ -47,6 +49,8 @@ sized v some small = here (leading_top 64 v some (omega arith))
         record {
           size = rw e (omega (arith, h.1));
           few = rw e less;
+          low = rw e h.2;
+          high = rw e h.3;
           fits = rw e (rw whole at (shl_below v (suc h.0) (62 - h.0) h.3));
         }
 
