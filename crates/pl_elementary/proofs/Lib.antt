@@ -1,5 +1,6 @@
 pub mod Bits
 pub mod Cells
+pub mod Growing
 pub mod Parts
 pub mod Rising
 pub mod Sizes

@@ -7,7 +7,7 @@ use Rattle.std.proofs.lemmas.Nat.{mul-le, le-div}
 use Rattle.std.proofs.lemmas.Bool.{cases_lt}
 use Rattle.std.proofs.lemmas.Bool.Decides.{nat_tests}
 use Rattle.std.proofs.lemmas.Int.{ints}
-use Rattle.pl_spec.specs.Rounding.{LIMIT, MILLION, div_round}
+use Rattle.pl_spec.specs.Rounding.{IsCell, LIMIT, MILLION, MISSING, div_round}
 use Rattle.pl_pipeline.specs.Elementary.{LN2, log, log_bits, size_by, part_log, binary_log}
 use Rattle.pl_elementary.proofs.Bits.{few-bits}
 use Rattle.pl_elementary.proofs.Sizes.{IsSized, sized}
@@ -100,3 +100,8 @@ log-rise (pos v) (pos w) some less small =
     rw (a, b) (div-rise _ _ (2 ^ 60 * 10 ^ 12) (omega arith) (scaled-rise (binary_log v) (binary_log w) (binary_log MILLION) m))
 log-rise (negsuc v) x some less small = absurd (omega (arith, ints))
 log-rise (pos v) (negsuc w) some less small = absurd (omega (arith, ints))
+
+pub cell-most : (x : ℤ) → IsCell x → x ≤ℤ pos LIMIT
+cell-most (pos n) (inl e) = absurd (let no : pos n ≡ MISSING = e in cc)
+cell-most (pos n) (inr h) = omega (arith, ints)
+cell-most (negsuc n) h = omega (arith, ints)

@@ -31,7 +31,7 @@ first-small = refl
 div-mono : (a b k : ℕ) → 0 < k → a ≤ b → a / k ≤ b / k
 div-mono a b k p h = le-div (a / k) b k p (omega (arith, div-mul-le_self a k))
 
-follow-less : (k s t u v : ℕ) → 0 < k → s ≤ t → u ≤ v → follows k s u ≤ follows k t v
+pub follow-less : (k s t u v : ℕ) → 0 < k → s ≤ t → u ≤ v → follows k s u ≤ follows k t v
 follow-less k s t u v p h m = div-mono (s * u) (t * v) (MILLION * k) (omega arith) (mul-le s u t v h m)
 
 smaller : (n k s t : ℕ) → 0 < k → s ≤ t → all-small n k t ≡ true → all-small n k s ≡ true
@@ -65,7 +65,7 @@ pub record IsSum (sum k t v : ℕ) : Type 0 where
   pub low : sum ≤ (k - 1) * 2 ^ 99
 
 -- one term and the others
-one-term : (n k t v : ℕ) → series (suc n) k t v ≡ t + series n (suc k) (follows k t v) v
+pub one-term : (n k t v : ℕ) → series (suc n) k t v ≡ t + series n (suc k) (follows k t v) v
 unfolding series
 one-term n k t v = refl
 

@@ -1,6 +1,6 @@
 //! The exponential, from its series.
-ghost use Rattle.std.specs.Prelude.{◌≡◌, ◌<◌, ◌≤◌, ◌*◌, ◌^◌};
-ghost use Rattle.pl_spec.specs.Rounding.{IsCell, MILLION};
+ghost use Rattle.std.specs.Prelude.{◌≡◌, ◌<◌, ◌≤◌, ◌*◌, ◌^◌, ℤ, ◌≤ℤ◌, false};
+ghost use Rattle.pl_spec.specs.Rounding.{IsCell, MILLION, is_missing};
 ghost use Rattle.pl_pipeline.specs.Elementary.{exp, series, GRAIN};
 
 use pl_fixed::{MISSING, quot};
@@ -15,8 +15,18 @@ const GRAIN: u128 = 35_184_372_088_832;
 const MOST: i64 = 26_000_000;
 
 /// The number e to the power of `x`, to the nearest millionth; `MISSING` where it is past the limit of cells.
-#[tactic(auto, unfolding(pl_pipeline::specs::Elementary::exp))]
+/// No lesser number has a greater one.
 pub fn exp(x: i64) -> i64
+    requires { IsCell x }
+    ensures value { result ≡ exp x }
+    ensures cell { IsCell result }
+    ensures rises { is_missing result ≡ false → (y : ℤ) → y ≤ℤ x → exp y ≤ℤ result }
+{
+    exp_of_cell(x)
+}
+
+#[tactic(auto, unfolding(pl_pipeline::specs::Elementary::exp))]
+fn exp_of_cell(x: i64) -> i64
     requires { IsCell x }
     ensures value { result ≡ exp x }
     ensures cell { IsCell result }

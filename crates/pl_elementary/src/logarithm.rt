@@ -1,5 +1,5 @@
 //! The natural logarithm, from the bits of the binary one.
-ghost use Rattle.std.specs.Prelude.{◌≡◌, ◌<◌, ◌≤◌, ◌*◌, ◌/◌, ◌^◌, nat_lt, if◌then◌else◌, pos, ◌-ℤ◌, ◌*ℤ◌, unsigned_abs};
+ghost use Rattle.std.specs.Prelude.{◌≡◌, ◌<◌, ◌≤◌, ◌*◌, ◌/◌, ◌^◌, nat_lt, if◌then◌else◌, ℤ, pos, ◌-ℤ◌, ◌*ℤ◌, ◌<ℤ◌, ◌≤ℤ◌, unsigned_abs};
 ghost use Rattle.pl_spec.specs.Rounding.{IsCell, LIMIT, MILLION, div_round};
 ghost use Rattle.pl_pipeline.specs.Elementary.{LN2, log, binary_log, part_log, log_bits};
 
@@ -19,9 +19,19 @@ const ONE: u64 = 4_611_686_018_427_387_904;
 
 const TWO: u64 = 9_223_372_036_854_775_808;
 
-/// The natural logarithm, to the nearest millionth; `MISSING` unless `x` is above 0.
-#[tactic(auto, unfolding(pl_pipeline::specs::Elementary::log))]
+/// The natural logarithm, to the nearest millionth; `MISSING` unless `x` is above 0. No lesser number has a
+/// greater one.
 pub fn log(x: i64) -> i64
+    requires { IsCell x }
+    ensures value { result ≡ log x }
+    ensures cell { IsCell result }
+    ensures rises { (y : ℤ) → pos 0 <ℤ y → y ≤ℤ x → log y ≤ℤ result }
+{
+    log_of_cell(x)
+}
+
+#[tactic(auto, unfolding(pl_pipeline::specs::Elementary::log))]
+fn log_of_cell(x: i64) -> i64
     requires { IsCell x }
     ensures value { result ≡ log x }
     ensures cell { IsCell result }
