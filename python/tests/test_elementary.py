@@ -101,4 +101,6 @@ def test_values(market):
     )
     np.testing.assert_allclose(frame[wanted.columns], wanted, rtol=0, atol=5.1e-7)
     within = frame.log.groupby(level=0)
-    np.testing.assert_allclose(frame.place, (frame.log - within.transform("mean")) / within.transform("std", ddof=0), atol=2e-5)
+    np.testing.assert_allclose(
+        frame.place, (frame.log - within.transform("mean")) / within.transform("std", ddof=0), atol=2e-5
+    )

@@ -375,11 +375,12 @@ class Factor(Term):
 
     def log1p(self) -> Factor:
         """``(1 + x).log()``. Rounds once."""
-        return (1 + self).log()
+        return Factor.log(1 + self)
 
     def log10(self) -> Factor:
         """``x.log() / 2.302585``, the logarithm to base 10, to two millionths."""
-        return self.log() / 2.302585
+        base_ten: Factor = self.log() / 2.302585
+        return base_ten
 
     def exp(self) -> Factor:
         """e to the power of x; missing above 25.328436, where it is past 100,000,000,000. Rounds once."""
@@ -387,7 +388,8 @@ class Factor(Term):
 
     def expm1(self) -> Factor:
         """``x.exp() - 1``. Rounds once."""
-        return self.exp() - 1
+        less_one: Factor = self.exp() - 1
+        return less_one
 
     def sqrt(self) -> Factor:
         """Square root; missing below 0. Rounds once."""
