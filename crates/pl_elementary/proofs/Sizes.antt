@@ -41,6 +41,7 @@ sized v some small = here (leading_top 64 v some (omega arith))
           | inl less ↦ less
           | inr over ↦ absurd (let p = pow-le-pow_right {n = 2} (omega arith) {i = 57} {j = j} over in omega arith)
         ]
+
     here : (j : ℕ) × (count_leading_zeros 64 v + suc j ≡ 64) × (2 ^ j ≤ v) × (v < 2 ^ suc j) → IsSized v (count_leading_zeros 64 v)
     here h =
         let less : h.0 < 57 = below h.0 h.2 in

@@ -109,6 +109,7 @@ steps sum k t v m l h =
   where
     shifted : (sum t x y : ℕ) → y ≡ t + x → sum + t + x ≡ sum + y
     shifted sum t x y e = omega arith
+
     lower : (sum k t : ℕ) → 0 < k → t ≤ 2 ^ 99 → sum ≤ (k - 1) * 2 ^ 99 → sum + t ≤ (k + 1 - 1) * 2 ^ 99
     lower sum k t some less low = omega arith
 

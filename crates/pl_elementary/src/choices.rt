@@ -15,7 +15,11 @@ pub fn sqrt(x: i64) -> i64
     ensures value { result ≡ sqrt x }
     ensures cell { IsCell result }
 {
-    if x < 0 { MISSING } else { root(x as u64) as i64 }
+    if x < 0 {
+        MISSING
+    } else {
+        root(x as u64) as i64
+    }
 }
 
 // The root of a number of millionths that is not below 0, from that of four times it.
