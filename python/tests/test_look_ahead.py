@@ -49,6 +49,8 @@ TERMS = [
     "All(close.latest > 50, 3)",
     'number("score").demean(groupby=label("country"))',
     "AllPresent(close, 3)",
+    "close.latest.log().zscore()",
+    "WindowSum(Returns(close, 3).sign(), 3)",
 ]
 
 Row = Tuple[object, ...]
@@ -238,7 +240,7 @@ def pipeline(draw: random.Random) -> str:
         "screen close.latest > 20;",
         "screen AverageDollarVolume(3).top(3);",
     ]
-    return "\n".join(["pipeline 3;", *columns, draw.choice(screens), ""])
+    return "\n".join(["pipeline 4;", *columns, draw.choice(screens), ""])
 
 
 def words(folder: Path) -> List[str]:

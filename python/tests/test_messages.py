@@ -107,15 +107,15 @@ class Fundamentals(DataSet):
         (lambda: StaticSids([1.5]), TypeError, "1.5 is no sid, which is a whole number"),
         (lambda: y[24], Inexpressible, r"no y\[asset\]; nearest: StaticSids"),
         (lambda: y % 2, Inexpressible, "no y % z; nearest: / and clip"),
-        (lambda: np.log(y), Inexpressible, "no log; nearest: y itself where its order counts"),
-        (lambda: np.sign(y), Inexpressible, "no numpy.sign"),
+        (lambda: np.tanh(y), Inexpressible, "no tanh; nearest: y itself where its order counts"),
+        (lambda: np.rint(y), Inexpressible, "no numpy.rint"),
         (lambda: np.log(close), AttributeError, "close is a column of bars and has no log: write close.latest"),
         (
             lambda: np.array([1.0, 2]) * y,
             TypeError,
             r"numpy's multiply takes no Returns\(close, 5\): a pipeline is computed later",
         ),
-        (lambda: np.maximum(y, 0), TypeError, "numpy's maximum takes no Returns"),
+        (lambda: np.fmax(y, 0), TypeError, "numpy's fmax takes no Returns"),
         *(
             (
                 lambda name=name: getattr(factors, name)(window_length=5),

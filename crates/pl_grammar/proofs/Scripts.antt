@@ -110,16 +110,19 @@ statements_derive p (s ∷ ss) h =
     statement nowhere (head_is_read s.head) (weaken (canonical s.tree most_depth x.depth) 1 (level_least s.tree)) (statements_derive p ss a.1)
 
 -- the versions, and that a version's number tells it
-pub version_cases : (n : ℕ) → is_known n ≡ true → (n ≡ 1) ⊎ ((n ≡ 2) ⊎ (n ≡ 3))
-version_cases n h = elim (or_cases (n == 1) ((n == 2) || (n == 3)) h) [
+pub version_cases : (n : ℕ) → is_known n ≡ true → (n ≡ 1) ⊎ ((n ≡ 2) ⊎ ((n ≡ 3) ⊎ (n ≡ 4)))
+version_cases n h = elim (or_cases (n == 1) ((n == 2) || ((n == 3) || (n == 4))) h) [
   | inl e ↦ inl (eqb-true n 1 e)
-  | inr f ↦ elim (or_cases (n == 2) (n == 3) f) [ inl e ↦ inr (inl (eqb-true n 2 e)) | inr e ↦ inr (inr (eqb-true n 3 e)) ]
+  | inr f ↦ elim (or_cases (n == 2) ((n == 3) || (n == 4)) f) [
+    | inl e ↦ inr (inl (eqb-true n 2 e))
+    | inr g ↦ elim (or_cases (n == 3) (n == 4) g) [ inl e ↦ inr (inr (inl (eqb-true n 3 e))) | inr e ↦ inr (inr (inr (eqb-true n 4 e))) ]
+  ]
 ]
 
 pub number_told : (n : ℕ) → is_known n ≡ true → version_of (version_number n) ≡ n
 number_told n h = elim (version_cases n h) [
   | inl e ↦ rw e refl
-  | inr f ↦ elim f [ inl e ↦ rw e refl | inr e ↦ rw e refl ]
+  | inr f ↦ elim f [ inl e ↦ rw e refl | inr g ↦ elim g [ inl e ↦ rw e refl | inr e ↦ rw e refl ] ]
 ]
 
 pub script_derives : (p : Token → Bool) (n : ℕ) (ss : List Statement) → is_known n ≡ true → are_sound p ss ≡ true → Script most_depth (script_tokens n ss) ss

@@ -29,16 +29,17 @@ pub data Statements : ℕ → List Lexeme → List Statement → Type 0 where
       → HeadRead hs h → Derives d 1 ts e → Statements d us ss
       → Statements d (hs ++ (ts ++ (mark p Semicolon ∷ us))) (record { head = h; tree = e } ∷ ss)
 
--- the version of the language that a number tells, in millionths: 1, 2 or 3, and 0 for no version
+-- the version of the language that a number tells, in millionths: 1 to 4, and 0 for no version
 abbrev pub version_of : ℤ → ℕ
 version_of v =
     if int_eq v (pos 1000000) then 1
     else if int_eq v (pos 2000000) then 2
     else if int_eq v (pos 3000000) then 3
+    else if int_eq v (pos 4000000) then 4
     else 0
 
 abbrev pub is_known : ℕ → Bool
-is_known n = (n == 1) || ((n == 2) || (n == 3))
+is_known n = (n == 1) || ((n == 2) || ((n == 3) || (n == 4)))
 
 abbrev pub is_version : ℤ → Bool
 is_version v = is_known (version_of v)

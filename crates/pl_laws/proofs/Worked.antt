@@ -4,6 +4,7 @@ pub mod Numbers
 pub mod Adjusting
 pub mod Windows
 pub mod Pointwise
+pub mod Elementary
 pub mod Crossing
 pub mod Labels
 pub mod Known

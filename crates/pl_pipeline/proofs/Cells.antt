@@ -1,7 +1,7 @@
 -- Which results are cells.
 use Rattle.std.proofs.Common.{◌≡◌, zero, suc, Bool, true, false, if◌then◌else◌, ℤ, pos, negsuc, unsigned_abs, nat_le, ◌-ℤ◌, ◌||◌, inl, inr, refl, arith}
 use Rattle.std.proofs.lemmas.Bool.Decides.{nat_tests}
-use Rattle.pl_spec.specs.Rounding.{LIMIT, MISSING, IsCell, is_missing, to_cell, quot, sub}
+use Rattle.pl_spec.specs.Rounding.{LIMIT, MISSING, IsCell, is_missing, of_both, to_cell, quot, sub}
 use Rattle.pl_spec.specs.Cells.{is_true, truth}
 use Rattle.pl_pipeline.specs.Kind.{Kind}
 use Rattle.pl_pipeline.specs.Value.{empty, is_filter, number_of}
@@ -54,3 +54,6 @@ quot-cell a (negsuc b) = to_cell-cell _
 pub sub-cell : (x y : ℤ) → IsCell (sub x y)
 unfolding sub
 sub-cell x y = chosen-cell (is_missing x || is_missing y) MISSING (to_cell (x -ℤ y)) missing-cell (to_cell-cell _)
+
+pub of_both-cell : (x y v : ℤ) → IsCell v → IsCell (of_both x y v)
+of_both-cell x y v h = chosen-cell (is_missing x || is_missing y) MISSING v missing-cell h

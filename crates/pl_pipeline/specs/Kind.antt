@@ -13,6 +13,7 @@ pub data PointKind : Type 0 where
   Clip : (low high : ℤ) → PointKind
   FillNa IsNull NotNull IfElse : PointKind
   NumberIs NumberIsNot : (number : ℤ) → PointKind
+  Log Exp Sqrt Sign Maximum Minimum : PointKind
 
 pub data LabelKind : Type 0 where
   LabelIs LabelIsNot StartsWith EndsWith : (text : List ℕ) → LabelKind

@@ -1,6 +1,7 @@
 -- What the contracts of the project cite of pipelines. docs/DEFINITIONS.md explains each definition.
 pub mod Kind
 pub mod Formula
+pub mod Elementary
 pub mod Pointwise
 pub mod Cross
 pub mod CrossFacts

@@ -6,8 +6,9 @@ use Rattle.std.specs.Int.{int_max, int_min}
 use Rattle.std.specs.Ordering.{int_eq}
 use Rattle.pl_spec.specs.Rounding.{MISSING, MILLION, is_missing, is_present, add, sub, mul, div, neg}
 use Rattle.pl_spec.specs.Cells.{truth, is_true, comparison}
+use Rattle.pl_pipeline.specs.Elementary.{log, exp, sqrt, sign, maximum, minimum}
 use Rattle.pl_pipeline.specs.Kind.{PointKind, LabelKind}
-use Rattle.pl_pipeline.specs.Kind.PointKind.{Add, Sub, Mul, Div, Neg, Comparison, And, Or, Not, Abs, Clip, FillNa, IsNull, NotNull, IfElse, NumberIs, NumberIsNot}
+use Rattle.pl_pipeline.specs.Kind.PointKind.{Add, Sub, Mul, Div, Neg, Comparison, And, Or, Not, Abs, Clip, FillNa, IsNull, NotNull, IfElse, NumberIs, NumberIsNot, Log, Exp, Sqrt, Sign, Maximum, Minimum}
 use Rattle.pl_pipeline.specs.Kind.LabelKind.{LabelIs, LabelIsNot, StartsWith, EndsWith, ElementOf}
 
 -- the number of a numbered classifier is a whole number, and compared with one in millionths
@@ -32,6 +33,12 @@ pointwise NotNull x y z = truth (is_present x)
 pointwise IfElse x y z = if is_true x then y else z
 pointwise (NumberIs number) x y z = truth (is_present x && is_number number x)
 pointwise (NumberIsNot number) x y z = truth (is_present x && not (is_number number x))
+pointwise Log x y z = log x
+pointwise Exp x y z = exp x
+pointwise Sqrt x y z = sqrt x
+pointwise Sign x y z = sign x
+pointwise Maximum x y z = maximum x y
+pointwise Minimum x y z = minimum x y
 
 -- what is asked of a label's text
 unfoldable pub label_test : LabelKind → List ℕ → Bool

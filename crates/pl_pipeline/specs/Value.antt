@@ -13,7 +13,7 @@ use Rattle.pl_pipeline.specs.Kind.{Kind, PointKind, LabelKind, CrossKind}
 use Rattle.pl_pipeline.specs.declared.WindowKind.{WindowKind}
 use Rattle.pl_pipeline.specs.Kind.Kind.{Constant, Label, StaticSids, Window, Point, LabelTest, Cross, Downsample}
 use Rattle.pl_pipeline.specs.declared.WindowKind.TheVariants.{All, Any, AtLeastN, AllPresent}
-use Rattle.pl_pipeline.specs.Kind.PointKind.{Add, Sub, Mul, Div, Neg, Abs, Clip, FillNa, IfElse}
+use Rattle.pl_pipeline.specs.Kind.PointKind.{Add, Sub, Mul, Div, Neg, Abs, Clip, FillNa, IfElse, Log, Exp, Sqrt, Sign, Maximum, Minimum}
 use Rattle.pl_pipeline.specs.Kind.CrossKind.{Top, Bottom, PercentileBetween, PeerCount}
 use Rattle.pl_spec.specs.Cells.{truth, is_true}
 use Rattle.pl_pipeline.specs.Formula.{formula}
@@ -121,6 +121,12 @@ is_point_filter Abs = false
 is_point_filter (Clip low high) = false
 is_point_filter FillNa = false
 is_point_filter IfElse = false
+is_point_filter Log = false
+is_point_filter Exp = false
+is_point_filter Sqrt = false
+is_point_filter Sign = false
+is_point_filter Maximum = false
+is_point_filter Minimum = false
 is_point_filter k = true
 
 abbrev pub is_cross_filter : CrossKind → Bool

@@ -8,17 +8,15 @@ use Rattle.pl_spec.specs.Rounding.{IsCell, MISSING, of_both, add, mul, div, neg,
 use Rattle.pl_spec.specs.Cells.{truth}
 use Rattle.pl_pipeline.specs.Kind.{Kind, PointKind}
 use Rattle.pl_pipeline.specs.Kind.Kind.{Point}
-use Rattle.pl_pipeline.specs.Kind.PointKind.{Add, Sub, Mul, Div, Neg, Comparison, And, Or, Not, Abs, Clip, FillNa, IsNull, NotNull, IfElse, NumberIs, NumberIsNot}
+use Rattle.pl_pipeline.specs.Kind.PointKind.{Add, Sub, Mul, Div, Neg, Comparison, And, Or, Not, Abs, Clip, FillNa, IsNull, NotNull, IfElse, NumberIs, NumberIsNot, Log, Exp, Sqrt, Sign, Maximum, Minimum}
 use Rattle.pl_pipeline.specs.Pointwise.{pointwise}
 use Rattle.pl_pipeline.specs.Value.{is_filter, is_point_filter}
 use Rattle.pl_spec.proofs.Signed.{unsigned_abs-neg}
-use Rattle.pl_pipeline.proofs.Cells.{chosen-has, to_cell-cell, quot-cell, sub-cell}
+use Rattle.pl_pipeline.proofs.Cells.{chosen-has, to_cell-cell, quot-cell, sub-cell, of_both-cell}
+use Rattle.pl_elementary.proofs.Cells.{log-cell, exp-cell, sqrt-cell, sign-cell, maximum-cell, minimum-cell}
 use Rattle.pl_lanes.specs.Flags.{IsFlag}
 use Rattle.pl_lanes.proofs.Cells.{is_within}
 use Rattle.pl_pointwise.specs.Operands.{HasCells, IsOperation, AreCells, AreOperands, AreOperandsOf, operation}
-
-of_both-cell : (x y v : ℤ) → IsCell v → IsCell (of_both x y v)
-of_both-cell x y v h = chosen-has IsCell (is_missing x || is_missing y) MISSING v (inl refl) h
 
 add-cell : (x y : ℤ) → IsCell (add x y)
 unfolding add
@@ -63,6 +61,12 @@ result-cell (Clip low high) a b c n i h o p =
     chosen-has IsCell _ _ _ (inl refl) (chosen-has IsCell (int_lt (int_min high x) low) low _ h.0 lower)
 result-cell FillNa a b c n i h o p = chosen-has IsCell _ _ _ (at b n i o.1 p) (at a n i o.0 p)
 result-cell IfElse a b c n i h o p = chosen-has IsCell _ _ _ (at b n i o.1 p) (at c n i o.2 p)
+result-cell Log a b c n i h o p = log-cell _
+result-cell Exp a b c n i h o p = exp-cell _
+result-cell Sqrt a b c n i h o p = sqrt-cell _ (at a n i o.0 p)
+result-cell Sign a b c n i h o p = sign-cell _
+result-cell Maximum a b c n i h o p = maximum-cell _ _ (at a n i o.0 p) (at b n i o.1 p)
+result-cell Minimum a b c n i h o p = minimum-cell _ _ (at a n i o.0 p) (at b n i o.1 p)
 result-cell op a b c n i h o p = flag-cell _ (truth-flag _)
 
 -- a filter gives 0 or 1

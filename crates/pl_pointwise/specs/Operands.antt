@@ -4,7 +4,7 @@ use Rattle.std.specs.List.{All}
 use Rattle.pl_spec.specs.Rounding.{IsCell, MISSING}
 use Rattle.pl_pipeline.specs.Kind.{Kind, PointKind}
 use Rattle.pl_pipeline.specs.Kind.Kind.{Point}
-use Rattle.pl_pipeline.specs.Kind.PointKind.{Add, Sub, Mul, Div, Comparison, Clip, FillNa}
+use Rattle.pl_pipeline.specs.Kind.PointKind.{Add, Sub, Mul, Div, Comparison, Clip, FillNa, Log, Exp, Sqrt, Sign, Maximum, Minimum}
 use Rattle.pl_pipeline.specs.Pointwise.{pointwise}
 use Rattle.pl_terms.specs.declared.kind.LabelValue.{LabelValue}
 use Rattle.pl_terms.specs.declared.kind.LabelValue.TheVariants.{Number, Text}
@@ -69,4 +69,14 @@ is_pair (Point Sub) = true
 is_pair (Point Mul) = true
 is_pair (Point Div) = true
 is_pair (Point FillNa) = true
+is_pair (Point Maximum) = true
+is_pair (Point Minimum) = true
 is_pair k = false
+
+-- it is a logarithm, an exponential, a root or a sign
+abbrev pub is_curve : Kind → Bool
+is_curve (Point Log) = true
+is_curve (Point Exp) = true
+is_curve (Point Sqrt) = true
+is_curve (Point Sign) = true
+is_curve k = false

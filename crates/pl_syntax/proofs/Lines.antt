@@ -23,11 +23,12 @@ no_line = refl
 
 -- the first line of each version
 pub first_line : (n : ℕ) → is_known n ≡ true → (ds : List ℕ) → (n ≡ 1 → ds ≡ codes "pipeline 1;\n") → (n ≡ 2 → ds ≡ codes "pipeline 2;\n") → (n ≡ 3 → ds ≡ codes "pipeline 3;\n")
+    → (n ≡ 4 → ds ≡ codes "pipeline 4;\n")
     → ds ≡ version_text n
 unfolding version_text
-first_line n h ds one two three = elim (version_cases n h) [
+first_line n h ds one two three four = elim (version_cases n h) [
   | inl e ↦ at 1 (omega arith) e (one e)
-  | inr f ↦ elim f [ inl e ↦ at 2 (omega arith) e (two e) | inr e ↦ at 3 (omega arith) e (three e) ]
+  | inr f ↦ elim f [ inl e ↦ at 2 (omega arith) e (two e) | inr g ↦ elim g [ inl e ↦ at 3 (omega arith) e (three e) | inr e ↦ at 4 (omega arith) e (four e) ] ]
 ]
   where
     at : (m : ℕ) → m < 10 → n ≡ m → ds ≡ codes "pipeline " ++ (((48 + m) ∷ []) ++ codes ";\n") → ds ≡ codes "pipeline " ++ (decimal n ++ codes ";\n")

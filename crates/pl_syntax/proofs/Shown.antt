@@ -263,7 +263,7 @@ number_line : (n : ℕ) → is_known n ≡ true → (rest : List ℕ) (us : List
 unfolding div_round
 number_line n h rest us p s k = elim (version_cases n h) [
   | inl e ↦ at 1 (omega arith) refl refl e
-  | inr f ↦ elim f [ inl e ↦ at 2 (omega arith) refl refl e | inr e ↦ at 3 (omega arith) refl refl e ]
+  | inr f ↦ elim f [ inl e ↦ at 2 (omega arith) refl refl e | inr g ↦ elim g [ inl e ↦ at 3 (omega arith) refl refl e | inr e ↦ at 4 (omega arith) refl refl e ] ]
 ]
   where
     at : (m : ℕ) → m < 10 → is_digit (48 + m) ≡ true → number_token ((48 + m) ∷ []) [] ≡ t.Number (version_number m) → n ≡ m → Shows (decimal n ++ rest) (mark p (t.Number (version_number n)) ∷ us)

@@ -71,7 +71,7 @@ impl Script {
         }
     }
 
-    /// The version of the language that the file names: 1, 2 or 3.
+    /// The version of the language that the file names: 1 to 4.
     pub fn version(&self) -> u32
         ensures value { result ≡ version_in self.now }
         ensures known { is_known result ≡ true }

@@ -53,6 +53,8 @@ const SECOND: i64 = 2_000_000;
 
 const THIRD: i64 = 3_000_000;
 
+const FOURTH: i64 = 4_000_000;
+
 // The version that a number names; 0 for none.
 fn version_of(value: i64) -> u32
     ensures { result ≡ version_of value }
@@ -63,6 +65,8 @@ fn version_of(value: i64) -> u32
         2
     } else if value == THIRD {
         3
+    } else if value == FOURTH {
+        4
     } else {
         0
     }

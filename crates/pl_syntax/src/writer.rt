@@ -288,8 +288,10 @@ fn version_line(version: u32) -> &'static [u8]
         b"pipeline 1;\n"
     } else if version == 2 {
         b"pipeline 2;\n"
-    } else {
+    } else if version == 3 {
         b"pipeline 3;\n"
+    } else {
+        b"pipeline 4;\n"
     }
 }
 

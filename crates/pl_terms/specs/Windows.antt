@@ -1,5 +1,5 @@
 -- What is known of each formula and filter over a window.
-use Rattle.std.specs.Prelude.{ℕ, pos, Bool, true, false, List, [], ◌∷◌, codes, Option, Some, None, bytes_eq, find}
+use Rattle.std.specs.Prelude.{ℕ, nat_le, if◌then◌else◌, pos, Bool, true, false, List, [], ◌∷◌, ◌++◌, codes, Option, Some, None, bytes_eq, find}
 use Rattle.pl_spec.specs.declared.Column.{Column}
 use Rattle.pl_spec.specs.declared.Column.TheVariants.{High, Low, Close, Volume}
 use Rattle.pl_pipeline.specs.Kind.{Kind, Window}
@@ -60,9 +60,16 @@ formulas =
     FastStochasticOscillator ∷ TrueRange ∷ ExponentialWeightedMovingAverage (pos 0) ∷ AroonUp ∷ AroonDown ∷
     All ∷ Any ∷ AtLeastN 0 ∷ AllPresent ∷ []
 
+-- and those since version 4 of the language
+abbrev pub later_formulas : List WindowKind
+later_formulas = []
+
+abbrev pub formulas_of : ℕ → List WindowKind
+formulas_of version = if nat_le 4 version then formulas ++ later_formulas else formulas
+
 unfoldable pub is_named : List ℕ → WindowKind → Bool
 is_named n k = bytes_eq n (row_of k).name
 
--- the one of a name
-unfoldable pub formula_named : List ℕ → Option WindowKind
-formula_named n = find (is_named n) formulas
+-- the one of a name in a version of the language
+unfoldable pub formula_named : ℕ → List ℕ → Option WindowKind
+formula_named version n = find (is_named n) (formulas_of version)

@@ -56,7 +56,13 @@ pub fn family_of(kind: &TermKind) -> Family
         | TermKind::FillNa
         | TermKind::IsNull
         | TermKind::NotNull
-        | TermKind::IfElse => Family::Point,
+        | TermKind::IfElse
+        | TermKind::Log
+        | TermKind::Exp
+        | TermKind::Sqrt
+        | TermKind::Sign
+        | TermKind::Maximum
+        | TermKind::Minimum => Family::Point,
         TermKind::Rank { .. }
         | TermKind::Demean
         | TermKind::ZScore

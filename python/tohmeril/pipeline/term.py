@@ -208,6 +208,8 @@ class Term:
         if method == "__call__" and not options and not any(isinstance(each, np.ndarray) for each in given):
             if ufunc.__name__ in OPERATORS:
                 return OPERATORS[ufunc.__name__](*given)
+            if ufunc.__name__ in ("maximum", "minimum"):  # of two, in either order
+                return getattr(self, ufunc.__name__)(given[given[0] is self])
             if len(given) == 1:
                 absent = Absent(f"numpy.{ufunc.__name__}", "the methods and operators of a factor")
                 return (
@@ -352,18 +354,58 @@ class Factor(Term):
         """-x. Exact."""
         return Factor(PREFIX, "-", self)
 
-    def __pow__(self, power: int) -> Factor:
-        """x * x * .., for a whole power from 1 to 32; ours rounds at each multiplication."""
+    def __pow__(self, power: float) -> Factor:
+        """x * x * .., for a whole power from 1 to 32; ours rounds at each multiplication. ``y ** 0.5`` is its `sqrt`."""
+        if power == 0.5:
+            return self.sqrt()
         if power not in range(1, 33):
-            Absent(f"** {power!r}", "a whole power from 1 to 32")()
+            Absent(f"** {power!r}", "0.5 and whole powers from 1 to 32; (y.log() * p).exp() of values above 0")()
         product = self
-        for _ in range(power - 1):
+        for _ in range(int(power) - 1):
             product = product * self
         return product
 
     def abs(self) -> Factor:
         """Magnitude. Exact."""
         return Factor(MEMBER, "abs", self)
+
+    def log(self) -> Factor:
+        """Natural logarithm; missing unless x is above 0, where Zipline's is -inf or NaN. Rounds once."""
+        return Factor(MEMBER, "log", self)
+
+    def log1p(self) -> Factor:
+        """``(1 + x).log()``. Rounds once."""
+        return Factor.log(1 + self)
+
+    def log10(self) -> Factor:
+        """``x.log() / 2.302585``, the logarithm to base 10, to two millionths."""
+        base_ten: Factor = self.log() / 2.302585
+        return base_ten
+
+    def exp(self) -> Factor:
+        """e to the power of x; missing above 25.328436, where it is past 100,000,000,000. Rounds once."""
+        return Factor(MEMBER, "exp", self)
+
+    def expm1(self) -> Factor:
+        """``x.exp() - 1``. Rounds once."""
+        less_one: Factor = self.exp() - 1
+        return less_one
+
+    def sqrt(self) -> Factor:
+        """Square root; missing below 0. Rounds once."""
+        return Factor(MEMBER, "sqrt", self)
+
+    def sign(self) -> Factor:
+        """-1, 0 or 1. Ours, as numpy's of the same name; a window can be over it. Exact."""
+        return Factor(MEMBER, "sign", self)
+
+    def maximum(self, other: Value) -> Factor:
+        """The greater of x and y, missing where one is. Ours, as numpy's of the same name. Exact."""
+        return Factor(MEMBER, "maximum", self, as_factor(other))
+
+    def minimum(self, other: Value) -> Factor:
+        """The lesser of x and y, missing where one is. Ours, as numpy's of the same name. Exact."""
+        return Factor(MEMBER, "minimum", self, as_factor(other))
 
     def isnull(self) -> Filter:
         """True where there is no value, for an asset that exists."""
@@ -536,7 +578,7 @@ _ABSENT = {
             "y - y.demean(), which is the mean of the session; zscore; rank"
         ),
         "__mod__ __floordiv__": "/ and clip",
-        "exp expm1 log log10 log1p sqrt sinh tanh arctan arcsinh": _MONOTONE,
+        "sinh tanh arctan arcsinh": _MONOTONE,
         "sin cos tan cosh arcsin arccos arccosh arctanh": "arithmetic",
     },
     Classifier: {"relabel": "labels of another name in the labels file", "fillna": "isnull()"},

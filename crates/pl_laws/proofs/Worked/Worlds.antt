@@ -17,6 +17,7 @@ use Rattle.pl_pipeline.specs.Kind.{Kind, PointKind, CrossKind}
 use Rattle.pl_pipeline.specs.declared.WindowKind.{WindowKind}
 use Rattle.pl_pipeline.specs.declared.WindowKind.TheVariants.{Latest}
 use Rattle.pl_pipeline.specs.Formula.{formula}
+use Rattle.pl_pipeline.specs.Elementary.{size_by, log_bits, log, series, exp, sqrt, sign, maximum, minimum}
 use Rattle.pl_pipeline.specs.Pointwise.{pointwise, label_test}
 use Rattle.pl_pipeline.specs.Cross.{cross}
 use Rattle.pl_pipeline.specs.Term.{Term, Input, Node, Graph}
@@ -29,7 +30,7 @@ use Rattle.pl_pipeline.specs.Text.{text}
 
 -- a proof that unfolds this opens all that the examples compute with
 unfoldable pub opened : Unit {0}
-unfolding div_round to_cell quot add sub mul div neg scaled root_by isqrt seen_cell formula pointwise label_test cross kind_value value reach month_number period_start decimal_digits digits date_text cell_text text
+unfolding div_round to_cell quot add sub mul div neg scaled root_by isqrt seen_cell formula size_by log_bits log series exp sqrt sign maximum minimum pointwise label_test cross kind_value value reach month_number period_start decimal_digits digits date_text cell_text text
 opened = tt
 
 -- ---- worlds

@@ -32,3 +32,15 @@ unfolding kind_of pointwise
 returns-in-FillNa-clause-values c = λ k z h.
     let v = c.at_each_pair-in-FillNa.ensures.values k h in
     rw c.in-FillNa.is (search rules)
+
+pub returns-in-Maximum-clause-values : goal.returns-in-Maximum-clause-values
+unfolding kind_of pointwise
+returns-in-Maximum-clause-values c = λ k z h.
+    let v = c.at_each_pair-in-Maximum.ensures.values k h in
+    rw c.in-Maximum.is (search rules)
+
+pub returns-in-Minimum-clause-values : goal.returns-in-Minimum-clause-values
+unfolding kind_of pointwise
+returns-in-Minimum-clause-values c = λ k z h.
+    let v = c.at_each_pair-in-Minimum.ensures.values k h in
+    rw c.in-Minimum.is (search rules)

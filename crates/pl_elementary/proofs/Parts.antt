@@ -1,0 +1,45 @@
+-- What the parts of a logarithm come to in 128 bits.
+use Rattle.std.proofs.Common.{◌≡◌, ℕ, ℤ, pos, negsuc, neg_ℤ, ◌*◌, ◌^◌, ◌<◌, ◌≤◌, ◌-ℤ◌, ◌*ℤ◌, ◌≤ℤ◌, unsigned_abs, FitsSigned, to_z, of_z, refl, sym, ap, ◌∙◌, arith}
+use Rattle.std.specs.Int.{w128}
+use Rattle.std.proofs.lemmas.Int.{ints, to_z-of_z, to_z_pos, unsigned_abs-mul, fits_signed_from_abs}
+use Rattle.std.proofs.lemmas.Nat.{mul-le}
+use Rattle.pl_spec.specs.Rounding.{LIMIT, MILLION, div_round}
+use Rattle.pl_fixed.proofs.RoundingLemmas.{unsigned_abs-div_round}
+use Rattle.pl_pipeline.specs.Elementary.{LN2, binary_log, size_by, log_bits}
+
+within : (z : ℤ) (m : ℕ) → neg_ℤ (pos m) ≤ℤ z → z ≤ℤ pos m → unsigned_abs z ≤ m
+within (pos n) m low high = omega (arith, ints)
+within (negsuc n) m low high = omega (arith, ints)
+
+million-log : binary_log MILLION ≡ 22979534024119767165
+unfolding size_by log_bits
+million-log = refl
+
+abbrev parts : ℕ → ℤ
+parts n = pos n -ℤ pos 22979534024119767165
+
+parts-small : (n : ℕ) → n < 2 ^ 66 → unsigned_abs (parts n) ≤ 2 ^ 66
+parts-small n h = within (parts n) (2 ^ 66) (omega (arith, ints)) (omega (arith, ints))
+
+product-small : (n : ℕ) → n < 2 ^ 66 → unsigned_abs (parts n *ℤ pos LN2) ≤ 2 ^ 66 * LN2
+product-small n h =
+    let e : unsigned_abs (parts n *ℤ pos LN2) ≡ unsigned_abs (parts n) * LN2 = unsigned_abs-mul (parts n) (pos LN2) in
+    let l : unsigned_abs (parts n) * LN2 ≤ 2 ^ 66 * LN2 = mul-le (unsigned_abs (parts n)) LN2 (2 ^ 66) LN2 (parts-small n h) (omega arith) in
+    omega arith
+
+pub product-is : (n : ℕ) → n < 2 ^ 66
+    → to_z w128 (of_z w128 (to_z w128 (of_z w128 (to_z w128 n -ℤ pos 22979534024119767165)) *ℤ pos LN2)) ≡ (pos n -ℤ pos (binary_log MILLION)) *ℤ pos LN2
+product-is n h =
+    let p : to_z w128 n ≡ pos n = to_z_pos w128 n (omega arith) in
+    let f : FitsSigned w128 (parts n) = fits_signed_from_abs w128 _ (omega (arith, parts-small n h)) in
+    let g : FitsSigned w128 (parts n *ℤ pos LN2) = fits_signed_from_abs w128 _ (omega (arith, product-small n h)) in
+    ap (λ z. to_z w128 (of_z w128 (to_z w128 (of_z w128 (z -ℤ pos 22979534024119767165)) *ℤ pos LN2))) p
+    ∙ ap (λ z. to_z w128 (of_z w128 (z *ℤ pos LN2))) (to_z-of_z w128 _ f)
+    ∙ to_z-of_z w128 _ g
+    ∙ ap (λ m. (pos n -ℤ pos m) *ℤ pos LN2) (sym million-log)
+
+pub natural-small : (n : ℕ) → n < 2 ^ 66 → unsigned_abs (div_round ((pos n -ℤ pos (binary_log MILLION)) *ℤ pos LN2) (2 ^ 60 * 10 ^ 12)) ≤ LIMIT
+natural-small n h =
+    let e = unsigned_abs-div_round (parts n *ℤ pos LN2) (2 ^ 60 * 10 ^ 12) in
+    let l = product-small n h in
+    rw million-log (omega (arith, e, l))
