@@ -5,7 +5,7 @@ use Rattle.pl_spec.specs.World.{World, LabelRow, day_of, exists, last_started, i
 use Rattle.pl_pipeline.specs.Kind.Kind.{Label}
 use Rattle.pl_pipeline.specs.Term.{Term}
 use Rattle.pl_pipeline.specs.Term.Term.{node}
-use Rattle.pl_pipeline.specs.Value.{passes, part_of, name_at, label_value, kind_value, value}
+use Rattle.pl_pipeline.specs.Value.{passes, part_of, name_at, label_value, kind_value, seen, value}
 use Rattle.pl_pipeline.specs.Value.Value.{Number}
 use Rattle.pl_spec.proofs.Members.{In, in-contains}
 use Rattle.pl_cross.specs.Arrays.{HasTexts}
@@ -47,7 +47,7 @@ module _ (w : World) (texts : HasTexts w) where
           (last day (last_started (filter (is_label_of name a day) w.labels)) refl)
 
   pub labels-coded : (names : List (List ℕ)) (n size : ℕ) (x y z mask group : Term) (a : ℕ) (d : ℤ) → IsCoded w.texts (value w names (node (Label n) size x y z mask group) a d)
-  unfolding value kind_value
+  unfolding value seen kind_value
   labels-coded names n size x y z mask group a d = here (exists w a d && passes (part_of mask (value w names mask)) a d)
     where
       here : (b : Bool) → IsCoded w.texts (if b then label_value (label_at w (name_at names n) a d) else Number MISSING)

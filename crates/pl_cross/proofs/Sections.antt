@@ -13,11 +13,11 @@ use Rattle.pl_spec.specs.Rounding.{MISSING, MILLION, is_present}
 use Rattle.pl_spec.specs.World.{World, exists}
 use Rattle.pl_pipeline.specs.Kind.{CrossKind}
 use Rattle.pl_pipeline.specs.Kind.CrossKind.{PeerCount}
-use Rattle.pl_pipeline.specs.Kind.Kind.{Cross}
+use Rattle.pl_pipeline.specs.Kind.Kind.{Cross, Window}
 use Rattle.pl_pipeline.specs.Cross.{Entry, cross, cross_at, entries_for, counts_at, same_group, array_at}
 use Rattle.pl_pipeline.specs.Term.{Term, Node, Graph, IsGraph, input_tree, trees}
 use Rattle.pl_pipeline.specs.Term.Term.{node}
-use Rattle.pl_pipeline.specs.Value.{Part, Operands, Value, number_of, value_of_part, passes, in_group, is_same, entry, counts_for, eligible, group_of, is_cross_filter, empty, sort_over, sort_kind, kind_value, value, operands_of}
+use Rattle.pl_pipeline.specs.Value.{Part, Operands, Value, number_of, value_of_part, passes, in_group, is_same, entry, counts_for, eligible, group_of, is_cross_filter, empty, sort_over, sort_kind, kind_value, seen, value, operands_of}
 use Rattle.pl_pipeline.specs.Value.Part.{Nothing, Bars, Values}
 use Rattle.pl_pipeline.specs.Value.Value.{Number}
 use Rattle.pl_pipeline.specs.NodeValue.{meaning_of, number_part, node_operands}
@@ -85,9 +85,9 @@ told w p d sids labels holds classes i j h l =
 groups_told : (w : World) (p : Part) (d : ℤ) (sids : List ℕ) (labels : Option (List ℤ)) → IsGroupArray w p d sids labels → (i j : ℕ) → i < length sids → j < length sids
     → in_group p (sid_in sids i) d (sid_in sids j) ≡ same_group labels i j
 groups_told w Nothing d sids labels h i j l m = ap (λ o. same_group o i j) (sym h)
-groups_told w (Bars c) d sids None h i j l m = absurd h
+groups_told w (Bars c view) d sids None h i j l m = absurd h
 groups_told w (Values f) d sids None h i j l m = absurd h
-groups_told w (Bars c) d sids (Some labels) h i j l m = told w (Bars c) d sids labels h.0 h.1 i j l m
+groups_told w (Bars c view) d sids (Some labels) h i j l m = told w (Bars c view) d sids labels h.0 h.1 i j l m
 groups_told w (Values f) d sids (Some labels) h i j l m = told w (Values f) d sids labels h.0 h.1 i j l m
 
 and-first : (a b c d : Bool) → (a && ((b && c) && d)) ≡ (((a && b) && c) && d)
@@ -226,7 +226,7 @@ module _ (w : World) (names : List (List ℕ)) (k : CrossKind) (size : ℕ) (o :
 pub term-value : (w : World) (names : List (List ℕ)) (k : CrossKind) (size : ℕ) (x y z mask group : Term) (d : ℤ) (c : Columns)
     → AreArrays w k (operands_of w names (node (Cross k) size x y z mask group)) d c
     → (i : ℕ) → i < length c.sids → value w names (node (Cross k) size x y z mask group) (sid_in c.sids i) d ≡ Number (section_in k c i)
-unfolding value
+unfolding value seen
 term-value w names k size x y z mask group d c s i h = part-value w names k size _ d c.sids c.values c.keep c.labels s i h
 
 pub node-value : (w : World) (names : List (List ℕ)) (g : Graph) (t : ℕ) (n : Node) (k : CrossKind) (d : ℤ) (c : Columns)
@@ -234,7 +234,7 @@ pub node-value : (w : World) (names : List (List ℕ)) (g : Graph) (t : ℕ) (n 
     → (i : ℕ) → i < length c.sids → meaning_of w names g t (sid_in c.sids i) d ≡ Number (section_in k c i)
 node-value w names g t n k d c ok e kind s i h =
     let a : ℕ = sid_in c.sids i in
-    value_at-node w names g ok t n e a d
+    value_at-node w names g ok t n e (λ formula own. absurd (let bad : Window formula ≡ Cross k = sym own ∙ kind in cc)) a d
     ∙ ap (λ q. if exists w a d && passes (number_part w names g n.mask) a d
     then kind_value w names q n.window (node_operands w names g n) a d
     else empty (sort_over q (sort_kind (input_tree (trees g) (slice_get n.inputs 0))))) kind

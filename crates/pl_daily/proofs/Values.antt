@@ -4,7 +4,7 @@ use Rattle.std.proofs.lemmas.Int.{ints}
 use Rattle.pl_spec.specs.Rounding.{MISSING}
 use Rattle.pl_pipeline.specs.Term.{Term}
 use Rattle.pl_pipeline.specs.Term.Term.{absent, column, node}
-use Rattle.pl_pipeline.specs.Value.{Value, empty, sort_over, sort_kind, value}
+use Rattle.pl_pipeline.specs.Value.{Value, empty, sort_over, sort_kind, seen, value}
 use Rattle.pl_pipeline.specs.Value.Value.{Number}
 use Rattle.pl_spec.specs.Window.{before}
 use Rattle.pl_spec.specs.World.{World}
@@ -21,7 +21,7 @@ nobody (column c) = Number MISSING
 nobody (node k n x y z m p) = empty (sort_over k (sort_kind x))
 
 pub value_below : (w : World) (names : List (List ℕ)) (t : Term) (a s : ℕ) → value w names t a (negsuc s) ≡ nobody t
-unfolding value
+unfolding value seen
 value_below w names absent a s = refl
 value_below w names (column c) a s = refl
 value_below w names (node k n x y z m p) a s = refl

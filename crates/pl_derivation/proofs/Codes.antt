@@ -18,10 +18,10 @@ use Rattle.pl_pipeline.specs.Kind.Kind.{Label, Window, Point, LabelTest, Cross, 
 use Rattle.pl_pipeline.specs.Term.{Term, Graph, Input, Node, IsGraph, tree_over, trees, term_at}
 use Rattle.pl_pipeline.specs.Term.Term.{absent, column, node}
 use Rattle.pl_pipeline.specs.Term.Input.{BarColumn, TermInput}
-use Rattle.pl_pipeline.specs.Value.{Value, Operands, part_of, value_of_part, passes, eligible, window_of, is_window_filter, is_point_filter, is_cross_filter, sort_kind, test_value, kind_value, empty, value, operands_of}
+use Rattle.pl_pipeline.specs.Value.{Value, Operands, part_of, value_of_part, passes, eligible, window_of, is_window_filter, is_point_filter, is_cross_filter, sort_kind, test_value, kind_value, empty, Own, seen, value, operands_of}
 use Rattle.pl_pipeline.specs.Value.Value.{Number, Text}
 use Rattle.pl_pipeline.specs.Value.Part.{Bars, Values}
-use Rattle.pl_pipeline.specs.NodeValue.{meaning_of, input_part, number_part, node_operands, node_value}
+use Rattle.pl_pipeline.specs.NodeValue.{meaning_of, input_part, number_part, node_operands, node_value, AllReadSteady}
 use Rattle.pl_pipeline.specs.Table.{Pipeline, value_of, in_array}
 use Rattle.pl_pipeline.specs.Text.{kind_at}
 use Rattle.pl_spec.proofs.Members.{In, contains-in}
@@ -89,7 +89,7 @@ module _ (w : World) (known : HasTexts w) (names : List (List ℕ)) where
 
   -- the code of a term's value stands for that value
   kept : (x : Term) (a : ℕ) (d : ℤ) → IsKept w.texts (sort_kind x) (value w names x a d)
-  unfolding value kind_value
+  unfolding value seen kind_value
   kept absent a d = refl
   kept (column c) a d = refl
   kept (node (Label n) size x y z m g) a d = label_kept w.texts n _ (labels-coded w known names n size x y z m g a d)
@@ -117,7 +117,7 @@ module _ (w : World) (p : Pipeline) (known : HasTexts w) (ok : IsGraph p.graph) 
   number_is None = refl
   number_is (Some t) = ap Values (term_is t)
 
-  input_is : (k : Kind) (d : ℤ) → ((c : Column) → column_read (number_in w p) k d c ≡ Bars c) → (o : Option Input)
+  input_is : (k : Kind) (d : ℤ) → ((c : Column) → column_read (number_in w p) k d c ≡ Bars c Own) → (o : Option Input)
       → input_read w p (number_in w p) k d o ≡ input_part w p.names p.graph o
   input_is k d flat None = refl
   input_is k d flat (Some (BarColumn c)) = flat c
@@ -135,7 +135,7 @@ module _ (w : World) (p : Pipeline) (known : HasTexts w) (ok : IsGraph p.graph) 
     input i = slice_get n.inputs i
 
     -- a kind that reads no bars
-    flat_is : (k : Kind) → ((c : Column) → column_read (number_in w p) k d c ≡ Bars c) → operands_read w p (number_in w p) k n d ≡ node_operands w p.names p.graph n
+    flat_is : (k : Kind) → ((c : Column) → column_read (number_in w p) k d c ≡ Bars c Own) → operands_read w p (number_in w p) k n d ≡ node_operands w p.names p.graph n
     flat_is k flat = rw (input_is k d flat (input 0), input_is k d flat (input 1), input_is k d flat (input 2), number_is n.mask, number_is n.group) refl
 
     step_is : (k : Kind)
@@ -150,11 +150,11 @@ module _ (w : World) (p : Pipeline) (known : HasTexts w) (ok : IsGraph p.graph) 
         rw (step_is n.kind, number_is n.mask, shown) refl
 
   -- the single step over the world's own numbers gives the world's number
-  pub step_true : (f : Fact) → single_step w p (number_in w p) f ≡ number_in w p f
-  unfolding value
-  step_true (Seen c a s d) = refl
-  step_true (TermValue t a d) = found (slice_get p.graph t) refl
+  pub step_true : AllReadSteady p.graph → (f : Fact) → single_step w p (number_in w p) f ≡ number_in w p f
+  unfolding value seen
+  step_true steady (Seen c a s d) = refl
+  step_true steady (TermValue t a d) = found (slice_get p.graph t) refl
     where
       found : (o : Option Node) → slice_get p.graph t ≡ o → single_step w p (number_in w p) (TermValue t a d) ≡ number_in w p (TermValue t a d)
       found None e = rw (e, no_term p.graph t e) refl
-      found (Some n) e = rw (e, node_is n a d t e, value_at-node w p.names p.graph ok t n e a d) refl
+      found (Some n) e = rw (e, node_is n a d t e, value_at-node w p.names p.graph ok t n e (steady t n e) a d) refl

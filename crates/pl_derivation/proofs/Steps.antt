@@ -10,7 +10,7 @@ use Rattle.pl_pipeline.specs.Kind.Kind.{Window, Point, LabelTest, Cross, Downsam
 use Rattle.pl_spec.specs.Periods.{period_start}
 use Rattle.pl_pipeline.specs.Term.{Input, Node}
 use Rattle.pl_pipeline.specs.Term.Input.{BarColumn, TermInput}
-use Rattle.pl_pipeline.specs.Value.{Value, number_of, window_of, passes, kind_value}
+use Rattle.pl_pipeline.specs.Value.{Own, Value, number_of, window_of, passes, kind_value}
 use Rattle.pl_pipeline.specs.Value.Part.{Bars}
 use Rattle.pl_pipeline.proofs.SameOperands.{Alike, AlikeEntry, passes_alike, eligible_alike}
 use Rattle.pl_pipeline.specs.Text.{kind_at}
@@ -37,7 +37,7 @@ module _ (w : World) (p : Pipeline) (r q : Reading) where
 
   -- a kind that reads no bars
   abbrev IsFlat : Kind → Type 0
-  IsFlat k = (s : Reading) (d : ℤ) (c : Column) → column_read s k d c ≡ Bars c
+  IsFlat k = (s : Reading) (d : ℤ) (c : Column) → column_read s k d c ≡ Bars c Own
 
   input_alike : (k : Kind) → IsFlat k → (b : ℕ) (d e : ℤ) (o : Option Input) → Each Same (facts_now b d o)
       → Alike (input_read w p r k e o) (input_read w p q k e o) b d

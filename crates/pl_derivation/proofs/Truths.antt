@@ -14,6 +14,7 @@ use Rattle.pl_spec.specs.Rounding.{MISSING}
 use Rattle.pl_spec.specs.World.{World, day_of, bar_cell, column_number}
 use Rattle.pl_spec.specs.Window.{Effect, changed, after_all, effects, seen_cell}
 use Rattle.pl_pipeline.specs.Term.{IsGraph}
+use Rattle.pl_pipeline.specs.NodeValue.{AllReadSteady}
 use Rattle.pl_pipeline.specs.Table.{Pipeline}
 use Rattle.pl_derivation.specs.Facts.{Fact, Reading, same_fact, number_in, known_day, premises, single_step}
 use Rattle.pl_derivation.specs.Facts.Fact.{Seen, TermValue}
@@ -175,7 +176,7 @@ module _ (w : World) (p : Pipeline) where
   states_known r t a day v known f h =
       day_same known (known_day w p f) (and_parts (int_eq v (single_step w p r f)) (option_eq int_eq known (known_day w p f)) h).1
 
-  module _ (known : HasTexts w) (ok : IsGraph p.graph) where
+  module _ (known : HasTexts w) (ok : IsGraph p.graph) (steady : AllReadSteady p.graph) where
     -- after true lines a right line is true
     right_about : (lines : List Line) → Each States lines → (l : Line) (f : Fact) → is_right_about w p lines l (Some f) ≡ true → number_stated l ≡ number_in w p f
     right_about lines h l f e =
@@ -183,7 +184,7 @@ module _ (w : World) (p : Pipeline) where
         let stand = each_list_all (is_stated w lines) (premises w p (reading_of w lines) f) parts.1 in
         let agree : Each (λ g. reading_of w lines g ≡ number_in w p g) (premises w p (reading_of w lines) f)
         = each_more _ _ (premises w p (reading_of w lines) f) (λ g i. stated_true lines g h i) stand in
-        states_number (reading_of w lines) l f parts.2 ∙ (fact_same w p (reading_of w lines) (number_in w p) f agree).1 ∙ step_true w p known ok f
+        states_number (reading_of w lines) l f parts.2 ∙ (fact_same w p (reading_of w lines) (number_in w p) f agree).1 ∙ step_true w p known ok steady f
 
     pub right_states : (lines : List Line) → Each States lines → (l : Line) → is_right w p lines l ≡ true → States l
     right_states lines h l e f i = right_about lines h l f (rw i at e)

@@ -12,6 +12,7 @@ use Rattle.std.proofs.lemmas.List.{map-append}
 use Rattle.std.proofs.lemmas.Option.{slice_get_within, get_or_from_slice_get}
 use Rattle.pl_spec.specs.World.{World, IsWorld, day_of}
 use Rattle.pl_pipeline.specs.Term.{IsGraph}
+use Rattle.pl_pipeline.specs.NodeValue.{AllReadSteady}
 use Rattle.pl_pipeline.specs.Table.{Pipeline}
 use Rattle.pl_spec.proofs.Places.{is_at}
 use Rattle.pl_derivation.specs.Facts.{Fact, Reading, same_fact, number_in, known_day, premises, single_step}
@@ -47,7 +48,7 @@ date_is w d s = rw (s.2, s.3) refl
 pub in_last : (done : List Fact) (f : Fact) → is_in (done ++ f ∷ []) f ≡ true
 in_last done f = list_any-append (same_fact f) done (f ∷ []) ∙ or_right (is_in done f) (is_in (f ∷ []) f) (or_left (same_fact f f) false (is_same f))
 
-module _ (w : World) (p : Pipeline) (ok : IsWorld w) (known : HasTexts w) (graph : IsGraph p.graph) (windows : HasSessions p.graph) where
+module _ (w : World) (p : Pipeline) (ok : IsWorld w) (known : HasTexts w) (graph : IsGraph p.graph) (steady : AllReadSteady p.graph) (windows : HasSessions p.graph) where
   abbrev Fit : Fact → Type 0
   Fit f = Fits w p graph windows f
 
@@ -105,7 +106,7 @@ module _ (w : World) (p : Pipeline) (ok : IsWorld w) (known : HasTexts w) (graph
       = list_all_each (is_stated w (lines_of done)) (premises w p (number_in w p) f) (each_more _ _ (premises w p (number_in w p) f) (λ g i. stands done g h i) behind) in
       let stated_too : list_all (is_stated w (lines_of done)) (premises w p (reading_of w (lines_of done)) f) ≡ true = rw both.0 at stated in
       let step : states_step w p (reading_of w (lines_of done)) (line_for w p f) f ≡ true
-      = states_step_of (reading_of w (lines_of done)) f (sym both.1 ∙ step_true w p known graph f) in
+      = states_step_of (reading_of w (lines_of done)) f (sym both.1 ∙ step_true w p known graph steady f) in
       rw (line_is f fit, fitting f fit, stated_too, step) refl
 
   -- ---- the walk

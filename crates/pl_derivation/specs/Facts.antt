@@ -13,7 +13,7 @@ use Rattle.pl_pipeline.specs.Kind.{Kind}
 use Rattle.pl_pipeline.specs.Kind.Kind.{Label, Window, Point, LabelTest, Cross, Downsample}
 use Rattle.pl_pipeline.specs.Term.{Input, Node}
 use Rattle.pl_pipeline.specs.Term.Input.{BarColumn, TermInput}
-use Rattle.pl_pipeline.specs.Value.{Value, Meaning, Part, Operands, passes, kind_value, empty, name_at}
+use Rattle.pl_pipeline.specs.Value.{Value, Meaning, Own, Part, Operands, passes, kind_value, empty, name_at}
 use Rattle.pl_pipeline.specs.Value.Value.{Number, Text}
 use Rattle.pl_pipeline.specs.Value.Part.{Nothing, Bars, Values}
 use Rattle.pl_pipeline.specs.Table.{Pipeline, value_of, in_array}
@@ -104,7 +104,7 @@ bars_read r c d a e = Number (r (Seen c a (before e 1) d))
 
 abbrev pub column_read : Reading → Kind → ℤ → Column → Part
 column_read r (Window k) d c = Values (bars_read r c d)
-column_read r k d c = Bars c
+column_read r k d c = Bars c Own
 
 abbrev pub input_read : World → Pipeline → Reading → Kind → ℤ → Option Input → Part
 input_read w p r k d None = Nothing

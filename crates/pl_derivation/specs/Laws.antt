@@ -7,6 +7,7 @@ use Rattle.std.specs.Cmp.Lexicographic.{pointwise}
 use Rattle.pl_spec.specs.World.{World, IsWorld, day_of}
 use Rattle.pl_spec.specs.Window.{seen_cell}
 use Rattle.pl_pipeline.specs.Term.{IsGraph, term_at}
+use Rattle.pl_pipeline.specs.NodeValue.{AllReadSteady}
 use Rattle.pl_pipeline.specs.Graph.{reach}
 use Rattle.pl_pipeline.specs.Table.{Pipeline, value_of, in_array}
 use Rattle.pl_derivation.specs.Facts.{Fact, number_in, known_day, premises}
@@ -28,7 +29,8 @@ IsTrueLine w p (ValueLine t a day v known) =
 
 -- Where no line of a list is wrong, each of them is true.
 abbrev pub RightLinesAreTrue : Type 0
-RightLinesAreTrue = (w : World) (p : Pipeline) → HasTexts w → IsGraph p.graph → (lines : List Line) → first_wrong w p lines ≡ None
+RightLinesAreTrue = (w : World) (p : Pipeline) → HasTexts w → IsGraph p.graph → AllReadSteady p.graph
+    → (lines : List Line) → first_wrong w p lines ≡ None
     → (i : ℕ) (l : Line) → slice_get lines i ≡ Some l → IsTrueLine w p l
 
 -- the line states what the world has
@@ -40,13 +42,15 @@ states_world w p l f = false
 -- After right lines a line is right where its fact fits, each premise stands in these, and it states what the
 -- world has: what the first lines tell of the premises need not be kept.
 abbrev pub RightIsTrue : Type 0
-RightIsTrue = (w : World) (p : Pipeline) → HasTexts w → IsGraph p.graph → (lines : List Line) → first_wrong w p lines ≡ None
+RightIsTrue = (w : World) (p : Pipeline) → HasTexts w → IsGraph p.graph → AllReadSteady p.graph
+    → (lines : List Line) → first_wrong w p lines ≡ None
     → (l : Line) (f : Fact) → fact_of w l ≡ Some f
     → is_right w p lines l ≡ (is_fitting w p f && list_all (is_stated w lines) (premises w p (number_in w p) f) && states_world w p l f)
 
 -- After right lines that tell of its fact already, a line is right where it states what the world has.
 abbrev pub RepeatsAreRight : Type 0
-RepeatsAreRight = (w : World) (p : Pipeline) → HasTexts w → IsGraph p.graph → (lines : List Line) → first_wrong w p lines ≡ None
+RepeatsAreRight = (w : World) (p : Pipeline) → HasTexts w → IsGraph p.graph → AllReadSteady p.graph
+    → (lines : List Line) → first_wrong w p lines ≡ None
     → (l : Line) (f : Fact) → fact_of w l ≡ Some f → is_stated w lines f ≡ true → is_right w p lines l ≡ states_world w p l f
 
 -- the value of the cell can be explained: its term is used, its asset and session are known, and it reaches

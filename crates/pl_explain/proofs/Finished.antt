@@ -20,6 +20,7 @@ use Rattle.pl_terms.specs.declared.node.Node.{Node}
 use Rattle.pl_terms.specs.Checked.{Parts, pipeline_of, IsChecked}
 use Rattle.pl_terms.specs.Nodes.{graph_of, number_of}
 use Rattle.pl_terms.specs.Uses.{is_used}
+use Rattle.pl_terms.proofs.Steady.{checked-steady}
 use Rattle.pl_cross.specs.Arrays.{HasTexts}
 use Rattle.pl_derivation.specs.declared.error.ExplainError.{ExplainError}
 use Rattle.pl_derivation.specs.declared.error.ExplainError.TheVariants.{Memory, TooLong}
@@ -255,7 +256,7 @@ module _ (w : World) (c : Parts) (t col d : ℕ) (used : is_used (pipeline_of c)
   pub asked-right : IsChecked (pipeline_of c) → HasTexts (world_of w) → PartsMakeAWorld w
       → laws.IsDerivation (world_of w) (pipeline_of c) t (sid_at w.assets.now col) d (derivation (world_of w) (pipeline_of c) t (sid_at w.assets.now col) (pos d))
   asked-right checked known made =
-      complete (world_of w) (pipeline_of c) made.world known checked.graph (sessions-held c checked) t (sid_at w.assets.now col) d
+      complete (world_of w) (pipeline_of c) made.world known checked.graph (checked-steady (pipeline_of c) checked) (sessions-held c checked) t (sid_at w.assets.now col) d
       (record { used = used; known = sid-known w.assets.now col place; day = get_or w.sessions.now d (pos 0); session = day; reached = reached })
 
   pub asked-lean : IsChecked (pipeline_of c) → HasTexts (world_of w) → PartsMakeAWorld w
@@ -263,5 +264,5 @@ module _ (w : World) (c : Parts) (t col d : ℕ) (used : is_used (pipeline_of c)
   asked-lean checked known made =
       let asked : laws.IsAsked (world_of w) (pipeline_of c) t (sid_at w.assets.now col) d
       = record { used = used; known = sid-known w.assets.now col place; day = get_or w.sessions.now d (pos 0); session = day; reached = reached } in
-      let facts = walked (world_of w) (pipeline_of c) made.world known checked.graph (sessions-held c checked) t (sid_at w.assets.now col) d asked in
+      let facts = walked (world_of w) (pipeline_of c) made.world known checked.graph (checked-steady (pipeline_of c) checked) (sessions-held c checked) t (sid_at w.assets.now col) d asked in
       walk_is_lean (world_of w) (pipeline_of c) (suc t) (TermValue t (sid_at w.assets.now col) (pos d)) facts.0 facts.1 (asked-right checked known made).once

@@ -25,7 +25,7 @@ use Rattle.pl_pipeline.specs.Cross.{Entry, values, earlier_same, ordinal, rank, 
 use Rattle.pl_pipeline.specs.Term.{Term, Input, Node, Graph, tree_at, input_tree, number_tree, tree_over, trees_after, term_at}
 use Rattle.pl_pipeline.specs.Term.Term.{absent, column, node}
 use Rattle.pl_pipeline.specs.Term.Input.{BarColumn, TermInput}
-use Rattle.pl_pipeline.specs.Value.{Value, Part, Operands, part_of, number_of, holds, value_of_part, window_of, passes, in_group, entry, counts_for, eligible, group_of, label_value, name_at, test_value, empty, sort_over, sort_kind, is_same, kind_value, value}
+use Rattle.pl_pipeline.specs.Value.{Value, View, Own, seen_from, Part, Operands, part_from, number_of, holds, value_of_part, window_of, passes, in_group, entry, counts_for, eligible, group_of, label_value, name_at, test_value, empty, sort_over, sort_kind, is_same, view_of, kind_value, seen, value}
 use Rattle.pl_pipeline.specs.Value.Value.{Number}
 use Rattle.pl_pipeline.specs.Table.{Pipeline, Row, NamedColumn, is_kept, table_row, session_rows, table, value_of}
 use Rattle.pl_invariance.specs.Renamed.{Rises, renamed_kind, renamed_node, renamed_pipeline, renamed_row}
@@ -156,76 +156,77 @@ module _ (f : ℕ → ℕ) (rises : Rises f) where
         ∙ any-map (λ x. x == f a) f (living_sids w d)
         ∙ ap (λ p. list_any p (living_sids w d)) (fun_ext (λ x. same_sid x a))
 
-    -- a term has the same value for each asset on each session
-    abbrev Same : Term → Type 0
-    Same t = (a : ℕ) (d : ℤ) → value v names (renamed_term t) (f a) d ≡ value w names t a d
+    -- a term has the same value for each asset on each session, as it is seen from there
+    abbrev Same : View → Term → Type 0
+    Same view t = (a : ℕ) (d : ℤ) → seen v names (renamed_term t) view (f a) d ≡ seen w names t view a d
 
-    abbrev here : Term → Part
-    here t = part_of t (value w names t)
+    abbrev here : View → Term → Part
+    here view t = part_from view t (seen w names t view)
 
-    abbrev there : Term → Part
-    there t = part_of (renamed_term t) (value v names (renamed_term t))
+    abbrev there : View → Term → Part
+    there view t = part_from view (renamed_term t) (seen v names (renamed_term t) view)
 
-    now_same : (t : Term) → Same t → (a : ℕ) (d : ℤ) → value_of_part (there t) (f a) d ≡ value_of_part (here t) a d
+    now_same : (view : View) (t : Term) → Same view t → (a : ℕ) (d : ℤ) → value_of_part (there view t) (f a) d ≡ value_of_part (here view t) a d
     unfolding renamed_term
-    now_same absent same a d = refl
-    now_same (column c) same a d = refl
-    now_same (node k size x y z m g) same a d = same a d
+    now_same view absent same a d = refl
+    now_same view (column c) same a d = refl
+    now_same view (node k size x y z m g) same a d = same a d
 
-    passes_same : (t : Term) → Same t → (a : ℕ) (d : ℤ) → passes (there t) (f a) d ≡ passes (here t) a d
+    passes_same : (t : Term) → Same Own t → (a : ℕ) (d : ℤ) → passes (there Own t) (f a) d ≡ passes (here Own t) a d
     unfolding renamed_term
     passes_same absent same a d = refl
     passes_same (column c) same a d = refl
     passes_same (node k size x y z m g) same a d = ap holds (same a d)
 
-    group_same : (t : Term) → Same t → (a : ℕ) (d : ℤ) (b : ℕ) → in_group (there t) (f a) d (f b) ≡ in_group (here t) a d b
+    group_same : (view : View) (t : Term) → Same view t → (a : ℕ) (d : ℤ) (b : ℕ) → in_group (there view t) (f a) d (f b) ≡ in_group (here view t) a d b
     unfolding renamed_term
-    group_same absent same a d b = refl
-    group_same (column c) same a d b = refl
-    group_same (node k size x y z m g) same a d b =
+    group_same view absent same a d b = refl
+    group_same view (column c) same a d b = refl
+    group_same view (node k size x y z m g) same a d b =
         let t : Term = node k size x y z m g in
-        ap (λ u. is_present (number_of u) && is_same u (value v names (renamed_term t) (f b) d)) (same a d)
-        ∙ ap (λ u. is_present (number_of (value w names t a d)) && is_same (value w names t a d) u) (same b d)
+        ap (λ u. is_present (number_of u) && is_same u (seen v names (renamed_term t) view (f b) d)) (same a d)
+        ∙ ap (λ u. is_present (number_of (seen w names t view a d)) && is_same (seen w names t view a d) u) (same b d)
 
-    window_same : (t : Term) → Same t → (size a : ℕ) → Lives w a → (d : ℤ) → window_of v size (there t) (f a) d ≡ window_of w size (here t) a d
+    window_same : (view : View) (t : Term) → Same view t → (size a : ℕ) → Lives w a → (d : ℤ) → window_of v size (there view t) (f a) d ≡ window_of w size (here view t) a d
     unfolding renamed_term
-    window_same absent same size a lives d = refl
-    window_same (column c) same size a lives d = ap (λ g. map g (downward size)) (fun_ext (λ n. shows.seen a lives c (before d (suc n)) d))
-    window_same (node k i x y z m g) same size a lives d = ap (λ g. map g (downward size)) (fun_ext (λ n. ap number_of (same a (before d n))))
+    window_same view absent same size a lives d = refl
+    window_same view (column c) same size a lives d = ap (λ g. map g (downward size)) (fun_ext (λ n. shows.seen a lives c (before d (suc n)) (seen_from view d)))
+    window_same view (node k i x y z m g) same size a lives d = ap (λ g. map g (downward size)) (fun_ext (λ n. ap number_of (same a (before d n))))
 
     -- ---- one step
 
-    abbrev ours : Term → Term → Term → Term → Term → Operands
-    ours x y z m g = record { first = here x; second = here y; third = here z; mask = here m; group = here g }
+    -- inputs as they are seen from there, a mask and a group from their own session
+    abbrev ours : View → Term → Term → Term → Term → Term → Operands
+    ours view x y z m g = record { first = here view x; second = here view y; third = here view z; mask = here Own m; group = here Own g }
 
-    abbrev theirs : Term → Term → Term → Term → Term → Operands
-    theirs x y z m g = record { first = there x; second = there y; third = there z; mask = there m; group = there g }
+    abbrev theirs : View → Term → Term → Term → Term → Term → Operands
+    theirs view x y z m g = record { first = there view x; second = there view y; third = there view z; mask = there Own m; group = there Own g }
 
-    module _ (x y z m g : Term) (first : Same x) (second : Same y) (third : Same z) (mask : Same m) (group : Same g) where
-      in_same : (k : CrossKind) (a : ℕ) (d : ℤ) (b : ℕ) → in_group (group_of k (there x) (there g)) (f a) d (f b) ≡ in_group (group_of k (here x) (here g)) a d b
-      in_same PeerCount a d b = group_same x first a d b
-      in_same (Rank method order) a d b = group_same g group a d b
-      in_same Demean a d b = group_same g group a d b
-      in_same ZScore a d b = group_same g group a d b
-      in_same (Quantiles bins) a d b = group_same g group a d b
-      in_same (Top n) a d b = group_same g group a d b
-      in_same (Bottom n) a d b = group_same g group a d b
-      in_same (PercentileBetween low high) a d b = group_same g group a d b
+    module _ (view : View) (x y z m g : Term) (first : Same view x) (second : Same view y) (third : Same view z) (mask : Same Own m) (group : Same Own g) where
+      in_same : (k : CrossKind) (a : ℕ) (d : ℤ) (b : ℕ) → in_group (group_of k (there view x) (there Own g)) (f a) d (f b) ≡ in_group (group_of k (here view x) (here Own g)) a d b
+      in_same PeerCount a d b = group_same view x first a d b
+      in_same (Rank method order) a d b = group_same Own g group a d b
+      in_same Demean a d b = group_same Own g group a d b
+      in_same ZScore a d b = group_same Own g group a d b
+      in_same (Quantiles bins) a d b = group_same Own g group a d b
+      in_same (Top n) a d b = group_same Own g group a d b
+      in_same (Bottom n) a d b = group_same Own g group a d b
+      in_same (PercentileBetween low high) a d b = group_same Own g group a d b
 
-      counts_same : (k : CrossKind) (a : ℕ) (d : ℤ) (b : ℕ) → counts_for k (theirs x y z m g) (f a) d (f b) ≡ counts_for k (ours x y z m g) a d b
-      counts_same k a d b = rw (passes_same m mask b d, now_same x first b d, in_same k a d b) refl
+      counts_same : (k : CrossKind) (a : ℕ) (d : ℤ) (b : ℕ) → counts_for k (theirs view x y z m g) (f a) d (f b) ≡ counts_for k (ours view x y z m g) a d b
+      counts_same k a d b = rw (passes_same m mask b d, now_same view x first b d, in_same k a d b) refl
 
-      entry_same : (d : ℤ) (b : ℕ) → entry (there x) d (f b) ≡ named (entry (here x) d b)
-      entry_same d b = ap (λ u. (f b, number_of u)) (now_same x first b d)
+      entry_same : (d : ℤ) (b : ℕ) → entry (there view x) d (f b) ≡ named (entry (here view x) d b)
+      entry_same d b = ap (λ u. (f b, number_of u)) (now_same view x first b d)
 
-      eligible_same : (k : CrossKind) (a : ℕ) (d : ℤ) → eligible v k (theirs x y z m g) (f a) d ≡ map named (eligible w k (ours x y z m g) a d)
+      eligible_same : (k : CrossKind) (a : ℕ) (d : ℤ) → eligible v k (theirs view x y z m g) (f a) d ≡ map named (eligible w k (ours view x y z m g) a d)
       eligible_same k a d =
-          ap (λ l. map (entry (there x) d) (filter (counts_for k (theirs x y z m g) (f a) d) l)) (shows.living d)
-          ∙ ap (map (entry (there x) d)) (filter-map (counts_for k (theirs x y z m g) (f a) d) f (living_sids w d))
-          ∙ maps (entry (there x) d) f (filter (λ b. counts_for k (theirs x y z m g) (f a) d (f b)) (living_sids w d))
-          ∙ ap (λ e. map e (filter (λ b. counts_for k (theirs x y z m g) (f a) d (f b)) (living_sids w d))) (fun_ext (entry_same d))
-          ∙ ap (λ p. map (λ b. named (entry (here x) d b)) (filter p (living_sids w d))) (fun_ext (counts_same k a d))
-          ∙ sym (maps named (entry (here x) d) (filter (counts_for k (ours x y z m g) a d) (living_sids w d)))
+          ap (λ l. map (entry (there view x) d) (filter (counts_for k (theirs view x y z m g) (f a) d) l)) (shows.living d)
+          ∙ ap (map (entry (there view x) d)) (filter-map (counts_for k (theirs view x y z m g) (f a) d) f (living_sids w d))
+          ∙ maps (entry (there view x) d) f (filter (λ b. counts_for k (theirs view x y z m g) (f a) d (f b)) (living_sids w d))
+          ∙ ap (λ e. map e (filter (λ b. counts_for k (theirs view x y z m g) (f a) d (f b)) (living_sids w d))) (fun_ext (entry_same d))
+          ∙ ap (λ p. map (λ b. named (entry (here view x) d b)) (filter p (living_sids w d))) (fun_ext (counts_same k a d))
+          ∙ sym (maps named (entry (here view x) d) (filter (counts_for k (ours view x y z m g) a d) (living_sids w d)))
 
       in_list_same : (a : ℕ) (list : List Entry) → list_any (λ (e : Entry). e.0 == f a) (map named list) ≡ list_any (λ (e : Entry). e.0 == a) list
       in_list_same a list = any-map (λ (e : Entry). e.0 == f a) named list ∙ ap (λ p. list_any p list) (fun_ext (λ (e : Entry). same_sid e.0 a))
@@ -233,34 +234,44 @@ module _ (f : ℕ → ℕ) (rises : Rises f) where
       sids_same : (sids : List ℕ) (a : ℕ) → list_any (λ b. b == f a) (map f sids) ≡ list_any (λ b. b == a) sids
       sids_same sids a = any-map (λ b. b == f a) f sids ∙ ap (λ p. list_any p sids) (fun_ext (λ b. same_sid b a))
 
-      pub step_same : (k : Kind) (size a : ℕ) (d : ℤ) → Lives w a → kind_value v names (renamed_kind f k) size (theirs x y z m g) (f a) d ≡ kind_value w names k size (ours x y z m g) a d
+      pub step_same : (k : Kind) (size a : ℕ) (d : ℤ) → Lives w a → kind_value v names (renamed_kind f k) size (theirs view x y z m g) (f a) d ≡ kind_value w names k size (ours view x y z m g) a d
       unfolding kind_value
       step_same (Constant cell) size a d lives = refl
       step_same (Label n) size a d lives = ap label_value (shows.labels a lives (name_at names n) d)
       step_same (kinds.Number n) size a d lives = ap Number (shows.numbers a lives (name_at names n) d)
       step_same (StaticSids sids) size a d lives = ap (λ b. Number (truth b)) (sids_same sids a)
-      step_same (Window k) size a d lives = rw (window_same x first size a lives d, window_same y second size a lives d, window_same z third size a lives d) refl
-      step_same (Point k) size a d lives = rw (now_same x first a d, now_same y second a d, now_same z third a d) refl
-      step_same (LabelTest k) size a d lives = ap (test_value k) (now_same x first a d)
+      step_same (Window k) size a d lives = rw (window_same view x first size a lives d, window_same view y second size a lives d, window_same view z third size a lives d) refl
+      step_same (Point k) size a d lives = rw (now_same view x first a d, now_same view y second a d, now_same view z third a d) refl
+      step_same (LabelTest k) size a d lives = ap (test_value k) (now_same view x first a d)
       step_same (Cross k) size a d lives =
-          rw (eligible_same k a d, now_same x first a d, in_list_same a (eligible w k (ours x y z m g) a d), same_cross k (eligible w k (ours x y z m g) a d) a (number_of (value_of_part (here x) a d))) refl
-      step_same (Downsample q) size a d lives = now_same x first a (period_start q v.days d) ∙ ap (λ days. value_of_part (here x) a (period_start q days d)) shows.days
+          rw (eligible_same k a d, now_same view x first a d, in_list_same a (eligible w k (ours view x y z m g) a d), same_cross k (eligible w k (ours view x y z m g) a d) a (number_of (value_of_part (here view x) a d))) refl
+      step_same (Downsample q) size a d lives = now_same view x first a (period_start q v.days d) ∙ ap (λ days. value_of_part (here view x) a (period_start q days d)) shows.days
 
     -- ---- values
 
-    pub values_same : (t : Term) → Same t
-    unfolding value renamed_term
-    values_same absent a d = refl
-    values_same (column c) a d = refl
-    values_same (node k size x y z m g) a d =
-        on (exists w a d) refl (step_same x y z m g (values_same x) (values_same y) (values_same z) (values_same m) (values_same g) k size a d) (passes_same m (values_same m) a d)
+    view_same : (k : Kind) (view : View) (d : ℤ) → view_of (renamed_kind f k) view d ≡ view_of k view d
+    view_same (StaticSids sids) view d = refl
+    view_same k view d = refl
+
+    pub seen_same : (t : Term) (view : View) → Same view t
+    unfolding seen renamed_term
+    seen_same absent view a d = refl
+    seen_same (column c) view a d = refl
+    seen_same (node k size x y z m g) view a d =
+        on (exists w a d) refl
+        (step_same (view_of k view d) x y z m g (seen_same x (view_of k view d)) (seen_same y (view_of k view d)) (seen_same z (view_of k view d)) (seen_same m Own) (seen_same g Own) k size a d)
+        (passes_same m (seen_same m Own) a d)
       where
         on : (b : Bool) → exists w a d ≡ b
-            → (Lives w a → kind_value v names (renamed_kind f k) size (theirs x y z m g) (f a) d ≡ kind_value w names k size (ours x y z m g) a d)
-            → passes (there m) (f a) d ≡ passes (here m) a d
-            → value v names (renamed_term (node k size x y z m g)) (f a) d ≡ value w names (node k size x y z m g) a d
-        on true e step pass = rw (exists_same a d, e, pass, step (d, e), nothing_same k x) refl
+            → (Lives w a → kind_value v names (renamed_kind f k) size (theirs (view_of k view d) x y z m g) (f a) d ≡ kind_value w names k size (ours (view_of k view d) x y z m g) a d)
+            → passes (there Own m) (f a) d ≡ passes (here Own m) a d
+            → seen v names (renamed_term (node k size x y z m g)) view (f a) d ≡ seen w names (node k size x y z m g) view a d
+        on true e step pass = rw (exists_same a d, e, view_same k view d, pass, step (d, e), nothing_same k x) refl
         on false e step pass = rw (exists_same a d, e, nothing_same k x) refl
+
+    pub values_same : (t : Term) (a : ℕ) (d : ℤ) → value v names (renamed_term t) (f a) d ≡ value w names t a d
+    unfolding value
+    values_same t a d = seen_same t Own a d
 
   -- ---- graphs
 

@@ -12,7 +12,7 @@ use Rattle.pl_spec.specs.Window.{effects_in}
 use Rattle.pl_spec.specs.World.{World, IsWorld, bar_cell, day_of, events_of, exists, label_at, living_sids, lives_on}
 use Rattle.pl_pipeline.specs.Term.{Term}
 use Rattle.pl_pipeline.specs.Term.Term.{absent, column, node}
-use Rattle.pl_pipeline.specs.Value.{empty, sort_kind, value}
+use Rattle.pl_pipeline.specs.Value.{empty, sort_kind, seen, value}
 use Rattle.pl_pipeline.specs.Table.{Pipeline, Row, is_kept, table_row, session_rows, table}
 use Rattle.pl_spec.specs.Dates.{date_text}
 use Rattle.pl_pipeline.specs.Text.{header, row_fields, row_line, text}
@@ -35,7 +35,7 @@ not_there w a s e = ap (list_any (λ x. x == a)) (none_living w s e)
 
 -- so a term is worth nothing there
 empty_there : (w : World) (names : List (List ℕ)) (t : Term) (a : ℕ) (s : ℤ) → day_of w s ≡ None → value w names t a s ≡ empty (sort_kind t)
-unfolding value
+unfolding value seen
 empty_there w names absent a s e = refl
 empty_there w names (column c) a s e = refl
 empty_there w names (node k size x y z m g) a s e = rw (not_there w a s e) refl

@@ -1,5 +1,5 @@
 -- What came to be known later doesn't change a value.
-use Rattle.std.proofs.Common.{◌≡◌, ℕ, suc, ◌<◌, ◌≤◌, Bool, true, false, ℤ, pos, negsuc, ◌<ℤ◌, ◌≤ℤ◌, List, [], ◌∷◌, length, map, get_or, Option, Some, None, refl, sym, ◌∙◌, ap, arith, inl, inr, filter, filter_map, slice_get, AllPairs, ◌==◌, unwrap_or, option_map}
+use Rattle.std.proofs.Common.{◌≡◌, ℕ, suc, cond, ◌<◌, ◌≤◌, Bool, true, false, ℤ, pos, negsuc, ◌<ℤ◌, ◌≤ℤ◌, List, [], ◌∷◌, length, map, get_or, Option, Some, None, refl, sym, ◌∙◌, ap, arith, inl, inr, filter, filter_map, slice_get, AllPairs, ◌==◌, unwrap_or, option_map}
 use Rattle.std.proofs.Math.Path.{fun_ext}
 use Rattle.std.specs.List.{All, list_any}
 use Rattle.std.proofs.lemmas.Int.{ints}
@@ -18,11 +18,12 @@ use Rattle.pl_laws.proofs.Lows.{reads_at-within}
 use Rattle.pl_laws.proofs.Calendars.{reads_at-same}
 use Rattle.pl_pipeline.specs.Term.{Term}
 use Rattle.pl_pipeline.specs.Term.Term.{absent, column, node}
-use Rattle.pl_pipeline.specs.Value.{Meaning, part_of, number_of, operands_of, value}
+use Rattle.pl_pipeline.specs.Kind.{Kind}
+use Rattle.pl_pipeline.specs.Kind.Kind.{Window, Point, Downsample}
+use Rattle.pl_pipeline.specs.Value.{Meaning, View, Own, From, seen_from, part_from, number_of, keeps_point, keeps_window, view_of, seen_operands, seen, value}
 use Rattle.pl_pipeline.proofs.SameOperands.{SamePart, SameReads, passes_alike, step_alike}
 use Rattle.pl_spec.proofs.Each.{Each, each_known}
 use Rattle.pl_spec.proofs.Lists.{filter-filter}
-use Rattle.pl_spec.proofs.Windows.{before-less}
 
 -- ---- tests
 
@@ -116,6 +117,39 @@ day_by w ok (pos i) (pos j) x day h e f = days_rise w.days i j x day ok.days_asc
 day_by w ok (pos i) (negsuc j) x day h e f = cc
 day_by w ok (negsuc i) d x day h e f = cc
 
+-- ---- views
+
+-- A value of session s is seen from that session or a later one, which is no later than d.
+pub record IsSeenBy (d : ℤ) (view : View) (s : ℤ) : Type 0 where
+  pub from : s ≤ℤ seen_from view s
+  pub by : seen_from view s ≤ℤ d
+
+pub seen_by_here : (d : ℤ) (view : View) (s : ℤ) → IsSeenBy d view s → s ≤ℤ d
+seen_by_here d view s l = let low : s ≤ℤ seen_from view s = l.from in let high : seen_from view s ≤ℤ d = l.by in omega (arith, ints)
+
+-- so are those of earlier sessions
+pub seen-earlier : (d : ℤ) (view : View) (s r : ℤ) → r ≤ℤ s → IsSeenBy d view s → IsSeenBy d view r
+seen-earlier d Own s r h l = let high : s ≤ℤ d = l.by in record { from = omega (arith, ints); by = omega (arith, ints) }
+seen-earlier d (From v) s r h l = let low : s ≤ℤ v = l.from in record { from = omega (arith, ints); by = l.by }
+
+-- and what a kind reads
+pub inner-seen : (d : ℤ) (days : List ℤ) (k : Kind) (view : View) (s : ℤ) → IsSeenBy d view s → IsSeenBy d (view_of k view s) (reads_at days k s)
+inner-seen d days (Window k) view s l = window (keeps_window k)
+  where
+    window : (b : Bool) → IsSeenBy d (From (cond b s (seen_from view s))) s
+    window true = record { from = omega (arith, ints); by = seen_by_here d view s l }
+    window false = record { from = l.from; by = l.by }
+inner-seen d days (Point k) view s l = operation (keeps_point k)
+  where
+    operation : (b : Bool) → IsSeenBy d (cond b Own view) s
+    operation true = record { from = omega (arith, ints); by = seen_by_here d view s l }
+    operation false = l
+inner-seen d days (Downsample f) view s l =
+    let within : reads_at days (Downsample f) s ≤ℤ s = reads_at-within days (Downsample f) s in
+    let here : s ≤ℤ d = seen_by_here d view s l in
+    record { from = omega (arith, ints); by = omega (arith, ints) }
+inner-seen d days k view s l = record { from = omega (arith, ints); by = seen_by_here d view s l }
+
 -- ---- what worlds show up to a session
 
 -- The same as that the worlds agree, but of adjustments only what they do to each cell has to be the same.
@@ -184,40 +218,52 @@ module _ (w v : World) (d day : ℤ) (ok : IsWorld w) (ok' : IsWorld v) (agree :
 
   -- ---- values
 
-  -- equal by sid at every session up to d
-  abbrev SameBy : Meaning → Meaning → Type 0
-  SameBy f g = (a : ℕ) (s : ℤ) → s ≤ℤ d → f a s ≡ g a s
+  -- equal by sid at every session that is seen by d
+  abbrev SameBy : View → Meaning → Meaning → Type 0
+  SameBy view f g = (a : ℕ) (s : ℤ) → IsSeenBy d view s → f a s ≡ g a s
 
   -- a part tells the same of both worlds
-  part_same : (t : Term) (f g : Meaning) → SameBy f g → (size : ℕ) (s : ℤ) → s ≤ℤ d → SamePart w v size (part_of t f) (part_of t g) s
-  part_same absent f g h size s l = record { now = λ b. record { value = refl; nothing = refl }; window = λ b. refl }
-  part_same (column c) f g h size s l = record {
+  part_same : (view : View) (t : Term) (f g : Meaning) → SameBy view f g → (size : ℕ) (s : ℤ) → IsSeenBy d view s
+      → SamePart w v size (part_from view t f) (part_from view t g) s
+  part_same view absent f g h size s l = record { now = λ b. record { value = refl; nothing = refl }; window = λ b. refl }
+  part_same view (column c) f g h size s l = record {
     now = λ b. record { value = refl; nothing = refl };
-    window = λ b. ap (λ e. map e (downward size)) (fun_ext (λ n. seen_same b c (before s (suc n)) s (before-less s n) l));
+    window = λ b. ap (λ e. map e (downward size)) (fun_ext (λ n. seen_same b c (before s (suc n)) (seen_from view s) (bar_before view s n l) l.by));
   }
-  part_same (node k i x y z m p) f g h size s l = record {
+    where
+      bar_before : (view : View) (s : ℤ) (n : ℕ) → IsSeenBy d view s → before s (suc n) <ℤ seen_from view s
+      bar_before view s n l = let low : s ≤ℤ seen_from view s = l.from in omega (arith, ints)
+  part_same view (node k i x y z m p) f g h size s l = record {
     now = λ b. record { value = h b s l; nothing = refl };
-    window = λ b. ap (λ e. map e (downward size)) (fun_ext (λ n. ap number_of (h b (before s n) (before_below s n d l))));
+    window = λ b. ap (λ e. map e (downward size)) (fun_ext (λ n. ap number_of (h b (before s n) (seen-earlier d view s (before s n) (before_below s n s (omega (arith, ints))) l))));
   }
 
-  -- The law: values at sessions up to d are the same in both worlds.
-  pub values_agree : (names : List (List ℕ)) (t : Term) → SameBy (value w names t) (value v names t)
-  unfolding value
-  values_agree names absent a s l = refl
-  values_agree names (column c) a s l = refl
-  values_agree names (node k size x y z m p) a s l =
+  -- The law: what is seen by d is the same in both worlds.
+  pub seen_agree : (names : List (List ℕ)) (t : Term) (view : View) → SameBy view (seen w names t view) (seen v names t view)
+  unfolding value seen
+  seen_agree names absent view a s l = refl
+  seen_agree names (column c) view a s l = refl
+  seen_agree names (node k size x y z m p) view a s l =
       let t : Term = node k size x y z m p in
       let read : ℤ = reads_at w.days k s in
-      let by : read ≤ℤ d = omega (arith, ints, reads_at-within w.days k s) in
-      let same : SameReads w v k size (operands_of w names t) (operands_of v names t) a s = record {
-        labels = λ name. agree.labels name a s l;
-        numbers = λ name. number_same name a s l;
-        living = living_same s l;
-        reads = reads_at-same w.days v.days d (λ i h. agree.days (pos i) h) k s l;
-        first = part_same x _ _ (values_agree names x) size read by;
-        second = part_same y _ _ (values_agree names y) size read by;
-        third = part_same z _ _ (values_agree names z) size read by;
-        mask = (part_same m _ _ (values_agree names m) size s l).now;
-        group = (part_same p _ _ (values_agree names p) size s l).now;
+      let inner : View = view_of k view s in
+      let by : s ≤ℤ d = seen_by_here d view s l in
+      let own : IsSeenBy d Own s = record { from = omega (arith, ints); by = by } in
+      let here : IsSeenBy d inner read = inner-seen d w.days k view s l in
+      let same : SameReads w v k size (seen_operands w names t view s) (seen_operands v names t view s) a s = record {
+        labels = λ name. agree.labels name a s by;
+        numbers = λ name. number_same name a s by;
+        living = living_same s by;
+        reads = reads_at-same w.days v.days d (λ i h. agree.days (pos i) h) k s by;
+        first = part_same inner x _ _ (seen_agree names x inner) size read here;
+        second = part_same inner y _ _ (seen_agree names y inner) size read here;
+        third = part_same inner z _ _ (seen_agree names z inner) size read here;
+        mask = (part_same Own m _ _ (seen_agree names m Own) size s own).now;
+        group = (part_same Own p _ _ (seen_agree names p Own) size s own).now;
       } in
-      rw (agree.lifetimes a s l, passes_alike _ _ a s (same.mask a), step_alike w v names size _ _ a s k same) refl
+      rw (agree.lifetimes a s by, passes_alike _ _ a s (same.mask a), step_alike w v names size _ _ a s k same) refl
+
+  -- So values at sessions up to d are.
+  pub values_agree : (names : List (List ℕ)) (t : Term) (a : ℕ) (s : ℤ) → s ≤ℤ d → value w names t a s ≡ value v names t a s
+  unfolding value
+  values_agree names t a s l = seen_agree names t Own a s (record { from = omega (arith, ints); by = l })

@@ -12,6 +12,11 @@ pub mod Starts
 pub mod Rises
 pub mod Lows
 pub mod Reaches
+pub mod Views
+pub mod Cones
+pub mod ConeInputs
+pub mod ConeDepths
+pub mod ConeLists
 pub mod Chunks
 pub mod Ordinals
 pub mod Tops

@@ -8,7 +8,7 @@ use Rattle.pl_pipeline.specs.Kind.{Kind, CrossKind}
 use Rattle.pl_pipeline.specs.Kind.Kind.{Cross}
 use Rattle.pl_pipeline.specs.Term.{Term}
 use Rattle.pl_pipeline.specs.Term.Term.{absent, column, node}
-use Rattle.pl_pipeline.specs.Value.{Operands, part_of, number_of, holds, value_of_part, passes, in_group, entry, counts_for, eligible, group_of, sort_over, sort_kind, empty, kind_value, operands_of, value}
+use Rattle.pl_pipeline.specs.Value.{Operands, part_of, number_of, holds, value_of_part, passes, in_group, entry, counts_for, eligible, group_of, sort_over, sort_kind, empty, kind_value, View, Own, seen_operands, seen, value}
 use Rattle.pl_pipeline.specs.Value.Part.{Nothing}
 
 -- two tests that agree on what stands in a list leave the same of it
@@ -40,21 +40,23 @@ module _ (w : World) (names : List (List ℕ)) where
   IsOpen mask = (b : ℕ) (s : ℤ) → exists w b s ≡ true → holds (value w names mask b s) ≡ true
 
   passes-open : (mask : Term) → IsOpen mask → (b : ℕ) (s : ℤ) → exists w b s ≡ true → passes (part_of mask (value w names mask)) b s ≡ true
-  unfolding value
+  unfolding value seen
   passes-open absent open_to_all b s e = refl
   passes-open (column c) open_to_all b s e = open_to_all b s e
   passes-open (node k size x y z m g) open_to_all b s e = open_to_all b s e
 
+  pub seen-open : (kind : Kind) (size : ℕ) (x y z mask group : Term) → IsOpen mask → (view : View) (a : ℕ) (d : ℤ)
+      → seen w names (node kind size x y z mask group) view a d ≡ seen w names (node kind size x y z absent group) view a d
+  unfolding value seen
+  seen-open kind size x y z mask group open_to_all view a d = here (exists w a d) refl
+    where
+      here : (b : Bool) → exists w a d ≡ b
+          → cond (b && passes (part_of mask (value w names mask)) a d) (kind_value w names kind size (seen_operands w names (node kind size x y z mask group) view d) a d) (empty (sort_over kind (sort_kind x)))
+          ≡ cond (b && true) (kind_value w names kind size (seen_operands w names (node kind size x y z absent group) view d) a d) (empty (sort_over kind (sort_kind x)))
+      here false e = refl
+      here true e = rw (passes-open mask open_to_all a d e) (step-open w names (seen_operands w names (node kind size x y z mask group) view d) d (λ b f. passes-open mask open_to_all b d f) kind size a)
+
   pub value-open : (kind : Kind) (size : ℕ) (x y z mask group : Term) → IsOpen mask → (a : ℕ) (d : ℤ)
       → value w names (node kind size x y z mask group) a d ≡ value w names (node kind size x y z absent group) a d
   unfolding value
-  value-open kind size x y z mask group open_to_all a d = here (exists w a d) refl
-    where
-      o : Operands
-      o = operands_of w names (node kind size x y z mask group)
-
-      here : (b : Bool) → exists w a d ≡ b
-          → cond (b && passes o.mask a d) (kind_value w names kind size o a d) (empty (sort_over kind (sort_kind x)))
-          ≡ cond (b && true) (kind_value w names kind size (record o { mask = Nothing }) a d) (empty (sort_over kind (sort_kind x)))
-      here false e = refl
-      here true e = rw (passes-open mask open_to_all a d e) (step-open w names o d (λ b f. passes-open mask open_to_all b d f) kind size a)
+  value-open kind size x y z mask group open_to_all a d = seen-open kind size x y z mask group open_to_all Own a d

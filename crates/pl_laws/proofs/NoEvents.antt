@@ -15,7 +15,7 @@ none_between c (Some low) None = refl
 none_between c None (Some high) = refl
 none_between c None None = refl
 
-seen-raw : (w : World) (a : ℕ) (c : Column) (s d : ℤ) → events_of w a ≡ [] → seen_cell w a c s d ≡ bar_cell w a c s
+pub seen-raw : (w : World) (a : ℕ) (c : Column) (s d : ℤ) → events_of w a ≡ [] → seen_cell w a c s d ≡ bar_cell w a c s
 unfolding seen_cell
 seen-raw w a c s d e =
     ap (λ es. after_all (bar_cell w a c s) (effects_from c (day_of w s) (day_of w d) es)) e

@@ -8,7 +8,7 @@ use Rattle.pl_spec.specs.World.{World, Bar}
 use Rattle.pl_spec.specs.Window.{effects, after_all, seen_cell, before, downward}
 use Rattle.pl_pipeline.specs.Term.{Term}
 use Rattle.pl_pipeline.specs.Term.Term.{absent, column, node}
-use Rattle.pl_pipeline.specs.Value.{Meaning, part_of, number_of, operands_of, value}
+use Rattle.pl_pipeline.specs.Value.{Meaning, View, Own, seen_from, part_from, number_of, view_of, seen_operands, seen, value}
 use Rattle.pl_pipeline.specs.Graph.{least_of, part_reach, reads_at, reach}
 use Rattle.pl_pipeline.specs.Reaching.{HasWindows, SameBarsFrom}
 use Rattle.pl_spec.proofs.Windows.{map-downward, before-zero}
@@ -52,14 +52,14 @@ module _ (w : World) (bars : List Bar) (low : ℤ) (same : SameBarsFrom w (recor
   abbrev SameWithin : Term → Meaning → Meaning → Type 0
   SameWithin t f g = (a : ℕ) (d : ℤ) → low ≤ℤ reach w.days t d → f a d ≡ g a d
 
-  part_same : (t : Term) (f g : Meaning) (size : ℕ) (d : ℤ) → 1 ≤ size → SameWithin t f g → low ≤ℤ part_reach t (reach w.days t) size d
-      → SamePart w other size (part_of t f) (part_of t g) d
-  part_same absent f g size d some e h = record { now = λ b. record { value = refl; nothing = refl }; window = λ b. refl }
-  part_same (column c) f g size d some e h = record {
+  part_same : (view : View) (t : Term) (f g : Meaning) (size : ℕ) (d : ℤ) → 1 ≤ size → SameWithin t f g → low ≤ℤ part_reach t (reach w.days t) size d
+      → SamePart w other size (part_from view t f) (part_from view t g) d
+  part_same view absent f g size d some e h = record { now = λ b. record { value = refl; nothing = refl }; window = λ b. refl }
+  part_same view (column c) f g size d some e h = record {
     now = λ b. record { value = refl; nothing = refl };
-    window = λ b. map-downward _ _ size (λ n l. seen_same b c (before d (suc n)) d (omega (arith, ints)));
+    window = λ b. map-downward _ _ size (λ n l. seen_same b c (before d (suc n)) (seen_from view d) (omega (arith, ints)));
   }
-  part_same (node k i x y z m p) f g size d some e h =
+  part_same view (node k i x y z m p) f g size d some e h =
       let from = at_downward low (λ s. reach w.days (node k i x y z m p) (before d s)) size (below_least low d _ h).1 in
       let now = from 0 (omega arith) in
       record {
@@ -67,24 +67,29 @@ module _ (w : World) (bars : List Bar) (low : ℤ) (same : SameBarsFrom w (recor
         window = λ b. map-downward _ _ size (λ n l. ap number_of (e b (before d n) (from n l)));
       }
 
-  -- The law: a value stays where the bars from the term's reach on do.
-  pub reach-enough : (names : List (List ℕ)) (t : Term) → HasWindows t → SameWithin t (value w names t) (value other names t)
-  unfolding value reach
-  reach-enough names absent ok a d h = refl
-  reach-enough names (column c) ok a d h = refl
-  reach-enough names (node k size x y z m p) ok a d h =
+  -- The law: a value stays where the bars from the term's reach on do, from wherever it is seen.
+  pub reach-enough : (names : List (List ℕ)) (t : Term) → HasWindows t → (view : View) → SameWithin t (seen w names t view) (seen other names t view)
+  unfolding value seen reach
+  reach-enough names absent ok view a d h = refl
+  reach-enough names (column c) ok view a d h = refl
+  reach-enough names (node k size x y z m p) ok view a d h =
       let t : Term = node k size x y z m p in
       let read : ℤ = reads_at w.days k d in
+      let inner : View = view_of k view d in
       let parts = below_least low d (part_reach x (reach w.days x) size read ∷ part_reach y (reach w.days y) size read ∷ part_reach z (reach w.days z) size read ∷ part_reach m (reach w.days m) 1 d ∷ part_reach p (reach w.days p) 1 d ∷ []) h in
-      let same : SameReads w other k size (operands_of w names t) (operands_of other names t) a d = record {
+      let same : SameReads w other k size (seen_operands w names t view d) (seen_operands other names t view d) a d = record {
         labels = λ name. refl;
         numbers = λ name. refl;
         living = refl;
         reads = refl;
-        first = part_same x _ _ size read ok.0 (reach-enough names x ok.1) parts.1.0;
-        second = part_same y _ _ size read ok.0 (reach-enough names y ok.2) parts.1.1.0;
-        third = part_same z _ _ size read ok.0 (reach-enough names z ok.3) parts.1.1.1.0;
-        mask = (part_same m _ _ 1 d (omega arith) (reach-enough names m ok.4) parts.1.1.1.1.0).now;
-        group = (part_same p _ _ 1 d (omega arith) (reach-enough names p ok.5) parts.1.1.1.1.1.0).now;
+        first = part_same inner x _ _ size read ok.0 (reach-enough names x ok.1 inner) parts.1.0;
+        second = part_same inner y _ _ size read ok.0 (reach-enough names y ok.2 inner) parts.1.1.0;
+        third = part_same inner z _ _ size read ok.0 (reach-enough names z ok.3 inner) parts.1.1.1.0;
+        mask = (part_same Own m _ _ 1 d (omega arith) (reach-enough names m ok.4 Own) parts.1.1.1.1.0).now;
+        group = (part_same Own p _ _ 1 d (omega arith) (reach-enough names p ok.5 Own) parts.1.1.1.1.1.0).now;
       } in
       rw (passes_alike _ _ a d (same.mask a), step_alike w other names size _ _ a d k same) refl
+
+  pub reach-value : (names : List (List ℕ)) (t : Term) → HasWindows t → SameWithin t (value w names t) (value other names t)
+  unfolding value
+  reach-value names t ok = reach-enough names t ok Own

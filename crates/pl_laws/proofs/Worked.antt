@@ -3,6 +3,7 @@ pub mod Worlds
 pub mod Numbers
 pub mod Adjusting
 pub mod Windows
+mod Views
 pub mod Pointwise
 pub mod Elementary
 pub mod Crossing

@@ -11,7 +11,7 @@ use Rattle.pl_spec.specs.Agree.{Agree}
 use Rattle.pl_pipeline.specs.Kind.{Kind}
 use Rattle.pl_pipeline.specs.Term.{Term, Node, Graph, IsGraph, term_at}
 use Rattle.pl_pipeline.specs.Term.Term.{absent, node}
-use Rattle.pl_pipeline.specs.NodeValue.{meaning_of, node_value}
+use Rattle.pl_pipeline.specs.NodeValue.{meaning_of, node_value, ReadsSteady}
 use Rattle.pl_pipeline.specs.Value.{Meaning, number_of, holds, window_of, value}
 use Rattle.pl_pipeline.specs.Value.Part.{Values}
 
@@ -72,7 +72,8 @@ TablesConcatenate = (w : World) (p : Pipeline) (from mid to : ℕ) → from ≤ 
     → table w p from to ≡ table w p from mid ++ table w p (suc mid) to
 
 -- the equation by which a program computes term after term: a numbered term is worth what its node gives over
--- lower numbers
+-- lower numbers, where its windows hold bars or steady terms
 abbrev pub NodesUnfold : Type 0
 NodesUnfold = (w : World) (names : List (List ℕ)) (g : Graph) (k : ℕ) (n : Node) → IsGraph g → slice_get g k ≡ Some n
+    → ReadsSteady g n
     → (a : ℕ) (d : ℤ) → meaning_of w names g k a d ≡ node_value w names g n a d

@@ -9,6 +9,10 @@ ghost use Rattle.pl_laws.specs.PermutedLaws.{AgreeingWorldsAreAlike, OrderChange
 ghost use Rattle.pl_laws.specs.PermutedLaws.{TableRowsInAnyOrder};
 ghost use Rattle.pl_laws.specs.LowLaws.{StartsAreFirst, ReachesRise, ReachIsEnough, LowsCover, ReachesCover, ReachesMeet};
 ghost use Rattle.pl_laws.specs.DateLaws.{DatesAreRead, DatesAreWritten, DaysHaveOneDate};
+ghost use Rattle.pl_laws.specs.SeenLaws.{SeenAgree, NodesAreSeen, SeenFromItself, SteadyTermsStay};
+ghost use Rattle.pl_laws.specs.SeenLaws.{StillAssetsStay, StretchesHold, QuietAssetsAreStill};
+ghost use Rattle.pl_laws.specs.SeenLaws.{LatestIsTheColumn, SeenIsAsIf, ConesAreNeeded, ConesAreListed};
+ghost use Rattle.pl_laws.specs.SeenLaws.{DepthsAreGreatest, SteadyWindowsHaveNoCones};
 ghost use Rattle.pl_laws.specs.SidLaws.{SidsAreRead};
 
 /// The rounded quotient is the one nearest number.
@@ -115,6 +119,72 @@ pub fn open_masks_change_nothing()
 /// No bar before a term's reach counts for its value.
 pub fn reach_is_enough()
     ensures { ReachIsEnough }
+{}
+
+/// What came to be known later changes nothing that is seen from an earlier session.
+pub fn seen_agree()
+    ensures { SeenAgree }
+{}
+
+/// A numbered term, as it is seen, has the value that its node gives over lower numbers, as they are seen.
+pub fn nodes_are_seen()
+    ensures { NodesAreSeen }
+{}
+
+/// From its own session a term is seen as it is.
+pub fn seen_from_itself()
+    ensures { SeenFromItself }
+{}
+
+/// A term that keeps its values, or is of such terms alone, is the same from wherever it is seen.
+pub fn steady_terms_stay()
+    ensures { SteadyTermsStay }
+{}
+
+/// While an asset's bars stand still, so do the values of its terms.
+pub fn still_assets_stay()
+    ensures { StillAssetsStay }
+{}
+
+/// On a stretch of sessions without adjustments the part of a window before it is seen as on its first
+/// session, and the part on it is as it is.
+pub fn stretches_hold()
+    ensures { StretchesHold }
+{}
+
+/// An asset without adjustments between two sessions stands still between them.
+pub fn quiet_assets_are_still()
+    ensures { QuietAssetsAreStill }
+{}
+
+/// A window over the latest cells of a column is the window over the column, while the asset exists.
+pub fn latest_is_the_column()
+    ensures { LatestIsTheColumn }
+{}
+
+/// What is computed anew, and what that reads, is computed in any case.
+pub fn cones_are_needed()
+    ensures { ConesAreNeeded }
+{}
+
+/// The lists of what is computed anew, and of what that reads, have exactly their terms.
+pub fn cones_are_listed()
+    ensures { ConesAreListed }
+{}
+
+/// The listed depths are the greatest.
+pub fn depths_are_greatest()
+    ensures { DepthsAreGreatest }
+{}
+
+/// Where all windows hold bars or steady terms, nothing is computed anew.
+pub fn steady_windows_have_no_cones()
+    ensures { SteadyWindowsHaveNoCones }
+{}
+
+/// What is seen from a session is what would have been, had the bars been as they are seen on it.
+pub fn seen_is_as_if()
+    ensures { SeenIsAsIf }
 {}
 
 /// A period starts with the first session of it, and later sessions are of no earlier period.

@@ -8,6 +8,7 @@ pub mod Greatest
 pub mod Edges
 pub mod Distinct
 pub mod Filters
+pub mod Steady
 pub mod Unfolds
 pub mod Trees
 pub mod SameOperands

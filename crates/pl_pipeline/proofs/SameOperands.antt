@@ -23,13 +23,13 @@ pub record Alike (x y : Part) (b : ℕ) (d : ℤ) : Type 0 where
 
 passes-is : (x : Part) (b : ℕ) (d : ℤ) → passes x b d ≡ (if is_nothing x then true else holds (value_of_part x b d))
 passes-is Nothing b d = refl
-passes-is (Bars c) b d = refl
+passes-is (Bars c view) b d = refl
 passes-is (Values f) b d = refl
 
 in_group-is : (x : Part) (a b : ℕ) (d : ℤ)
     → in_group x a d b ≡ (if is_nothing x then true else (is_present (number_of (value_of_part x a d)) && is_same (value_of_part x a d) (value_of_part x b d)))
 in_group-is Nothing a b d = refl
-in_group-is (Bars c) a b d = refl
+in_group-is (Bars c view) a b d = refl
 in_group-is (Values f) a b d = refl
 
 pub passes_alike : (x y : Part) (b : ℕ) (d : ℤ) → Alike x y b d → passes x b d ≡ passes y b d

@@ -10,6 +10,7 @@ pub mod Value
 pub mod NodeValue
 pub mod Table
 pub mod Graph
+pub mod Cones
 pub mod Reaching
 pub mod Lows
 pub mod Text

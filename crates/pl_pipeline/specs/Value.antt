@@ -1,18 +1,18 @@
 -- The value of a term for an asset on a session, computed by itself from bars before the session and
 -- adjustments effective by then.
-use Rattle.std.specs.Prelude.{ℕ, Bool, true, false, ◌&&◌, if◌then◌else◌, ◌==◌, ℤ, pos, List, [], map, filter, Option, Some, None, unwrap_or, slice_get, bytes_eq}
+use Rattle.std.specs.Prelude.{ℕ, suc, Bool, true, false, not, ◌&&◌, ◌||◌, if◌then◌else◌, ◌==◌, ℤ, pos, List, [], map, filter, Option, Some, None, unwrap_or, slice_get, bytes_eq}
 use Rattle.std.specs.List.{list_any}
 use Rattle.std.specs.Ordering.{int_eq}
 use Rattle.pl_spec.specs.Rounding.{MISSING, is_present}
 use Rattle.pl_spec.specs.declared.Column.{Column}
 use Rattle.pl_spec.specs.World.{World, exists, living_sids, label_at, known_number}
-use Rattle.pl_spec.specs.Window.{before, downward, bar_window}
+use Rattle.pl_spec.specs.Window.{seen_cell, before, downward}
 use Rattle.pl_spec.specs.Periods.{period_start}
 use Rattle.pl_pipeline.specs.Kind as kind
 use Rattle.pl_pipeline.specs.Kind.{Kind, PointKind, LabelKind, CrossKind}
 use Rattle.pl_pipeline.specs.declared.WindowKind.{WindowKind}
 use Rattle.pl_pipeline.specs.Kind.Kind.{Constant, Label, StaticSids, Window, Point, LabelTest, Cross, Downsample}
-use Rattle.pl_pipeline.specs.declared.WindowKind.TheVariants.{All, Any, AtLeastN, AllPresent}
+use Rattle.pl_pipeline.specs.declared.WindowKind.TheVariants.{Returns, PercentChange, RateOfChangePercentage, RSI, FastStochasticOscillator, AroonUp, AroonDown, All, Any, AtLeastN, AllPresent}
 use Rattle.pl_pipeline.specs.Kind.PointKind.{Add, Sub, Mul, Div, Neg, Abs, Clip, FillNa, IfElse, Log, Exp, Sqrt, Sign, Maximum, Minimum}
 use Rattle.pl_pipeline.specs.Kind.CrossKind.{Top, Bottom, PercentileBetween, PeerCount}
 use Rattle.pl_spec.specs.Cells.{truth, is_true}
@@ -45,26 +45,44 @@ is_same v u = false
 abbrev pub Meaning : Type 0
 Meaning = ℕ → ℤ → Value
 
+-- From where values are seen: each from its own session, or all from one session.
+pub data View : Type 0 where
+  Own : View
+  From : ℤ → View
+
+-- the session from which a value of session d is seen
+abbrev pub seen_from : View → ℤ → ℤ
+seen_from Own d = d
+seen_from (From v) d = v
+
 -- what stands in a term's place for an input, a mask or a group
 pub data Part : Type 0 where
   Nothing : Part
-  Bars : Column → Part
+  Bars : Column → View → Part
   Values : Meaning → Part
 
+-- the part of a term with this meaning in a view
+abbrev pub part_from : View → Term → Meaning → Part
+part_from view absent f = Nothing
+part_from view (column c) f = Bars c view
+part_from view (node k size x y z m g) f = Values f
+
 abbrev pub part_of : Term → Meaning → Part
-part_of absent f = Nothing
-part_of (column c) f = Bars c
-part_of (node k size x y z m g) f = Values f
+part_of t f = part_from Own t f
 
 -- the value of a part on the session
 abbrev pub value_of_part : Part → Meaning
 value_of_part (Values f) a d = f a d
 value_of_part p a d = Number MISSING
 
+-- the bars of the sessions before d, oldest first, each seen on session v
+abbrev pub seen_window : World → Column → ℕ → ℕ → ℤ → ℤ → List ℤ
+seen_window w c size a d v = map (λ n. seen_cell w a c (before d (suc n)) v) (downward size)
+
 -- the window of a part: of bars the sessions before d, of values those up to d
 abbrev pub window_of : World → ℕ → Part → ℕ → ℤ → List ℤ
 window_of w size Nothing a d = []
-window_of w size (Bars c) a d = bar_window w c size a d
+window_of w size (Bars c view) a d = seen_window w c size a d (seen_from view d)
 window_of w size (Values f) a d = map (λ n. number_of (f a (before d n))) (downward size)
 
 -- without a mask every asset passes
@@ -143,6 +161,34 @@ is_filter (LabelTest k) = true
 is_filter (Cross k) = is_cross_filter k
 is_filter k = false
 
+-- formulas that give no price and no volume, but a change or a place in the window: these, and filters, keep
+-- the values that they had on their own sessions
+abbrev pub is_change : WindowKind → Bool
+is_change Returns = true
+is_change PercentChange = true
+is_change RateOfChangePercentage = true
+is_change RSI = true
+is_change FastStochasticOscillator = true
+is_change AroonUp = true
+is_change AroonDown = true
+is_change k = false
+
+abbrev pub keeps_window : WindowKind → Bool
+keeps_window k = is_window_filter k || is_change k
+
+-- the sign of a value and filters keep the values of their own sessions
+abbrev pub keeps_point : PointKind → Bool
+keeps_point Sign = true
+keeps_point k = is_point_filter k
+
+-- From where a kind sees its inputs for session d, where it is itself seen from somewhere: a formula sees its
+-- whole window from one session, and an operation what it is of from where it is seen itself. What keeps its
+-- values sees from its own session.
+abbrev pub view_of : Kind → View → ℤ → View
+view_of (Window k) view d = From (if keeps_window k then d else seen_from view d)
+view_of (Point k) view d = if keeps_point k then Own else view
+view_of k view d = Own
+
 -- the kind whose sort a term has: that of its input where it is downsampled, else its own
 abbrev pub sort_over : Kind → Kind → Kind
 sort_over (Downsample f) input = input
@@ -190,20 +236,39 @@ kind_value w names (Cross k) size operands a d =
     else empty (Cross k)
 kind_value w names (Downsample f) size operands a d = value_of_part operands.first a (period_start f w.days d)
 
-unfoldable pub value : World → List (List ℕ) → Term → Meaning
-value w names absent a d = Number MISSING
-value w names (column c) a d = Number MISSING
-value w names (node k size x y z m g) a d =
+-- what a term is worth in a view
+unfoldable pub seen : World → List (List ℕ) → Term → View → Meaning
+seen w names absent view a d = Number MISSING
+seen w names (column c) view a d = Number MISSING
+seen w names (node k size x y z m g) view a d =
+    let inner : View = view_of k view d in
     let operands : Operands = record {
-      first = part_of x (value w names x);
-      second = part_of y (value w names y);
-      third = part_of z (value w names z);
-      mask = part_of m (value w names m);
-      group = part_of g (value w names g);
+      first = part_from inner x (seen w names x inner);
+      second = part_from inner y (seen w names y inner);
+      third = part_from inner z (seen w names z inner);
+      mask = part_of m (seen w names m Own);
+      group = part_of g (seen w names g Own);
     } in
     if exists w a d && passes operands.mask a d then kind_value w names k size operands a d else empty (sort_over k (sort_kind x))
 
--- what the kind of a term reads
+-- the value of a term: what it is worth from its own session
+unfoldable pub value : World → List (List ℕ) → Term → Meaning
+value w names t = seen w names t Own
+
+-- what a term reads for session d in a view
+abbrev pub seen_operands : World → List (List ℕ) → Term → View → ℤ → Operands
+seen_operands w names (node k size x y z m g) view d =
+    let inner : View = view_of k view d in
+    record {
+      first = part_from inner x (seen w names x inner);
+      second = part_from inner y (seen w names y inner);
+      third = part_from inner z (seen w names z inner);
+      mask = part_of m (value w names m);
+      group = part_of g (value w names g);
+    }
+seen_operands w names t view d = record { first = Nothing; second = Nothing; third = Nothing; mask = Nothing; group = Nothing }
+
+-- the values that a term is of, each from its own session
 abbrev pub operands_of : World → List (List ℕ) → Term → Operands
 operands_of w names (node k size x y z m g) = record {
   first = part_of x (value w names x);
@@ -213,3 +278,15 @@ operands_of w names (node k size x y z m g) = record {
   group = part_of g (value w names g);
 }
 operands_of w names t = record { first = Nothing; second = Nothing; third = Nothing; mask = Nothing; group = Nothing }
+
+abbrev pub is_bars : Term → Bool
+is_bars (column c) = true
+is_bars t = false
+
+-- a term whose values are the same from wherever they are seen: it keeps them, or is a formula or an
+-- operation of such terms alone
+abbrev pub is_steady : Term → Bool
+is_steady (node (Window k) size x y z m g) =
+    keeps_window k || (is_steady x && is_steady y && is_steady z && not (is_bars x || is_bars y || is_bars z))
+is_steady (node (Point k) size x y z m g) = keeps_point k || (is_steady x && is_steady y && is_steady z)
+is_steady t = true

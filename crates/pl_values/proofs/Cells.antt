@@ -38,7 +38,7 @@ module _ (w : World) (p : Pipeline) (sids : List ℕ) (ok : IsChecked p) where
     pub keeps-is : (exists w a (pos s) && passes (number_part w p.names p.graph n.mask) a (pos s)) ≡ is_kept w p sids n.mask i s
     keeps-is = passes_is n.mask (λ m e. filter-sort (sort_at p.graph m) (optional-sort p.graph (has_mask n.kind) Place.Filter n.mask m (ok.nodes k n is).mask e))
 
-    empty-tree : empty (sort_over n.kind (sort_kind (input_tree (trees p.graph) (slice_get n.inputs 0)))) ≡ Number (empty_cell p k)
+    pub empty-tree : empty (sort_over n.kind (sort_kind (input_tree (trees p.graph) (slice_get n.inputs 0)))) ≡ Number (empty_cell p k)
     empty-tree = empty_is (sort_over n.kind (sort_kind (input_tree (trees p.graph) (slice_get n.inputs 0)))) ∙ ap (λ t. Number (number_of (empty (sort_kind t)))) (sym (term_at-node p.graph k n ok.graph is))
 
     value-is : value_of w p k a (pos s) ≡ (if is_kept w p sids n.mask i s then stepped else Number (empty_cell p k))

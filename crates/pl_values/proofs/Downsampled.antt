@@ -12,6 +12,7 @@ use Rattle.pl_pipeline.specs.Value.{Value, passes, value_of_part, empty, sort_ov
 use Rattle.pl_pipeline.specs.NodeValue.{node_value, input_part, number_part, node_operands}
 use Rattle.pl_pipeline.specs.Table.{Pipeline, value_of}
 use Rattle.pl_pipeline.proofs.Unfolds.{value_at-node}
+use Rattle.pl_terms.proofs.Steady.{checked-steady}
 use Rattle.pl_pipeline.proofs.Trees.{term_at-node}
 use Rattle.pl_terms.specs.Checked.{IsChecked}
 use Rattle.pl_terms.specs.Sorts.{Sort, AnyTerm, sort_of, sort_at, is_downsampled, first_term, places, fits, takes_sort}
@@ -57,7 +58,7 @@ module _ (p : Pipeline) (ok : IsChecked p) where
 
 module _ (w : World) (p : Pipeline) (ok : IsChecked p) where
   pub value-node : (k : ℕ) (n : Node) → slice_get p.graph k ≡ Some n → (a : ℕ) (d : ℤ) → value_of w p k a d ≡ node_value w p.names p.graph n a d
-  value-node k n is a d = value_at-node w p.names p.graph ok.graph k n is a d
+  value-node k n is a d = value_at-node w p.names p.graph ok.graph k n is (checked-steady p ok k n is) a d
 
   pub downsampled-value : (t : ℕ) (m : Node) → slice_get p.graph t ≡ Some m → (o : IsOver p ok t m) → (a : ℕ) (d : ℤ)
       → value_of w p t a d ≡ (if exists w a d && passes (number_part w p.names p.graph m.mask) a d then value_of w p o.input a (period_start o.frequency w.days d) else empty (kind_at p.graph t))

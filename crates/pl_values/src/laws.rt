@@ -1,6 +1,7 @@
 //! What the cells of a numbered term are, over the cells of the terms that it mentions. The functions do
 //! nothing: the contract of each is a law.
 ghost use Rattle.pl_values.specs.Laws.{UnkeptCells, ConstantCells, WindowCells, PointCells, PointOperands, SidCells, LabelCells, NumberCells, LabelTestCells, SectionCells, DownsampledCells, FilterCells, TextsHaveCodes};
+ghost use Rattle.pl_values.specs.Views.{SeenWindowCells, SeenPointCells};
 
 /// In a checked pipeline the cell of a term for an asset on a session is the empty one where the asset does
 /// not exist or does not pass the term's mask, and else what the call of its kind's family gives over the
@@ -17,6 +18,12 @@ pub fn cells_are_given()
     ensures label_tests { LabelTestCells }
     ensures sections { SectionCells }
     ensures downsampled { DownsampledCells }
+{}
+
+/// What a formula or an operation that moves is seen as from a session, over what its inputs are seen as.
+pub fn cells_are_seen()
+    ensures windows { SeenWindowCells }
+    ensures points { SeenPointCells }
 {}
 
 /// The cells of a filter are 0 and 1.

@@ -16,6 +16,7 @@ use Rattle.pl_spec.specs.World.{World, exists, known_number}
 use Rattle.pl_pipeline.specs.Table.{Pipeline, value_of}
 use Rattle.pl_spec.proofs.Ranges.{range-more, range-next}
 use Rattle.pl_pipeline.proofs.Unfolds.{value_at-node}
+use Rattle.pl_terms.proofs.Steady.{checked-steady}
 use Rattle.pl_terms.specs.declared.node.Node as code
 use Rattle.pl_terms.specs.Checked.{IsChecked}
 use Rattle.pl_terms.specs.Kinds.{kind_of}
@@ -65,7 +66,7 @@ module _ (w : World) (p : Pipeline) (ok : IsChecked p) (t name : ℕ) (is : IsNu
   present-is : (a s : ℕ) → is_present (number_of (value_of w p t a (pos s))) ≡ (exists w a (pos s) && is_present (known_number w (name_at p.names name) a (pos s)))
   unfolding kind_value
   present-is a s =
-      ap (λ v. is_present (number_of v)) (value_at-node w p.names p.graph ok.graph t is.node is.at a (pos s))
+      ap (λ v. is_present (number_of v)) (value_at-node w p.names p.graph ok.graph t is.node is.at (checked-steady p ok t is.node is.at) a (pos s))
       ∙ rw (unmasked, is.kind) (here (exists w a (pos s)) (known_number w (name_at p.names name) a (pos s)))
     where
       here : (b : Bool) (x : ℤ) → is_present (number_of (if b && true then values.Number x else values.Number MISSING)) ≡ (b && is_present x)

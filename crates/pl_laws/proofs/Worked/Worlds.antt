@@ -22,7 +22,7 @@ use Rattle.pl_pipeline.specs.Pointwise.{pointwise, label_test}
 use Rattle.pl_pipeline.specs.Cross.{cross}
 use Rattle.pl_pipeline.specs.Term.{Term, Input, Node, Graph}
 use Rattle.pl_pipeline.specs.Term.Term.{absent, column, node}
-use Rattle.pl_pipeline.specs.Value.{Value, value, kind_value}
+use Rattle.pl_pipeline.specs.Value.{Value, seen, value, kind_value}
 use Rattle.pl_pipeline.specs.Table.{NamedColumn, Pipeline, table}
 use Rattle.pl_pipeline.specs.Graph.{reach}
 use Rattle.pl_spec.specs.Periods.{month_number, period_start}
@@ -30,7 +30,7 @@ use Rattle.pl_pipeline.specs.Text.{text}
 
 -- a proof that unfolds this opens all that the examples compute with
 unfoldable pub opened : Unit {0}
-unfolding div_round to_cell quot add sub mul div neg scaled root_by isqrt seen_cell formula size_by log_bits log series exp sqrt sign maximum minimum pointwise label_test cross kind_value value reach month_number period_start decimal_digits digits date_text cell_text text
+unfolding div_round to_cell quot add sub mul div neg scaled root_by isqrt seen_cell formula size_by log_bits log series exp sqrt sign maximum minimum pointwise label_test cross kind_value seen value reach month_number period_start decimal_digits digits date_text cell_text text
 opened = tt
 
 -- ---- worlds
