@@ -11,7 +11,7 @@ refused=0
 # shellcheck disable=SC2016  # backquotes of the page
 while IFS= read -r line; do
     # a screen alone is no pipeline
-    printf 'pipeline 3;\n%s\ncolumn one = 1;\n' "$line" > "$folder/p.pl"
+    printf 'pipeline 4;\n%s\ncolumn one = 1;\n' "$line" > "$folder/p.pl"
     examples=$((examples + 1))
     if ! "$program" check "$folder/p.pl" > "$folder/out" 2> "$folder/err"; then
         refused=$((refused + 1))
