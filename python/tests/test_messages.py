@@ -125,7 +125,7 @@ class Fundamentals(DataSet):
             for name in (
                 "SimpleBeta",
                 "RollingSpearman",
-                "RollingPearson",
+                "RollingPearsonOfReturns",
                 "RollingLinearRegressionOfReturns",
                 "EWMSTD",
                 "BusinessDaysUntilNextEvent",

@@ -83,6 +83,7 @@ unfoldable in_window : Parameter → Bool
 in_window parameter.BarColumn = true
 in_window parameter.X = true
 in_window parameter.Weights = true
+in_window parameter.Y = true
 in_window parameter.WindowFilter = true
 in_window p = false
 
@@ -104,6 +105,7 @@ unfolding in_window takes is_safe_for
 place-safe g parameter.BarColumn v j w t s k e = absurd (bars-input v j t e)
 place-safe g parameter.X v j w t s k e = value-safe g v j k s e
 place-safe g parameter.Weights v j w t s k e = value-safe g v j k s e
+place-safe g parameter.Y v j w t s k e = value-safe g v j k s e
 place-safe g parameter.WindowFilter v j w t s k e = value-safe g v j k (filter-safe v t) e
 place-safe g p v j w t s k e = absurd (let no : false ≡ true = w in cc)
 

@@ -13,6 +13,7 @@ ghost use Rattle.pl_factors.specs.Lanes.{AreGiven, AreValues, TakesLanes, weight
 ghost use Rattle.pl_factors.specs.Spans.{TakesSpans, TakesWindows, after, before, takes_range};
 
 use crate::faded::{faded_weights, mean_by};
+use crate::regressions::{fill_regressions, is_regression};
 use crate::running::{Running, keeps};
 use crate::starts::sums_of;
 use crate::steps::next_sums;
@@ -57,7 +58,7 @@ fn slides(kind: &TermKind, size: usize, a: &[i64], b: &[i64], c: &[i64]) -> bool
 }
 
 // The window that begins with a cell, of a list that has it or no cell at all.
-fn window_at(cells: &[i64], k: usize, size: usize) -> &[i64]
+pub(crate) fn window_at(cells: &[i64], k: usize, size: usize) -> &[i64]
     requires { 0 < length cells.now → k + size ≤ length cells.now }
     ensures { result.now ≡ window_at size k cells.now }
 {
@@ -225,6 +226,8 @@ pub fn fill_values(kind: &TermKind, size: usize, a: &[i64], b: &[i64], c: &[i64]
             TermKind::SimpleMovingAverage => fill_means(size, a, out),
             _ => fill_slid(kind, size, a, b, c, out),
         }
+    } else if is_regression(kind) && size > 0 && is_filled(size, a, out) && !b.is_empty() {
+        fill_regressions(kind, size, a, b, out);
     } else {
         match kind {
             TermKind::ExponentialWeightedMovingAverage { decay } if is_filled(size, a, out) =>

@@ -148,6 +148,11 @@ pub fn keeps(kind: &TermKind) -> bool
         | TermKind::PercentChange
         | TermKind::RateOfChangePercentage
         | TermKind::ExponentialWeightedMovingAverage { .. }
+        | TermKind::Correlation
+        | TermKind::Covariance
+        | TermKind::RegressionSlope
+        | TermKind::RegressionIntercept
+        | TermKind::RegressionError
         | TermKind::TrueRange => false,
         _ => true,
     }

@@ -9,4 +9,8 @@ pub mod Compared
 pub mod Ranked
 pub mod Restated
 pub mod Restating
+pub mod Ring
+pub mod Schwarz
+pub mod Bounded
+pub mod Paired
 pub mod Worked

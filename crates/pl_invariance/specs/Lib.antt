@@ -7,3 +7,4 @@ pub mod Priced
 pub mod Compared
 pub mod Ranked
 pub mod Restated
+pub mod Paired

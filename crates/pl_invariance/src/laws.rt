@@ -2,6 +2,7 @@
 ghost use Rattle.pl_invariance.specs.Absent.{AbsentAssetsChangeNothing};
 ghost use Rattle.pl_invariance.specs.Alone.{NumbersStandAlone};
 ghost use Rattle.pl_invariance.specs.Compared.{ChangesHaveNoUnit};
+ghost use Rattle.pl_invariance.specs.Paired.{CorrelationsAreBounded, PairsHaveNoOrder, ValuesExplainThemselves};
 ghost use Rattle.pl_invariance.specs.Priced.{PricesHaveUnits};
 ghost use Rattle.pl_invariance.specs.Ranked.{RanksHaveNoUnit};
 ghost use Rattle.pl_invariance.specs.Renamed.{SidsAreNames};
@@ -53,6 +54,23 @@ pub fn changes_have_no_unit()
 /// which know of values only which of two is the smaller.
 pub fn ranks_have_no_unit()
     ensures { RanksHaveNoUnit }
+{}
+
+/// A correlation lies between -1 and 1, by Cauchy and Schwarz. It guards the sums of pairs and the rounding
+/// of the root, which leads past neither.
+pub fn correlations_are_bounded()
+    ensures { CorrelationsAreBounded }
+{}
+
+/// A correlation and a covariance are the same with the two inputs swapped. It guards the sums of pairs.
+pub fn pairs_have_no_order()
+    ensures { PairsHaveNoOrder }
+{}
+
+/// The correlation of values with themselves is 1, and so is the slope, unless all of them are equal. It
+/// guards the sign of the root, and which of the two inputs a regression divides by.
+pub fn values_explain_themselves()
+    ensures { ValuesExplainThemselves }
 {}
 
 /// Each world can be restated so, whichever of an asset's ratios is left out.

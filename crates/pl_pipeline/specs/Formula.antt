@@ -1,13 +1,13 @@
 -- The formulas over a window: each is a sum, a greatest or least, a count or a quotient over plain lists,
 -- oldest first.
-use Rattle.std.specs.Prelude.{ℕ, zero, suc, ◌+◌, ◌-◌, ◌*◌, ◌/◌, ◌&&◌, if◌then◌else◌, ◌==◌, nat_le, ℤ, pos, ◌+ℤ◌, ◌-ℤ◌, ◌*ℤ◌, neg_ℤ, List, [], ◌∷◌, length, map, filter, drop, unwrap_or, sum_by, count_by, get_or, position, zip}
+use Rattle.std.specs.Prelude.{ℕ, zero, suc, ◌+◌, ◌-◌, ◌*◌, ◌/◌, ◌^◌, ◌&&◌, if◌then◌else◌, ◌==◌, nat_le, ℤ, pos, ◌+ℤ◌, ◌-ℤ◌, ◌*ℤ◌, neg_ℤ, List, [], ◌∷◌, length, map, filter, drop, unwrap_or, sum_by, count_by, get_or, position, zip}
 use Rattle.std.specs.List.{list_any, list_all, range_with_len}
 use Rattle.std.specs.Int.RustNames.{unsigned_abs, int_lt}
 use Rattle.std.specs.Ordering.{int_eq}
-use Rattle.pl_spec.specs.Rounding.{MISSING, MILLION, is_missing, is_present, to_cell, quot, of_both, add, sub, mul, div_round, isqrt}
+use Rattle.pl_spec.specs.Rounding.{MISSING, MILLION, is_missing, is_present, to_cell, quot, of_both, add, sub, mul, neg, div_round, isqrt}
 use Rattle.pl_spec.specs.Window.{downward}
 use Rattle.pl_pipeline.specs.declared.WindowKind.{WindowKind}
-use Rattle.pl_pipeline.specs.declared.WindowKind.TheVariants.{Latest, SimpleMovingAverage, LinearWeightedMovingAverage, WindowSum, WindowMax, WindowMin, WindowStd, BollingerMiddle, BollingerLower, BollingerUpper, Returns, PercentChange, RateOfChangePercentage, RSI, VWAP, AverageDollarVolume, WeightedAverageValue, FastStochasticOscillator, TrueRange, ExponentialWeightedMovingAverage, AroonUp, AroonDown, All, Any, AtLeastN, AllPresent}
+use Rattle.pl_pipeline.specs.declared.WindowKind.TheVariants.{Latest, SimpleMovingAverage, LinearWeightedMovingAverage, WindowSum, WindowMax, WindowMin, WindowStd, BollingerMiddle, BollingerLower, BollingerUpper, Returns, PercentChange, RateOfChangePercentage, RSI, VWAP, AverageDollarVolume, WeightedAverageValue, FastStochasticOscillator, TrueRange, ExponentialWeightedMovingAverage, AroonUp, AroonDown, Correlation, Covariance, RegressionSlope, RegressionIntercept, RegressionError, All, Any, AtLeastN, AllPresent}
 use Rattle.pl_spec.specs.Cells.{truth, is_true, present_values, total, count, greatest, least}
 
 -- a hundred, in millionths
@@ -89,6 +89,82 @@ place_of x xs =
 abbrev pub of_all : ℤ → ℤ → ℤ → ℤ → ℤ
 of_all x y z v = of_both x y (of_both y z v)
 
+-- ---- the correlation and the regression of pairs of values, from their sums
+
+-- the sum of what f makes of the values of each pair
+abbrev pub pair_total : (ℤ → ℤ → ℤ) → List (ℤ × ℤ) → ℤ
+pair_total f ps = total (map (λ p. f p.0 p.1) ps)
+
+-- how many pairs there are, the sums of their values, of the squares and of the products
+pub record PairSums : Type 0 where
+  pub number : ℕ
+  pub x : ℤ
+  pub y : ℤ
+  pub xx : ℤ
+  pub yy : ℤ
+  pub xy : ℤ
+
+abbrev pub sums_of_pairs : List (ℤ × ℤ) → PairSums
+sums_of_pairs ps = record {
+  number = length ps;
+  x = pair_total (λ x y. x) ps;
+  y = pair_total (λ x y. y) ps;
+  xx = pair_total (λ x y. x *ℤ x) ps;
+  yy = pair_total (λ x y. y *ℤ y) ps;
+  xy = pair_total (λ x y. x *ℤ y) ps;
+}
+
+-- the sums of the pairs of values at one place of two windows, where both are present
+abbrev pub pair_sums : List ℤ → List ℤ → PairSums
+pair_sums xs ys = sums_of_pairs (present_pairs xs ys)
+
+-- the square of the number of pairs, times the variance of x, that of y, and the covariance
+abbrev pub spread_x : PairSums → ℤ
+spread_x s = (pos s.number *ℤ s.xx) -ℤ (s.x *ℤ s.x)
+
+abbrev pub spread_y : PairSums → ℤ
+spread_y s = (pos s.number *ℤ s.yy) -ℤ (s.y *ℤ s.y)
+
+abbrev pub joint_spread : PairSums → ℤ
+joint_spread s = (pos s.number *ℤ s.xy) -ℤ (s.x *ℤ s.y)
+
+-- the whole number nearest to half the root of v
+abbrev pub near_root : ℕ → ℕ
+near_root v = (isqrt v + 1) / 2
+
+-- the whole number nearest to the root of a / b, as a cell; MISSING where b is 0
+abbrev pub root_quot : ℕ → ℕ → ℤ
+root_quot a b = if b == 0 then MISSING else to_cell (pos (near_root (4 * a / b)))
+
+-- v with the sign of a
+abbrev pub with_sign : ℤ → ℤ → ℤ
+with_sign a v = if int_lt a (pos 0) then neg v else v
+
+-- Pearson's correlation, in millionths
+unfoldable pub correlation : PairSums → ℤ
+correlation s =
+    with_sign (joint_spread s)
+    (root_quot (square (joint_spread s) * 10 ^ 12) (unsigned_abs (spread_x s) * unsigned_abs (spread_y s)))
+
+-- the mean of the products of what lies between the values and their means
+unfoldable pub covariance : PairSums → ℤ
+covariance s = quot (joint_spread s) (pos (s.number * s.number * MILLION))
+
+-- the slope of the line by least squares that gives y of x
+unfoldable pub slope : PairSums → ℤ
+slope s = quot (joint_spread s *ℤ pos MILLION) (spread_x s)
+
+-- where that line is at x = 0
+unfoldable pub intercept : PairSums → ℤ
+intercept s = quot ((s.y *ℤ spread_x s) -ℤ (joint_spread s *ℤ s.x)) (pos s.number *ℤ spread_x s)
+
+-- the standard error of the slope; of fewer than three pairs there is none
+unfoldable pub slope_error : PairSums → ℤ
+slope_error s =
+    let xx = unsigned_abs (spread_x s) in
+    let yy = unsigned_abs (spread_y s) in
+    root_quot ((xx * yy - square (joint_spread s)) * 10 ^ 12) (xx * xx * (s.number - 2))
+
 -- a, b and c are the windows of the kind's inputs, in order
 unfoldable pub formula : WindowKind → List ℤ → List ℤ → List ℤ → ℤ
 formula Latest a b c = oldest a
@@ -119,6 +195,11 @@ formula TrueRange high low close =
 formula (ExponentialWeightedMovingAverage decay) a b c = faded_mean decay a
 formula AroonUp a b c = place_of (greatest a) a
 formula AroonDown a b c = place_of (least a) a
+formula Correlation y x c = correlation (pair_sums x y)
+formula Covariance y x c = covariance (pair_sums x y)
+formula RegressionSlope y x c = slope (pair_sums x y)
+formula RegressionIntercept y x c = intercept (pair_sums x y)
+formula RegressionError y x c = slope_error (pair_sums x y)
 formula All a b c = truth (list_all is_true a)
 formula Any a b c = truth (list_any is_true a)
 formula (AtLeastN n) a b c = truth (nat_le n (count_by is_true a))

@@ -17,7 +17,7 @@ use Rattle.pl_pipeline.specs.Graph.Used.{output, mentioned}
 use Rattle.pl_pipeline.proofs.Contained.{in-alone}
 use Rattle.pl_terms.specs.Sorts.{has_window, form_fits, is_window_from, sort_at, Filters, places, all_fit, AnyTerm, is_downsampled}
 use Rattle.pl_terms.specs.declared.kind.WindowForm.{WindowForm}
-use Rattle.pl_terms.specs.declared.kind.WindowForm.TheVariants.{Bar, LongSeries, LongColumns, TwoColumns}
+use Rattle.pl_terms.specs.declared.kind.WindowForm.TheVariants.{Bar, LongSeries, LongColumns, Pairs, Regression, TwoColumns}
 use Rattle.pl_terms.specs.Windows.{row_of}
 use Rattle.pl_terms.specs.Checked.{IsChecked}
 use Rattle.pl_terms.specs.Uses.{outputs}
@@ -52,6 +52,8 @@ form-fits Bar w e = exactly 1 w (omega arith) (omega arith) e
 form-fits TwoColumns w e = exactly 2 w (omega arith) (omega arith) e
 form-fits LongSeries w e = between 2 w (omega arith) e
 form-fits LongColumns w e = between 2 w (omega arith) e
+form-fits Pairs w e = between 2 w (omega arith) e
+form-fits Regression w e = between 2 w (omega arith) e
 form-fits f w e = between 1 w (omega arith) e
 
 kind-fits : (k : Kind) (w : ℕ) → has_window k w ≡ true → Fits w

@@ -6,7 +6,7 @@ use Rattle.pl_spec.specs.Limits.{most_window}
 use Rattle.pl_pipeline.specs.Kind as kind
 use Rattle.pl_pipeline.specs.Kind.{Kind}
 use Rattle.pl_terms.specs.declared.kind.WindowForm.{WindowForm}
-use Rattle.pl_terms.specs.declared.kind.WindowForm.TheVariants.{Bar, LongSeries, LongColumns, TwoColumns}
+use Rattle.pl_terms.specs.declared.kind.WindowForm.TheVariants.{Bar, LongSeries, LongColumns, Pairs, Regression, TwoColumns}
 use Rattle.pl_terms.specs.Windows.{row_of}
 use Rattle.pl_pipeline.specs.Table.{Pipeline}
 use Rattle.pl_pipeline.specs.Term.{Term, Graph, Node, Input, BarColumn, TermInput, tree_at, input_tree, number_tree, tree_over, trees_after, term_at}
@@ -25,6 +25,8 @@ form-some Bar w e = exactly 1 w (omega arith) e
 form-some TwoColumns w e = exactly 2 w (omega arith) e
 form-some LongSeries w e = from-least 2 w (omega arith) e
 form-some LongColumns w e = from-least 2 w (omega arith) e
+form-some Pairs w e = from-least 2 w (omega arith) e
+form-some Regression w e = from-least 2 w (omega arith) e
 form-some f w e = from-least 1 w (omega arith) e
 
 some-window : (k : Kind) (w : ℕ) → has_window k w ≡ true → 1 ≤ w

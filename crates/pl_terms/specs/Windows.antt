@@ -4,9 +4,9 @@ use Rattle.pl_spec.specs.declared.Column.{Column}
 use Rattle.pl_spec.specs.declared.Column.TheVariants.{High, Low, Close, Volume}
 use Rattle.pl_pipeline.specs.Kind.{Kind, Window}
 use Rattle.pl_pipeline.specs.declared.WindowKind.{WindowKind}
-use Rattle.pl_pipeline.specs.declared.WindowKind.TheVariants.{Latest, SimpleMovingAverage, LinearWeightedMovingAverage, WindowSum, WindowMax, WindowMin, WindowStd, BollingerMiddle, BollingerLower, BollingerUpper, Returns, PercentChange, RateOfChangePercentage, RSI, VWAP, AverageDollarVolume, WeightedAverageValue, FastStochasticOscillator, TrueRange, ExponentialWeightedMovingAverage, AroonUp, AroonDown, All, Any, AtLeastN, AllPresent}
+use Rattle.pl_pipeline.specs.declared.WindowKind.TheVariants.{Latest, SimpleMovingAverage, LinearWeightedMovingAverage, WindowSum, WindowMax, WindowMin, WindowStd, BollingerMiddle, BollingerLower, BollingerUpper, Returns, PercentChange, RateOfChangePercentage, RSI, VWAP, AverageDollarVolume, WeightedAverageValue, FastStochasticOscillator, TrueRange, ExponentialWeightedMovingAverage, AroonUp, AroonDown, Correlation, Covariance, RegressionSlope, RegressionIntercept, RegressionError, All, Any, AtLeastN, AllPresent}
 use Rattle.pl_terms.specs.declared.kind.WindowForm.{WindowForm}
-use Rattle.pl_terms.specs.declared.kind.WindowForm.TheVariants.{Bar, Series, LongSeries, Weighted, Filter, Columns, LongColumns, TwoColumns}
+use Rattle.pl_terms.specs.declared.kind.WindowForm.TheVariants.{Bar, Series, LongSeries, Weighted, Pairs, Regression, Filter, Columns, LongColumns, TwoColumns}
 
 -- its name, the bar columns of its own, what it is over, and whether a window may be over it in turn
 pub record WindowRow : Type 0 where
@@ -41,6 +41,11 @@ row_of TrueRange = row (codes "TrueRange") (High ∷ Low ∷ Close ∷ []) TwoCo
 row_of (ExponentialWeightedMovingAverage decay) = row (codes "ExponentialWeightedMovingAverage") [] Series false
 row_of AroonUp = row (codes "AroonUp") (High ∷ []) LongColumns true
 row_of AroonDown = row (codes "AroonDown") (Low ∷ []) LongColumns true
+row_of Correlation = row (codes "Correlation") [] Pairs true
+row_of Covariance = row (codes "Covariance") [] Pairs false
+row_of RegressionSlope = row (codes "RegressionSlope") [] Regression false
+row_of RegressionIntercept = row (codes "RegressionIntercept") [] Regression false
+row_of RegressionError = row (codes "RegressionError") [] Regression false
 row_of All = row (codes "All") [] Filter true
 row_of Any = row (codes "Any") [] Filter true
 row_of (AtLeastN n) = row (codes "AtLeastN") [] Filter true
@@ -62,7 +67,7 @@ formulas =
 
 -- and those since version 4 of the language
 abbrev pub later_formulas : List WindowKind
-later_formulas = []
+later_formulas = Correlation ∷ Covariance ∷ RegressionSlope ∷ RegressionIntercept ∷ RegressionError ∷ []
 
 abbrev pub formulas_of : ℕ → List WindowKind
 formulas_of version = if nat_le 4 version then formulas ++ later_formulas else formulas

@@ -12,7 +12,7 @@ use Rattle.pl_spec.specs.Window.{before, downward, seen_cell}
 use Rattle.pl_pipeline.specs.Kind.{Kind}
 use Rattle.pl_pipeline.specs.declared.WindowKind.{WindowKind}
 use Rattle.pl_pipeline.specs.Kind.Kind.{Window}
-use Rattle.pl_pipeline.specs.declared.WindowKind.TheVariants.{Latest, BollingerLower, BollingerUpper, VWAP, AverageDollarVolume, WeightedAverageValue, TrueRange, ExponentialWeightedMovingAverage, All as AllTrue, Any, AtLeastN, AllPresent}
+use Rattle.pl_pipeline.specs.declared.WindowKind.TheVariants.{Latest, BollingerLower, BollingerUpper, VWAP, AverageDollarVolume, WeightedAverageValue, TrueRange, ExponentialWeightedMovingAverage, Correlation, Covariance, RegressionSlope, RegressionIntercept, RegressionError, All as AllTrue, Any, AtLeastN, AllPresent}
 use Rattle.pl_pipeline.specs.Formula.{formula}
 use Rattle.pl_pipeline.specs.Term.{Node, Input}
 use Rattle.pl_pipeline.specs.Term.Input.{BarColumn, TermInput}
@@ -176,6 +176,11 @@ pub paired-places : (f : WindowKind) → IsTrue (takes_pairs (Window f)) → (q 
 paired-places VWAP h = (_, _, refl, refl)
 paired-places AverageDollarVolume h = (_, _, refl, refl)
 paired-places WeightedAverageValue h = (_, _, refl, refl)
+paired-places Correlation h = (_, _, refl, refl)
+paired-places Covariance h = (_, _, refl, refl)
+paired-places RegressionSlope h = (_, _, refl, refl)
+paired-places RegressionIntercept h = (_, _, refl, refl)
+paired-places RegressionError h = (_, _, refl, refl)
 paired-places f h = absurd (let bad : false ≡ true = h in cc)
 
 module _ (w : World) (p : Pipeline) (sids : List ℕ) (k : ℕ) (n : Node) (own : IsNode p k n) (f : WindowKind) (e : n.kind ≡ Window f) (i s : ℕ) (a b c : List ℤ) (g : AreSeen w p sids n i s a b c) where

@@ -23,7 +23,7 @@ import warnings
 from decimal import ROUND_HALF_UP, Decimal
 from functools import partial, reduce
 from numbers import Real
-from typing import Any, Callable, Iterable, Mapping, NoReturn, Optional, TypeVar, Union
+from typing import Any, Callable, Iterable, Mapping, NamedTuple, NoReturn, Optional, TypeVar, Union
 from weakref import WeakValueDictionary
 
 import numpy as np
@@ -500,6 +500,49 @@ class Factor(Term):
             )
         return Filter(MEMBER, "percentile_between", self, min_percentile, max_percentile, mask=mask)
 
+    def pearsonr(self, target: Factor, correlation_length: int, mask: Mask = None) -> Factor:
+        """Pearson's correlation with `target` over so many sessions, 2 or more, where all values of both are present.
+
+        Units: 1. Missing where one of the two does not change, where Zipline has noise. `factors.Correlation` takes
+        the pairs of which both are present.
+        """
+        mask = _all_present(self, target, correlation_length, mask)
+        return Factor(CALL, "Correlation", self, target, correlation_length, mask=mask)
+
+    def linear_regression(self, target: Factor, regression_length: int, mask: Mask = None) -> Regression:
+        """`alpha`, `beta`, `r_value`, `p_value`, `stderr` of the line that gives the values from those of `target`.
+
+        Over so many sessions, 2 or more, where all values of both are present; `stderr` is missing for 2. Units: of
+        alpha those of the factor, of beta and stderr those of the factor by those of the target. `p_value` is not in
+        the language.
+        """
+        mask = _all_present(self, target, regression_length, mask)
+
+        def made(name: str) -> Factor:
+            return Factor(CALL, name, self, target, regression_length, mask=mask)
+
+        return Regression(
+            made("RegressionIntercept"), made("RegressionSlope"), made("Correlation"), _P_VALUE, made("RegressionError")
+        )
+
+
+def _all_present(dependent: Factor, target: Factor, length: int, mask: Mask) -> Filter:
+    """Where all values of two factors are present over so many sessions, and the mask is true."""
+    if not isinstance(target, Factor):
+        raise TypeError(f"{target!r} is no factor: the target has to be one")
+    present = Filter(CALL, "AllPresent", dependent, length) & Filter(CALL, "AllPresent", target, length)
+    return present if mask is None else present & mask
+
+
+class Regression(NamedTuple):
+    """The outputs of `linear_regression`, in Zipline's order."""
+
+    alpha: Factor
+    beta: Factor
+    r_value: Factor
+    p_value: Absent
+    stderr: Factor
+
 
 class Classifier(Term):
     """A label for each asset and session, or none: a text, or the number of a bin."""
@@ -569,11 +612,14 @@ for (
 ):  # which say that a column of bars is no factor
     setattr(BoundColumn, f"__{_name}__", getattr(Factor, f"__{_name}__"))
 
+_P_VALUE = Absent(
+    "p_value", "beta / stderr over the table, and scipy's t distribution with window - 2 degrees of freedom"
+)
 _MONOTONE = "y itself where its order counts: rank, top and quantiles of y and of a rising function of it are the same"
 _ABSENT = {
     Factor: {
         "winsorize": "clip(low, high) between numbers, or mask=y.percentile_between(low, high), which drops the tails",
-        "pearsonr spearmanr linear_regression": "Returns as a column, and the regression over the table in pandas",
+        "spearmanr": "pearsonr, and the ranks over the table in pandas",
         "mean sum stddev min max median notnull_count": (
             "y - y.demean(), which is the mean of the session; zscore; rank"
         ),

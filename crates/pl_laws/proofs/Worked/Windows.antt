@@ -3,7 +3,7 @@ use Rattle.std.specs.Prelude.{◌≡◌, pos, negsuc, refl, [], ◌∷◌, map, 
 use Rattle.pl_spec.specs.Rounding.{MISSING, LIMIT}
 use Rattle.pl_spec.specs.declared.Column.TheVariants.{High, Low, Close, Volume}
 use Rattle.pl_pipeline.specs.declared.WindowKind.TheVariants as kind
-use Rattle.pl_pipeline.specs.Formula.{formula}
+use Rattle.pl_pipeline.specs.Formula.{formula, correlation, covariance, slope, intercept, slope_error}
 use Rattle.pl_pipeline.specs.Term.Term.{column}
 use Rattle.pl_pipeline.specs.Value.Value.{Number}
 use Rattle.pl_laws.proofs.Worked.Worlds.{opened, units, bar, alone, plain, gap, no_tables, window, at_close, by_session, on}
@@ -129,3 +129,28 @@ change_of_a_negative_value = refl
 some_all_and_many : map (λ k. formula k (pos 1 ∷ pos 0 ∷ pos 1 ∷ []) [] []) (kind.All ∷ kind.Any ∷ kind.AtLeastN 2 ∷ kind.AtLeastN 3 ∷ []) ≡ pos 0 ∷ pos 1 ∷ pos 1 ∷ pos 0 ∷ []
 unfolding opened
 some_all_and_many = refl
+
+-- ---- pairs
+
+-- 1, 4 and 5 with 2, 9 and 10: one side of two pairs is missing
+line_through_three_pairs : map (λ k. formula k (units 2 ∷ units 4 ∷ MISSING ∷ units 9 ∷ units 10 ∷ []) (units 1 ∷ MISSING ∷ units 3 ∷ units 4 ∷ units 5 ∷ []) [])
+    (kind.Correlation ∷ kind.Covariance ∷ kind.RegressionSlope ∷ kind.RegressionIntercept ∷ kind.RegressionError ∷ [])
+    ≡ pos 991870 ∷ units 6 ∷ pos 2076923 ∷ pos 76923 ∷ pos 266469 ∷ []
+unfolding opened correlation covariance slope intercept slope_error
+line_through_three_pairs = refl
+
+-- of a constant there is a slope, and no correlation; by a constant there is neither
+one_side_that_stands : map (λ k. formula k (units 7 ∷ units 7 ∷ []) (units 1 ∷ units 2 ∷ []) []) (kind.Correlation ∷ kind.RegressionSlope ∷ [])
+    ≡ MISSING ∷ pos 0 ∷ []
+unfolding opened correlation slope
+one_side_that_stands = refl
+
+by_one_that_stands : map (λ k. formula k (units 1 ∷ units 2 ∷ []) (units 7 ∷ units 7 ∷ []) []) (kind.Correlation ∷ kind.RegressionSlope ∷ kind.RegressionIntercept ∷ [])
+    ≡ MISSING ∷ MISSING ∷ MISSING ∷ []
+unfolding opened correlation slope intercept
+by_one_that_stands = refl
+
+-- a root to the nearest, of the other sign: -2 / 3
+correlation_below_zero : formula kind.Correlation (pos 0 ∷ units 1 ∷ pos 0 ∷ units 1 ∷ units 1 ∷ []) (units 1 ∷ pos 0 ∷ units 1 ∷ pos 0 ∷ units 1 ∷ []) [] ≡ neg_ℤ (pos 666667)
+unfolding opened correlation
+correlation_below_zero = refl

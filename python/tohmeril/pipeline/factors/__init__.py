@@ -115,6 +115,36 @@ LinearWeightedMovingAverage = windowed(
 WeightedAverageValue = windowed(
     "WeightedAverageValue", "sum of x_k w_k where both are present / sum of the present w_k", "those of the first input"
 )
+_PAIRS: dict[str, Any] = {"source": "ours, as numpy's of the pairs of which both are present"}
+Correlation = windowed(
+    "Correlation",
+    "Pearson's correlation of the pairs (x_k, y_k) of two inputs of which both are present; missing where all x_k or "
+    "all y_k of them are equal",
+    "1, from -1 to 1",
+    **_PAIRS,
+)
+Covariance = windowed(
+    "Covariance",
+    "sum of (x_k - mean x) (y_k - mean y) over the pairs of two inputs of which both are present / their number n",
+    "those of x times those of y: of daily returns take them times 100 first",
+    **_PAIRS,
+)
+RegressionSlope = windowed(
+    "RegressionSlope",
+    "slope of the line of least squares that gives the first input y from the second one x, over the pairs of which "
+    "both are present; missing where all x_k of them are equal",
+    "those of y by those of x",
+    **_PAIRS,
+)
+RegressionIntercept = windowed(
+    "RegressionIntercept", "y of the line of `RegressionSlope` at x = 0", "those of the first input", **_PAIRS
+)
+RegressionError = windowed(
+    "RegressionError",
+    "standard error of the `RegressionSlope`, with n - 2 degrees of freedom; missing where n < 3, too",
+    "those of the slope",
+    **_PAIRS,
+)
 WindowSum = windowed("WindowSum", "sum of the present x_k; missing where n is 0", **_OURS)
 WindowMax = windowed("WindowMax", "greatest present x_k; missing where n is 0", **_OURS)
 WindowMin = windowed("WindowMin", "least present x_k; missing where n is 0", **_OURS)
@@ -336,7 +366,19 @@ def PeerCount(inputs: Sequence[Classifier], mask: Mask = None) -> Factor:
     return inputs[0].peer_count(mask)
 
 
-_REGRESSION = "Returns as a column, and the regression over the table in pandas"
+def RollingPearson(base_factor: Factor, target: Factor, correlation_length: int, mask: Mask = None) -> Factor:
+    """`base_factor.pearsonr(target, correlation_length, mask)`."""
+    return base_factor.pearsonr(target, correlation_length, mask)
+
+
+def RollingLinearRegression(dependent: Factor, independent: Factor, regression_length: int, mask: Mask = None) -> Any:
+    """`dependent.linear_regression(independent, regression_length, mask)`."""
+    return dependent.linear_regression(independent, regression_length, mask)
+
+
+_ONE_ASSET = (
+    "RegressionSlope or Correlation with a factor that has a value for every asset, as a number of the numbers file"
+)
 CustomFactor = Absent(
     "CustomFactor", "WindowSum, WindowMax, WindowMin, WindowStd and arithmetic; or their table, and pandas"
 )
@@ -349,12 +391,10 @@ MaxDrawdown = Absent(
 IchimokuKinkoHyo = Absent(
     "IchimokuKinkoHyo", "(WindowMax([high], window_length=W) + WindowMin([low], window_length=W)) / 2"
 )
-SimpleBeta, RollingLinearRegression, RollingLinearRegressionOfReturns = Absent.each(
-    "SimpleBeta RollingLinearRegression RollingLinearRegressionOfReturns", _REGRESSION
+SimpleBeta, RollingLinearRegressionOfReturns, RollingPearsonOfReturns, RollingSpearmanOfReturns = Absent.each(
+    "SimpleBeta RollingLinearRegressionOfReturns RollingPearsonOfReturns RollingSpearmanOfReturns", _ONE_ASSET
 )
-RollingPearson, RollingSpearman, RollingPearsonOfReturns, RollingSpearmanOfReturns = Absent.each(
-    "RollingPearson RollingSpearman RollingPearsonOfReturns RollingSpearmanOfReturns", _REGRESSION
-)
+RollingSpearman = Absent("RollingSpearman", "RollingPearson, and the ranks over the table in pandas")
 BusinessDaysSincePreviousEvent, BusinessDaysUntilNextEvent = Absent.each(
     "BusinessDaysSincePreviousEvent BusinessDaysUntilNextEvent", "a label that changes on the day of the event"
 )

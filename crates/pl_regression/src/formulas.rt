@@ -1,0 +1,107 @@
+//! The correlation and the regression, from the sums of pairs.
+
+ghost use Rattle.std.specs.Prelude.{◌≡◌, ◌*◌, ◌-◌, ◌^◌, ◌<◌};
+ghost use Rattle.pl_spec.specs.Rounding.{IsCell};
+ghost use Rattle.pl_pipeline.specs.Formula.{correlation, covariance, slope, intercept, slope_error, root_quot};
+ghost use Rattle.pl_regression.specs.Sums.{AreSums};
+
+use crate::pairs::PairSums;
+use pl_fixed::{MISSING, neg};
+use pl_wide::{Natural, Whole, quot, root_of_quotient};
+
+/// Pearson's correlation, in millionths; `MISSING` where all first or all second values are one.
+pub fn correlation(sums: &PairSums) -> i64
+    requires { AreSums sums.now }
+    ensures value { result ≡ correlation sums.now }
+    ensures cell { IsCell result }
+{
+    let x = sums.spread_x();
+    let y = sums.spread_y();
+    let joint = sums.joint_spread();
+    let square = joint.size().product(joint.size()).times(TRILLION);
+    let size = root(&square, &x.size().product(y.size()));
+    if joint.is_below() { neg(size) } else { size }
+}
+
+/// The covariance, over the number of pairs, in millionths; `MISSING` where there is no pair, or where it is
+/// outside the range of cells.
+pub fn covariance(sums: &PairSums) -> i64
+    requires { AreSums sums.now }
+    ensures value { result ≡ covariance sums.now }
+    ensures cell { IsCell result }
+{
+    let number = sums.number() as u128;
+    let divisor = Whole::new((number * number * 1_000_000) as i128);
+    quot(&sums.joint_spread(), &divisor)
+}
+
+/// The slope of the line by least squares that gives the second values of the first, in millionths.
+pub fn slope(sums: &PairSums) -> i64
+    requires { AreSums sums.now }
+    ensures value { result ≡ slope sums.now }
+    ensures cell { IsCell result }
+{
+    let rise = sums.joint_spread().times(&Whole::new(MILLION));
+    quot(&rise, &sums.spread_x())
+}
+
+/// Where that line is at 0, in millionths.
+pub fn intercept(sums: &PairSums) -> i64
+    requires { AreSums sums.now }
+    ensures value { result ≡ intercept sums.now }
+    ensures cell { IsCell result }
+{
+    let x = sums.spread_x();
+    let high = sums.whole_y().times(&x);
+    let low = sums.joint_spread().times(&sums.whole_x());
+    quot(&high.minus(&low), &sums.whole_number().times(&x))
+}
+
+/// The standard error of the slope, in millionths; `MISSING` for fewer than 3 pairs, or where all first
+/// values are one.
+pub fn slope_error(sums: &PairSums) -> i64
+    requires { AreSums sums.now }
+    ensures value { result ≡ slope_error sums.now }
+    ensures cell { IsCell result }
+{
+    let x = sums.spread_x();
+    let y = sums.spread_y();
+    let joint = sums.joint_spread();
+    let left = left_over(x.size(), y.size(), joint.size());
+    let freedom = sums.number().saturating_sub(2) as u64;
+    root(
+        &left.times(TRILLION),
+        &x.size().product(x.size()).times(freedom),
+    )
+}
+
+const MILLION: i128 = 1_000_000;
+
+const TRILLION: u64 = 1_000_000_000_000;
+
+// The whole number nearest to the root of `a / b`, as a cell; `MISSING` where `b` is 0.
+fn root(a: &Natural, b: &Natural) -> i64
+    requires dividend { a.now < 2 ^ 446 }
+    requires divisor { b.now < 2 ^ 320 }
+    ensures value { result ≡ root_quot a.now b.now }
+    ensures cell { IsCell result }
+{
+    if b.is_zero() {
+        MISSING
+    } else {
+        root_of_quotient(a, b)
+    }
+}
+
+// The product of two less the square of a third, from 0 on.
+fn left_over(x: &Natural, y: &Natural, joint: &Natural) -> Natural
+    requires x { x.now < 2 ^ 135 }
+    requires y { y.now < 2 ^ 135 }
+    requires joint { joint.now < 2 ^ 135 }
+    ensures { result ≡ x.now * y.now - joint.now * joint.now }
+{
+    match x.product(y).minus(&joint.product(joint)) {
+        Some(rest) => rest,
+        None => Natural::new(0),
+    }
+}
