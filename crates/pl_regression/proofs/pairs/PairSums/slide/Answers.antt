@@ -1,4 +1,4 @@
-use Rattle.std.proofs.Common.{◌≡◌, ◌-◌, ◌≤◌, ℤ, pos, List, length, take, drop, get_or, w64, to_z, of_z, arith, ap, ap₂, sym, ◌∙◌}
+use Rattle.std.proofs.Common.{◌≡◌, ◌+◌, ◌-◌, ◌≤◌, ℤ, pos, List, length, take, drop, get_or, w64, to_z, of_z, arith, ap, ap₂, sym, ◌∙◌}
 use Rattle.pl_lanes.proofs.Bits.{at-exact}
 use Rattle.pl_spec.specs.Rounding.{IsCell, is_missing}
 use Rattle.std.specs.List.{All}
@@ -31,7 +31,7 @@ remove-requires-clause-sums c =
     let xs = c.args.xs.now in
     let ys = c.args.ys.now in
     let all = whole xs ys _ _ c.requires.cells c.requires.others c.requires.some c.requires.paired c.requires.stands c.add.ensures in
-    rw all (within_more (length xs) most_window + 1 _ c.requires.few (sums_within xs ys c.requires.cells c.requires.others))
+    rw all (within_more (length xs) (most_window + 1) _ c.requires.few (sums_within xs ys c.requires.cells c.requires.others))
 
 pub remove-requires-clause-some : goal.remove-requires-clause-some
 remove-requires-clause-some c =
