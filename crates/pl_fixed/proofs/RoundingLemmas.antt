@@ -1,9 +1,11 @@
 -- The code's quotient is the nearest number, and what follows of its size.
-use Rattle.std.proofs.Common.{◌≡◌, ℕ, zero, suc, ◌+◌, ◌-◌, ◌*◌, ◌/◌, ◌%◌, ◌<◌, ◌≤◌, ℤ, pos, negsuc, neg_ℤ, ◌+ℤ◌, ◌-ℤ◌, ◌<ℤ◌, ◌≤ℤ◌, unsigned_abs, arith, refl, ap, sym, ◌∙◌, FitsSigned, to_z, of_z, div-lt_iff_lt-mul}
+use Rattle.std.proofs.Common.{◌≡◌, ℕ, zero, suc, ◌+◌, ◌-◌, ◌*◌, ◌/◌, ◌%◌, ◌<◌, ◌≤◌, ℤ, pos, negsuc, neg_ℤ, ◌+ℤ◌, ◌-ℤ◌, ◌<ℤ◌, ◌≤ℤ◌, unsigned_abs, arith, refl, ap, sym, ◌∙◌, FitsSigned, to_z, of_z, nat_lt, false, div-lt_iff_lt-mul}
 use Rattle.std.specs.Int.{Width}
-use Rattle.std.specs.Int.RustNames.{int_div, int_rem}
+use Rattle.std.specs.Int.RustNames.{int_div, int_rem, int_lt}
 use Rattle.std.proofs.lemmas.Nat.{div-add-mod', div-mul-add, mod_below, mul-le}
+use Rattle.std.proofs.lemmas.Bool.Decides.{nat_tests}
 use Rattle.std.proofs.lemmas.Int.{ints, to_z-of_z, quot_is, rem_is, quot_fits, rem_below}
+use Rattle.pl_spec.specs.Decimals.{signed}
 use Rattle.pl_spec.specs.Rounding.{LIMIT, div_round}
 
 -- ---- from the quotient that is rounded toward 0, by its rest
@@ -140,3 +142,9 @@ div_round-multiple m b p = ap pos (multiple m b p)
 
 pub div_round-multiple_neg : (m b : ℕ) → 0 < b → div_round (neg_ℤ (pos (m * b))) b ≡ neg_ℤ (pos m)
 div_round-multiple_neg m b p = div_round-neg (m * b) b p ∙ ap (λ n. neg_ℤ (pos n)) (multiple m b p)
+
+-- by the sizes, with the sign of the dividend
+pub div_round-by_sizes : (a : ℤ) (b : ℕ) → signed (int_lt a (pos 0)) ((2 * unsigned_abs a + b) / (2 * b)) ≡ div_round a b
+unfolding div_round
+div_round-by_sizes (pos a) b = let none : nat_lt a 0 ≡ false = grind (arith, nat_tests) in rw none refl
+div_round-by_sizes (negsuc a) b = refl

@@ -22,6 +22,7 @@ pub fn is_cell(v: i64) -> bool
 }
 
 /// `v` as a cell, `MISSING` where it is outside `-LIM` to `LIM`.
+#[inline]
 #[tactic(auto, unfolding(pl_spec::specs::Rounding::to_cell))]
 pub fn to_cell(v: i128) -> i64
     ensures value { result ≡ to_cell v }
@@ -36,6 +37,7 @@ pub fn to_cell(v: i128) -> i64
 
 /// The whole number nearest to `a / b` as a cell, ties away from zero; `MISSING` where `b` is 0, or where it
 /// is outside `-LIM` to `LIM`.
+#[inline]
 #[tactic(auto, unfolding(pl_spec::specs::Rounding::quot))]
 pub fn quot(a: i128, b: i128) -> i64
     requires dividend { a ≢ i128.MIN }

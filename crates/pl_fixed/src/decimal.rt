@@ -9,7 +9,7 @@ ghost use Rattle.pl_fixed.specs.Reading.{read, unsigned_read, fraction_read, jud
 
 use crate::cell::{LIM, MISSING, UNIT};
 use crate::digits::{MOST_VALUE, front_number, put, put_decimal, put_six, six_digits};
-use crate::rounding::div_round;
+use crate::rounding::{div_round, signed};
 
 /// Why bytes are no decimal of a cell. The faults are tested in this order.
 #[derive(Clone, Copy, Debug, PartialEq, Eq)]
@@ -173,17 +173,6 @@ fn whole_millionths(negative: bool, units: u64, part: u64, each: u64) -> i128
 {
     let magnitude = units as u128 * UNIT as u128 + part as u128 * each as u128;
     signed(negative, magnitude)
-}
-
-fn signed(negative: bool, magnitude: u128) -> i128
-    requires { magnitude < 2 ^ 127 }
-    ensures { result ≡ signed negative magnitude }
-{
-    if negative {
-        -(magnitude as i128)
-    } else {
-        magnitude as i128
-    }
 }
 
 // The millionths of `units` and `part` of `scale` parts of a unit, rounded once.

@@ -3,7 +3,7 @@ use Rattle.std.specs.Prelude.{ℕ, List, [], ◌∷◌, Bool, true, false, ◌�
 use Rattle.pl_records.specs.View.{RecordsView}
 use Rattle.pl_records.specs.Records.{GivesNext}
 use Rattle.pl_records.specs.declared.plain.Next.{Next}
-use Rattle.pl_records.specs.declared.plain.Next.TheVariants.{Record, End, Quoted}
+use Rattle.pl_records.specs.declared.plain.Next.TheVariants.{Record, End, Other}
 
 abbrev pub is_line_end : ℕ → Bool
 is_line_end c = (c == 13) || (c == 10)
@@ -17,4 +17,4 @@ StartsRecord (c ∷ cs) = is_line_end c ≡ false
 abbrev pub Advances : RecordsView → RecordsView → Next → Type 0
 Advances old new Record = GivesNext old new true
 Advances old new End = GivesNext old new false
-Advances old new Quoted = new.left ≡ old.left
+Advances old new Other = new.left ≡ old.left

@@ -19,7 +19,7 @@ use std::alloc::{AllocError, Global};
 use std::marker::Model;
 
 /// The records of a file: the one that was read last, and those that are left. From the first record
-/// with a quote on, csv reads them.
+/// with a quote or with many fields on, csv reads them.
 #[derive(Drop)]
 pub struct Records<'a> {
     alloc: Global,
@@ -64,7 +64,7 @@ impl<'a> Records<'a> {
     {
         Records {
             alloc,
-            plain: PlainRecords::new(alloc, bytes),
+            plain: PlainRecords::new(bytes),
             quoted: None,
         }
     }
@@ -78,10 +78,10 @@ impl<'a> Records<'a> {
         if let Some(quoted) = &mut self.quoted {
             return quoted.next();
         }
-        match self.plain.next()? {
+        match self.plain.next() {
             Next::Record => Ok(true),
             Next::End => Ok(false),
-            Next::Quoted => begin_quoted(self.alloc, self.plain.rest(), &mut self.quoted),
+            Next::Other => begin_quoted(self.alloc, self.plain.rest(), &mut self.quoted),
         }
     }
 

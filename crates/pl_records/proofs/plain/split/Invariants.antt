@@ -1,11 +1,11 @@
 use Rattle.std.proofs.Common.{map, length, ◌-◌, ◌≤◌}
-use Rattle.pl_records.specs.PlainCuts.{IsCutTo}
+use Rattle.pl_records.specs.PlainCuts.{IsBegun}
 use Rattle.pl_records.proofs.plain.split.Given as goal
 
 abbrev pub invariant-parts : goal.invariant-parts
 invariant-parts l = record {
   most : l.at ≤ length l.text;
-  cut : IsCutTo l.text (map (λ f. f.now) l.fields.items) l.start l.at;
+  begun : IsBegun l.text (map (λ f. f.now) l.fields) l.at l.begun;
 }
 
 abbrev pub decreases-parts : goal.decreases-parts

@@ -1,5 +1,5 @@
 use Rattle.std.proofs.Common.{map, ◌+◌, ◌-◌, ◌≤◌}
-use Rattle.pl_records.specs.PlainCuts.{IsCutTo}
+use Rattle.pl_records.specs.PlainCuts.{IsBegun}
 use Rattle.pl_records.proofs.Marks.{AreMarks}
 use Rattle.pl_records.proofs.plain.split_part.Given as goal
 
@@ -7,7 +7,7 @@ abbrev pub invariant-lows : goal.invariant-lows
 invariant-lows l = record {
   most : l.next ≤ l.at + 16;
   marks : AreMarks l.text l.next (l.at + 16) l.marks;
-  cut : IsCutTo l.text (map (λ f. f.now) l.fields.items) l.start l.next;
+  begun : IsBegun l.text (map (λ f. f.now) l.fields) l.next l.begun;
 }
 
 abbrev pub decreases-lows : goal.decreases-lows
