@@ -2,7 +2,6 @@ pub mod Alone
 pub mod Lists
 pub mod Renaming
 pub mod Renamed
-pub mod Absent
 pub mod Exact
 pub mod Priced
 pub mod Compared
@@ -10,3 +9,7 @@ pub mod Ranked
 pub mod Restated
 pub mod Restating
 pub mod Worked
+pub mod Units
+pub mod Formulas
+pub mod Crossed
+pub mod Indicators

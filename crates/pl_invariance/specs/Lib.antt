@@ -1,9 +1,10 @@
 -- The laws, each the contract of a function.
 pub mod Alone
 pub mod Renamed
-pub mod Absent
 pub mod Exact
 pub mod Priced
 pub mod Compared
 pub mod Ranked
 pub mod Restated
+pub mod Units
+pub mod Crossed

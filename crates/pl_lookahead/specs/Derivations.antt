@@ -25,7 +25,8 @@ use Rattle.pl_lookahead.specs.Laws.{HasNoFault, TookSame}
 -- texts of the label records, in the order in which these first stand in their file.
 abbrev pub recoded : Pipeline → List (List ℕ) → List (List ℕ) → Line → Line
 recoded p old new (SeenLine c a bar day cells) = SeenLine c a bar day cells
-recoded p old new (ValueLine t a day x known) = ValueLine t a day (in_array new (value_from old (kind_at p.graph t) x)) known
+recoded p old new (ValueLine t a day x known) =
+    ValueLine t a day (in_array new (value_from old (kind_at p.graph t) x)) known
 
 -- the world of the cell that is asked for, and the lines of its derivation
 abbrev pub world_asked : Contents → ExplainRequest → World
@@ -49,14 +50,18 @@ abbrev pub HaveSameCodes : Pipeline → World → World → ℤ → Type 0
 HaveSameCodes p w v day = (t n : ℕ) → kind_at p.graph t ≡ Label n → (r : LabelRow) → Contains w.labels r
     → has_started day r ≡ true → in_array w.texts (Text r.text) ≡ in_array v.texts (Text r.text)
 
+-- the line of the second with the codes of the first
+abbrev pub recoded_here : Contents → Contents → ExplainRequest → ExplainRequest → Line → Line
+recoded_here one other q r = recoded (pipeline_held one) (world_asked other r).texts (world_asked one q).texts
+
 -- Two commands that agree up to a session ask for the derivation of one cell of a session up to it. Then the
--- one writes the lines of the other, but for the codes of labels, and the same bytes where these are the same:
--- so it is where no column rests on a label, and where later label records only stand behind the others.
+-- one writes the lines of the other, but for the codes of labels, and the same bytes where these are the
+-- same: so it is where no column rests on a label, and where later label records only stand behind the others.
 pub record LaterDataChangeNoDerivation : Type 0 where
   pub lines : (one other : Contents) (q r : ExplainRequest) (d : ℕ) (day : ℤ)
       → AskCell q r day → AgreeUpTo one other q.world r.world d day
       → HasNoFault one (Explain q) → HasNoFault other (Explain r)
-      → text_of one (Some (Explain q)) ≡ texts.text_of (map (recoded (pipeline_held one) (world_asked other r).texts (world_asked one q).texts) (lines_held other r))
+      → text_of one (Some (Explain q)) ≡ texts.text_of (map (recoded_here one other q r) (lines_held other r))
   pub texts : (one other : Contents) (q r : ExplainRequest) (d : ℕ) (day : ℤ)
       → AskCell q r day → AgreeUpTo one other q.world r.world d day
       → HaveSameCodes (pipeline_held one) (world_asked one q) (world_asked other r) day
