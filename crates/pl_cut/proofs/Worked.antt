@@ -7,8 +7,14 @@ use Rattle.pl_spec.specs.Numbers.{NumberRow}
 use Rattle.pl_spec.specs.World.{World, LabelRow, Adjustment}
 use Rattle.pl_spec.specs.World.Change.{Scale, Overwrite}
 use Rattle.pl_pipeline.specs.declared.WindowKind.TheVariants as WindowKind
-use Rattle.pl_laws.proofs.Worked.Worlds.{opened, units, closed, asset, leaving, sector, of_bars, named, pipeline, csv, lines}
-use Rattle.pl_cut.specs.Cuts.{Span, cut}
+use Rattle.pl_pipeline.specs.declared.RankMethod.TheVariants as method
+use Rattle.pl_pipeline.specs.declared.RankOrder.TheVariants.{Ascending}
+use Rattle.pl_pipeline.specs.Kind.CrossKind.{Rank}
+use Rattle.pl_pipeline.specs.Term.Term.{absent}
+use Rattle.pl_pipeline.specs.Value.{Value, value}
+use Rattle.pl_pipeline.specs.Value.Value.{Number}
+use Rattle.pl_laws.proofs.Worked.Worlds.{opened, units, closed, asset, world, no_tables, across, latest, leaving, sector, of_bars, named, pipeline, csv, lines}
+use Rattle.pl_cut.specs.Cuts.{Span, cut, without}
 
 -- the last session with the one before it, and with the two before it
 abbrev late : Span
@@ -85,3 +91,21 @@ over_the_whole = refl
 over_the_cut : means (cut full three) ≡ lines (codes "session,sid,m" ∷ codes "2024-01-09,1,28.250000" ∷ [])
 unfolding means full opened
 over_the_cut = refl
+
+-- ---- an asset that never exists
+
+-- asset 2 has bars and starts as it ends
+abbrev with_absent : World
+with_absent = world (asset 1 ∷ record (asset 2) { end = pos 19724 } ∷ asset 3 ∷ []) [] [] (closed 1 0 (units 3) ∷ closed 2 0 (units 1) ∷ closed 3 0 (units 2) ∷ []) no_tables
+
+-- the ranks of the closes 3 and 2
+ranks : World → List Value
+ranks w = map (λ a. value w [] (across (Rank method.Ordinal Ascending) (latest Close) absent) a (pos 1)) (1 ∷ 3 ∷ [])
+
+ranks_beside_an_absent_one : ranks with_absent ≡ Number (units 2) ∷ Number (units 1) ∷ []
+unfolding ranks opened
+ranks_beside_an_absent_one = refl
+
+ranks_without_it : ranks (without with_absent 2) ≡ Number (units 2) ∷ Number (units 1) ∷ []
+unfolding ranks opened
+ranks_without_it = refl

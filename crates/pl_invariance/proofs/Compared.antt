@@ -19,22 +19,22 @@ get_scaled r [] k = sym (missing_stays r)
 get_scaled r (x ∷ xs) zero = refl
 get_scaled r (x ∷ xs) (suc k) = get_scaled r xs k
 
-oldest_scaled : (r : Fraction) (xs : List ℤ) → oldest (map (scaled r) xs) ≡ scaled r (oldest xs)
+pub oldest_scaled : (r : Fraction) (xs : List ℤ) → oldest (map (scaled r) xs) ≡ scaled r (oldest xs)
 oldest_scaled r xs = get_scaled r xs 0
 
-newest_scaled : (r : Fraction) (xs : List ℤ) → newest (map (scaled r) xs) ≡ scaled r (newest xs)
+pub newest_scaled : (r : Fraction) (xs : List ℤ) → newest (map (scaled r) xs) ≡ scaled r (newest xs)
 newest_scaled r xs = ap (λ n. get_or (map (scaled r) xs) (n - 1) MISSING) (length-map xs (scaled r)) ∙ get_scaled r xs (length xs - 1)
 
 -- ---- quotients
 
-sub-times : (x y : ℤ) (n : ℕ) → ((y -ℤ x) *ℤ pos n) ≡ ((y *ℤ pos n) -ℤ (x *ℤ pos n))
+pub sub-times : (x y : ℤ) (n : ℕ) → ((y -ℤ x) *ℤ pos n) ≡ ((y *ℤ pos n) -ℤ (x *ℤ pos n))
 sub-times x y zero = omega (arith, ints)
 sub-times x y (suc n) = let before : ((y -ℤ x) *ℤ pos n) ≡ ((y *ℤ pos n) -ℤ (x *ℤ pos n)) = sub-times x y n in omega (arith, ints)
 
-neg-twice : (x : ℤ) → neg_ℤ (neg_ℤ x) ≡ x
+pub neg-twice : (x : ℤ) → neg_ℤ (neg_ℤ x) ≡ x
 neg-twice x = omega (arith, ints)
 
-neg-product : (x : ℤ) (n : ℕ) → (neg_ℤ x *ℤ pos n) ≡ neg_ℤ (x *ℤ pos n)
+pub neg-product : (x : ℤ) (n : ℕ) → (neg_ℤ x *ℤ pos n) ≡ neg_ℤ (x *ℤ pos n)
 neg-product (pos m) n = neg-times m n
 neg-product (negsuc m) n = sym (neg-twice (pos (suc m * n)))
 
@@ -56,7 +56,7 @@ div_same (negsuc a) (negsuc a') b b' p q sp sq e f =
     let size : suc a' * q ≡ suc a * p = sym (unsigned_abs-mul (negsuc a') (pos q)) ∙ ap unsigned_abs e ∙ unsigned_abs-mul (negsuc a) (pos p) in
     ap (λ k. neg_ℤ (pos k)) (div_nat (suc a) (suc a') b b' p q sp sq size f)
 
-quot_same : (n n' m m' : ℤ) (p q : ℕ) → 0 < p → 0 < q → (n' *ℤ pos q) ≡ (n *ℤ pos p) → (m' *ℤ pos q) ≡ (m *ℤ pos p) → quot n' m' ≡ quot n m
+pub quot_same : (n n' m m' : ℤ) (p q : ℕ) → 0 < p → 0 < q → (n' *ℤ pos q) ≡ (n *ℤ pos p) → (m' *ℤ pos q) ≡ (m *ℤ pos p) → quot n' m' ≡ quot n m
 unfolding quot
 quot_same n n' (pos zero) (pos zero) p q sp sq e f = refl
 quot_same n n' (pos zero) (pos (suc b')) p q sp sq e f = absurd (let some : 0 < suc b' * q = mul-pos (omega arith) sq in let size : suc b' * q ≡ 0 * p = ap unsigned_abs f in omega arith)

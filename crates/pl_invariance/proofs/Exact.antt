@@ -22,7 +22,7 @@ turned (negsuc n) a b =
     let same : suc n * a * b ≡ suc n * b * a = omega arith in
     neg-times (suc n * a) b ∙ ap (λ k. neg_ℤ (pos k)) same ∙ sym (neg-times (suc n * b) a)
 
-same_factor : (m n c : ℕ) → 0 < c → m * c ≡ n * c → m ≡ n
+pub same_factor : (m n c : ℕ) → 0 < c → m * c ≡ n * c → m ≡ n
 same_factor m n c some e = sym (mul-div_cancel m some) ∙ ap (λ k. k / c) e ∙ mul-div_cancel n some
 
 pub other_sign : (x y : ℕ) → 0 < y → pos x ≡ neg_ℤ (pos y) → ⊥

@@ -2,7 +2,6 @@ pub mod Alone
 pub mod Lists
 pub mod Renaming
 pub mod Renamed
-pub mod Absent
 pub mod Exact
 pub mod Priced
 pub mod Compared
@@ -14,3 +13,7 @@ pub mod Schwarz
 pub mod Bounded
 pub mod Paired
 pub mod Worked
+pub mod Units
+pub mod Formulas
+pub mod Crossed
+pub mod Indicators

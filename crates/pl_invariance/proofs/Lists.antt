@@ -39,17 +39,6 @@ flat-map {Y = Y} {Z = Z} g f (x ∷ xs) = appended (f x) (flat_map f xs) ∙ ap 
     appended [] zs = refl
     appended (y ∷ ys) zs = ap (λ l. g y ∷ l) (appended ys zs)
 
--- what passes the second test is found alike in those that passed it
-pub find-inside : {X : Type 0} (p q : X → Bool) → ((x : X) → p x ≡ true → q x ≡ true) → (xs : List X) → find p (filter q xs) ≡ find p xs
-find-inside p q h [] = refl
-find-inside p q h (x ∷ xs) = here (p x) (q x) refl refl (find-inside p q h xs)
-  where
-    here : (b c : Bool) → p x ≡ b → q x ≡ c → find p (filter q xs) ≡ find p xs → find p (cond c (x ∷ filter q xs) (filter q xs)) ≡ cond b (Some x) (find p xs)
-    here true true e f rest = rw e refl
-    here true false e f rest = let t : q x ≡ true = h x e in cc
-    here false true e f rest = rw e rest
-    here false false e f rest = rest
-
 -- ---- what is picked out of a list
 
 pub picked-map : {X Y Z : Type 0} (g : Y → Option Z) (f : X → Y) (xs : List X) → filter_map g (map f xs) ≡ filter_map (λ x. g (f x)) xs

@@ -37,7 +37,7 @@ less-true : (x y : ℤ) → int_lt x y ≡ true → x <ℤ y
 less-true x y h = grind (arith, ints)
 
 module _ (r : Fraction) (above : 0 < r.num) where
-  product : (x : ℤ) → IsExact r x → ((scaled r x *ℤ pos r.den) ≡ (x *ℤ pos r.num))
+  pub product : (x : ℤ) → IsExact r x → ((scaled r x *ℤ pos r.den) ≡ (x *ℤ pos r.num))
   product x h = elim h.1.1 [
     | inl e ↦ absurd (true≢false (sym (ap is_missing e) ∙ h.0))
     | inr p ↦ p.1
@@ -88,13 +88,13 @@ module _ (r : Fraction) (above : 0 < r.num) where
   precedes_same Ascending v x hv hx = less_same v x hv hx
   precedes_same Descending v x hv hx = less_same x v hx hv
 
-  preceding_same : (order : RankOrder) (x : ℤ) (vs : List ℤ) → IsExact r x → Each (IsExact r) vs → preceding order (scaled r x) (map (scaled r) vs) ≡ preceding order x vs
+  pub preceding_same : (order : RankOrder) (x : ℤ) (vs : List ℤ) → IsExact r x → Each (IsExact r) vs → preceding order (scaled r x) (map (scaled r) vs) ≡ preceding order x vs
   preceding_same order x vs hx h =
       count-map (λ v. precedes order v (scaled r x)) (scaled r) vs
       ∙ counted (λ v. precedes order (scaled r v) (scaled r x)) (λ v. precedes order v x) vs
       (each-change (IsExact r) (λ v. precedes order (scaled r v) (scaled r x) ≡ precedes order v x) vs (λ v hv. precedes_same order v x hv hx) h) 0
 
-  equals_same : (x : ℤ) (vs : List ℤ) → IsExact r x → Each (IsExact r) vs → count_equal (scaled r x) (map (scaled r) vs) ≡ count_equal x vs
+  pub equals_same : (x : ℤ) (vs : List ℤ) → IsExact r x → Each (IsExact r) vs → count_equal (scaled r x) (map (scaled r) vs) ≡ count_equal x vs
   equals_same x vs hx h =
       count-map (int_eq (scaled r x)) (scaled r) vs
       ∙ counted (λ v. int_eq (scaled r x) (scaled r v)) (int_eq x) vs
@@ -127,11 +127,11 @@ module _ (r : Fraction) (above : 0 < r.num) where
 
   -- ---- entries
 
-  values_exact : (list : List Entry) → Each (λ (e : Entry). IsExact r e.1) list → Each (IsExact r) (values list)
+  pub values_exact : (list : List Entry) → Each (λ (e : Entry). IsExact r e.1) list → Each (IsExact r) (values list)
   values_exact [] h = tt
   values_exact (e ∷ list) h = (h.0, values_exact list h.1)
 
-  values_same : (list : List Entry) → values (map (scaled_entry r) list) ≡ map (scaled r) (values list)
+  pub values_same : (list : List Entry) → values (map (scaled_entry r) list) ≡ map (scaled r) (values list)
   values_same list = maps (λ (e : Entry). e.1) (scaled_entry r) list ∙ sym (maps (scaled r) (λ (e : Entry). e.1) list)
 
   before_same : (order : RankOrder) (list : List Entry) (x : ℤ) → Each (λ (e : Entry). IsExact r e.1) list → IsExact r x → preceding order (scaled r x) (values (map (scaled_entry r) list)) ≡ preceding order x (values list)

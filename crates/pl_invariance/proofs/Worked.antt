@@ -1,8 +1,10 @@
 -- Worked rows of the laws, each computed from the definitions.
-use Rattle.std.specs.Prelude.{◌≡◌, ℕ, ◌+◌, ◌-◌, ◌*◌, pos, refl, codes, List, [], ◌∷◌, map}
+use Rattle.std.specs.Prelude.{◌≡◌, ℕ, ◌+◌, ◌-◌, ◌*◌, ℤ, pos, refl, codes, List, [], ◌∷◌, map}
 use Rattle.pl_spec.specs.declared.Column.TheVariants.{Close, Volume}
 use Rattle.pl_spec.specs.Rounding.{Fraction, scaled}
-use Rattle.pl_pipeline.specs.declared.WindowKind.TheVariants.{Returns}
+use Rattle.pl_pipeline.specs.declared.WindowKind.{WindowKind}
+use Rattle.pl_pipeline.specs.declared.WindowKind.TheVariants.{Returns, SimpleMovingAverage, WindowSum, WindowMax, WindowStd, BollingerUpper, RSI}
+use Rattle.pl_pipeline.specs.Cross.{Entry, cross}
 use Rattle.pl_pipeline.specs.Formula.{formula}
 use Rattle.pl_spec.specs.World.{World}
 use Rattle.pl_spec.specs.Window.{bar_window}
@@ -12,10 +14,10 @@ use Rattle.pl_pipeline.specs.Kind.{CrossKind}
 use Rattle.pl_pipeline.specs.Term.Term.{absent}
 use Rattle.pl_pipeline.specs.Value.{Value, value}
 use Rattle.pl_pipeline.specs.Value.Value.{Number}
-use Rattle.pl_laws.proofs.Worked.Worlds.{opened, units, bar, closed, asset, world, alone, split, three_bars, no_tables, across, latest}
-use Rattle.pl_invariance.specs.Absent.{without}
+use Rattle.pl_laws.proofs.Worked.Worlds.{opened, units, bar, closed, alone, split, three_bars, no_tables, across, latest}
 use Rattle.pl_invariance.specs.Alone.{number_term}
 use Rattle.pl_invariance.specs.Priced.{priced_world}
+use Rattle.pl_invariance.specs.Ranked.{scaled_entry}
 use Rattle.pl_invariance.specs.Renamed.{renamed_world}
 
 -- ---- a number beside bars
@@ -53,20 +55,6 @@ ranks_by_other_sids = refl
 ranks_by_descending_sids : ranks (renamed_world (λ a. 9 - a) three_bars) (8 ∷ 7 ∷ 6 ∷ []) ≡ Number (units 3) ∷ Number (units 1) ∷ Number (units 2) ∷ []
 unfolding opened
 ranks_by_descending_sids = refl
-
--- ---- an asset that never exists
-
--- asset 2 has bars and starts as it ends
-abbrev with_absent : World
-with_absent = world (asset 1 ∷ record (asset 2) { end = pos 19724 } ∷ asset 3 ∷ []) [] [] (closed 1 0 (units 3) ∷ closed 2 0 (units 1) ∷ closed 3 0 (units 2) ∷ []) no_tables
-
-ranks_beside_an_absent_one : ranks with_absent (1 ∷ 3 ∷ []) ≡ Number (units 2) ∷ Number (units 1) ∷ []
-unfolding opened
-ranks_beside_an_absent_one = refl
-
-ranks_without_it : ranks (without 2 with_absent) (1 ∷ 3 ∷ []) ≡ Number (units 2) ∷ Number (units 1) ∷ []
-unfolding opened
-ranks_without_it = refl
 
 -- ---- a split
 
@@ -120,3 +108,64 @@ ranks_in_cents = refl
 rounded_away : map (scaled (record { num = 1; den = 1000000 })) (pos 100000 ∷ pos 200000 ∷ []) ≡ pos 0 ∷ pos 0 ∷ []
 unfolding opened
 rounded_away = refl
+
+-- ---- formulas of prices in another unit
+
+-- prices of 1 and 3, in cents
+abbrev two : List ℤ
+two = units 1 ∷ units 3 ∷ []
+
+abbrev two_in_cents : List ℤ
+two_in_cents = map (scaled cents) two
+
+abbrev in_both : WindowKind → List ℤ
+in_both kind = formula kind two [] [] ∷ formula kind two_in_cents [] [] ∷ []
+
+means_in_both : in_both SimpleMovingAverage ≡ units 2 ∷ units 200 ∷ []
+unfolding opened
+means_in_both = refl
+
+sums_in_both : in_both WindowSum ≡ units 4 ∷ units 400 ∷ []
+unfolding opened
+sums_in_both = refl
+
+greatest_in_both : in_both WindowMax ≡ units 3 ∷ units 300 ∷ []
+unfolding opened
+greatest_in_both = refl
+
+deviations_in_both : in_both WindowStd ≡ units 1 ∷ units 100 ∷ []
+unfolding opened
+deviations_in_both = refl
+
+bands_in_both : in_both (BollingerUpper (units 2)) ≡ units 4 ∷ units 400 ∷ []
+unfolding opened
+bands_in_both = refl
+
+-- a mean that is rounded is not the same: of 1 and 2 millionths it is 2, and of 100 and 200 it is 150
+rounded_means : formula SimpleMovingAverage (pos 1 ∷ pos 2 ∷ []) [] [] ∷ formula SimpleMovingAverage (map (scaled cents) (pos 1 ∷ pos 2 ∷ [])) [] [] ∷ [] ≡ pos 2 ∷ pos 150 ∷ []
+unfolding opened
+rounded_means = refl
+
+-- a rise of 2 and a fall of 1
+strength_in_both : formula RSI (units 1 ∷ units 3 ∷ units 2 ∷ []) [] [] ∷ formula RSI (map (scaled cents) (units 1 ∷ units 3 ∷ units 2 ∷ [])) [] [] ∷ [] ≡ pos 66666667 ∷ pos 66666667 ∷ []
+unfolding opened
+strength_in_both = refl
+
+-- the asset of the higher price, one deviation above the mean and in the second half
+abbrev both_entries : List Entry
+both_entries = (1, units 1) ∷ (2, units 3) ∷ []
+
+abbrev crossed_in_both : CrossKind → List ℤ
+crossed_in_both kind = cross kind both_entries 2 (units 3) ∷ cross kind (map (scaled_entry cents) both_entries) 2 (units 300) ∷ []
+
+scores_in_both : crossed_in_both CrossKind.ZScore ≡ units 1 ∷ units 1 ∷ []
+unfolding opened
+scores_in_both = refl
+
+halves_in_both : crossed_in_both (CrossKind.Quantiles 2) ≡ pos 1 ∷ pos 1 ∷ []
+unfolding opened
+halves_in_both = refl
+
+distances_in_both : crossed_in_both CrossKind.Demean ≡ units 1 ∷ units 100 ∷ []
+unfolding opened
+distances_in_both = refl

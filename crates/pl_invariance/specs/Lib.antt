@@ -1,10 +1,11 @@
 -- The laws, each the contract of a function.
 pub mod Alone
 pub mod Renamed
-pub mod Absent
 pub mod Exact
 pub mod Priced
 pub mod Compared
 pub mod Ranked
 pub mod Restated
 pub mod Paired
+pub mod Units
+pub mod Crossed

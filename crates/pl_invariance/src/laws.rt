@@ -1,12 +1,13 @@
 //! The laws. The functions do nothing: the contract of each is a law.
-ghost use Rattle.pl_invariance.specs.Absent.{AbsentAssetsChangeNothing};
 ghost use Rattle.pl_invariance.specs.Alone.{NumbersStandAlone};
 ghost use Rattle.pl_invariance.specs.Compared.{ChangesHaveNoUnit};
 ghost use Rattle.pl_invariance.specs.Paired.{CorrelationsAreBounded, PairsHaveNoOrder, ValuesExplainThemselves};
+ghost use Rattle.pl_invariance.specs.Crossed.{CrossesHaveNoUnit, ScreensHaveNoUnit};
 ghost use Rattle.pl_invariance.specs.Priced.{PricesHaveUnits};
 ghost use Rattle.pl_invariance.specs.Ranked.{RanksHaveNoUnit};
 ghost use Rattle.pl_invariance.specs.Renamed.{SidsAreNames};
 ghost use Rattle.pl_invariance.specs.Restated.{SplitsMayBeRestated, WorldsCanBeRestated};
+ghost use Rattle.pl_invariance.specs.Units.{FormulasHaveUnits, IndicatorsHaveNoUnit};
 
 /// A number beside bars is the same whatever the bars, the adjustments and the labels are. It guards the way
 /// of a number to a value: nothing scales or masks it.
@@ -18,12 +19,6 @@ pub fn numbers_stand_alone()
 /// sid and the cross-sections, which know of a sid only which of two is the smaller.
 pub fn sids_are_names()
     ensures { SidsAreNames }
-{}
-
-/// An asset that exists on no session may be left out with all its rows, and no row of a table changes. It
-/// guards the cross-sections: who never exists is no peer, and has no part in a mean or a rank.
-pub fn absent_assets_change_nothing()
-    ensures { AbsentAssetsChangeNothing }
 {}
 
 /// Prices that are all multiplied by one ratio, those of corrections too, are seen multiplied by it, and
@@ -71,6 +66,30 @@ pub fn pairs_have_no_order()
 /// guards the sign of the root, and which of the two inputs a regression divides by.
 pub fn values_explain_themselves()
     ensures { ValuesExplainThemselves }
+{}
+
+/// What is of the price's unit is scaled with the prices: the latest, the least and the greatest, sums and
+/// means, weighted ones too, deviations and bands, where nothing is rounded. It guards these formulas: each
+/// is a sum, or a quotient by what has no unit.
+pub fn formulas_have_units()
+    ensures { FormulasHaveUnits }
+{}
+
+/// Where the prices of a window lie is the same in every unit: `RSI`, `FastStochasticOscillator`, `AroonUp`
+/// and `AroonDown` of prices that a ratio above 0 does not round.
+pub fn indicators_have_no_unit()
+    ensures { IndicatorsHaveNoUnit }
+{}
+
+/// So are the quantile of a price, whether it lies between two percentiles, how many peers it has, and its
+/// z-score where the mean and the deviation are not rounded; its distance from the mean is in its unit.
+pub fn crosses_have_no_unit()
+    ensures { CrossesHaveNoUnit }
+{}
+
+/// A comparison of two prices is the same in every unit, so a screen over it keeps the same assets.
+pub fn screens_have_no_unit()
+    ensures { ScreensHaveNoUnit }
 {}
 
 /// Each world can be restated so, whichever of an asset's ratios is left out.

@@ -18,7 +18,9 @@ use Rattle.pl_adjust.specs.Walk as rows
 use Rattle.pl_adjust.specs.Revisions.{revisions_of}
 use Rattle.pl_outside.specs.declared.keeper.Table.{Table}
 use Rattle.pl_words.specs.declared.request.InputFile.TheVariants.{Sessions, Assets, Labels, Numbers, Bars, Revisions}
-use Rattle.pl_words.specs.Request.{Dated, WorldNames}
+use Rattle.pl_pipeline.specs.Table.{Pipeline}
+use Rattle.pl_words.specs.Request.{Dated, ExplainRequest, WorldNames}
+use Rattle.pl_load.specs.Cells.{cell_steps}
 use Rattle.pl_load.specs.declared.fault.Fault.{Fault}
 use Rattle.pl_load.specs.Contents.{Contents}
 use Rattle.pl_load.specs.Held.{bytes_in, days_held, days_in, assets_held, assets_in, bars_held, bars_in, labels_in, numbers_in, no_numbers, revisions_in, adjustments_from, adjustments_of_rows}
@@ -178,3 +180,9 @@ dates-found from to as_of days h =
     let end = found (session_of days to.day) _ two.0 in
     let order : index_of days from.day ≤ index_of days to.day = not-before _ _ (index_asked days as_of) (unlike _ _ four.0) in
     record { first = at.0; first_is = at.1; last = end.0; last_is = end.1; forward = places _ _ at.0 end.0 at.1 end.1 order }
+
+-- the date of a cell is of one
+pub date-found : (p : Pipeline) (days : List ℤ) (assets : List AssetRow) (q : ExplainRequest) → first_fault (cell_steps p days assets q) ≡ None
+    → (i : ℕ) × (session_of days q.date.day ≡ Some i)
+unfolding cell_steps
+date-found p days assets q h = found (session_of days q.date.day) _ (or-none (when (not (is_some (session_of days q.date.day))) _) _ h).0

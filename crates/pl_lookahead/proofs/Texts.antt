@@ -45,7 +45,7 @@ record IsJudged (held : Contents) (q : RunRequest) : Type 0 where
   pub to_is : index_of (days_held held) q.to.day ≡ to
   pub forward : from ≤ to
 
-place-at : (days : List ℤ) (day : ℤ) (i : ℕ) → session_of days day ≡ Some i → slice_get days i ≡ Some day
+pub place-at : (days : List ℤ) (day : ℤ) (i : ℕ) → session_of days day ≡ Some i → slice_get days i ≡ Some day
 place-at days day i f =
     let at = position-Some (λ x. int_eq x day) days i day f in
     slice_get-get_or days i day at.0 ∙ ap Some (int_eq-true (get_or days i day) day at.1)
@@ -97,7 +97,7 @@ module _ (one other : Contents) (q r : WorldNames) (d : ℕ) (day : ℤ) (agree 
       ∙ ap (λ l. l ++ filter p (vs Dividends)) (sym (filter-append p (vs Splits) (vs Mergers)))
       ∙ sym (filter-append p (vs Splits ++ vs Mergers) (vs Dividends))
 
-  changes-same : (sid : ℕ) (c : Column) (bar low high : ℤ) → high ≤ℤ day
+  pub changes-same : (sid : ℕ) (c : Column) (bar low high : ℤ) → high ≤ℤ day
       → effects_in c bar low high (events_of (world_held one q) sid) ≡ effects_in c bar low high (events_of (world_held other r) sid)
   changes-same sid c bar low high h =
       ap (effects_in c bar low high) (held-events one q read sid)
@@ -142,7 +142,7 @@ not-zero : (f : Fault) → 0 ≡ status_of f → ⊥
 not-zero Unwritten e = omega arith
 not-zero f e = omega arith
 
-ended-well : (steps : List WorkStep) (asked : Option Request) (line : List ℕ) → Ends steps asked 0 line → first_fault steps ≡ None
+pub ended-well : (steps : List WorkStep) (asked : Option Request) (line : List ℕ) → Ends steps asked 0 line → first_fault steps ≡ None
 ended-well steps asked line ends = elim ends [
   | inl told ↦ here (first_fault steps) refl told.0
   | inr more ↦ elim more [

@@ -1,11 +1,14 @@
 //! The laws.
 
+ghost use Rattle.pl_lookahead.specs.Derivations.{LaterDataChangeNoDerivation};
 ghost use Rattle.pl_lookahead.specs.Laws.{LaterDataChangeNoByte, OwnDaysInAnyOrder, SameFilesSameBytes};
 
 /// Where the files and tables of two commands agree up to a session, and no reader refuses them, the tables
-/// up to it are the same bytes, by `run` and by `daily`, for all sizes of chunks, whatever comes later.
+/// up to it are the same bytes, by `run` and by `daily`, for all sizes of chunks, whatever comes later. The
+/// derivation of a cell up to it is the same lines, and the same bytes but for the codes of labels.
 pub fn later_data_change_no_byte()
-    ensures { LaterDataChangeNoByte }
+    ensures tables { LaterDataChangeNoByte }
+    ensures derivations { LaterDataChangeNoDerivation }
 {}
 
 /// Tables of adjustments in which no two rows are of one asset and one day agree where they have the same
