@@ -4,6 +4,7 @@ from __future__ import annotations
 import io
 import re
 import warnings
+from datetime import date, timedelta
 from fractions import Fraction
 from numbers import Integral
 from pathlib import Path
@@ -12,10 +13,11 @@ from typing import Any, Callable, Iterable, Mapping, Optional, Sequence, Union
 import numpy as np
 import pandas as pd
 from numpy.typing import NDArray
+from pandas.api.types import is_bool_dtype, is_complex_dtype, is_numeric_dtype, is_string_dtype
 
 from . import program
 from .data import FILES, HEADERS, NEEDED
-from .days import NoDay, read_day, read_days, read_known
+from .days import NoDay, read_day, read_day_numbers, read_days, read_known
 from .faults import DataFault
 from .pipeline.script import BARS, is_name
 from .pipeline.term import GREATEST
@@ -37,6 +39,9 @@ PUBLISHED = ("labels", "numbers", "revisions")  # what becomes known on a day, p
 ADJUSTED = re.compile("adj|^raw|raw$")  # of names in small letters alone: another version of a price
 EVENTS = re.compile("^(stock)?split|^div|^capitalgain")
 NO_SYMBOL = "where the symbol is NA or NAN, read the file with keep_default_na=False"
+FORMS_OF_NUMBERS = "give numbers, or texts as 187.25; NaN or None for a missing one"
+NARROW = "floats of 32 bits do not hold it: give num and den as whole numbers, or ratios that were never of 32 bits"
+NO_NUMBERS = (bool, np.bool_, complex, np.complexfloating, date, timedelta, np.datetime64, np.timedelta64)
 NEGATIVE = (
     "in CRSP such a price is a mean of bid and ask: give .abs()",
     "in CRSP a volume of -99 is a missing one: give NaN",
@@ -166,6 +171,11 @@ def rows_of(rows: Union[pd.Series, pd.DataFrame], wrong: NDArray[Any]) -> str:
     return f"row {rows.index[wrong.argmax()]}{and_others(int(wrong.sum()) - 1)}"
 
 
+def shown(values: pd.Series, wrong: NDArray[Any]) -> str:
+    """The first wrong value of a column, as Python writes it."""
+    return repr(values.iloc[[int(wrong.argmax())]].tolist()[0])
+
+
 def and_others(count: int, verb: bool = False) -> str:
     """The end of a message that names one of several.
 
@@ -195,6 +205,10 @@ def late_parts(after_close: Union[bool, str, Iterable[str]]) -> frozenset[str]:
     """
     if isinstance(after_close, bool):
         return frozenset(PUBLISHED if after_close else ())
+    if not isinstance(after_close, Iterable):
+        raise DataFault(
+            f"after_close: {after_close!r} is no name of a part", f"True, or some of {', '.join(PUBLISHED)}"
+        )
     parts = [after_close] if isinstance(after_close, str) else list(after_close)
     for part in parts:
         if part not in PUBLISHED:
@@ -267,13 +281,40 @@ def require_unique(frame: pd.DataFrame, key: list[str], what: str) -> pd.DataFra
 
 def to_numbers(values: pd.Series, what: str) -> pd.Series:
     """Values of any type as floats, with missing ones as NaN."""
-    numbers = pd.to_numeric(values, errors="coerce").astype("float64")
-    wrong = (numbers.isna() & values.notna()).to_numpy()
+    numbers, wrong = read_numbers(values)
     if wrong.any():
-        shown = values.iloc[wrong.argmax()]
-        if not (isinstance(shown, float) and np.isnan(shown)):
-            raise DataFault(f"{what}: {values.name} has {shown!r} in place of a number", rows_of(values, wrong))
-    return numbers
+        raise DataFault(
+            f"{what}: {values.name} has {shown(values, wrong)} in place of a number",
+            f"{rows_of(values, wrong)}; {FORMS_OF_NUMBERS}",
+        )
+    return pd.Series(numbers, index=values.index, name=values.name)
+
+
+def read_numbers(values: pd.Series) -> tuple[NDArray[Any], NDArray[Any]]:
+    """Values of any type as floats, with missing ones as NaN, and which of them are none: no text is, unless it is one
+    of a number, and neither a truth value, a complex number, a day nor a length of time.
+
+    >>> [part.tolist() for part in read_numbers(pd.Series([1, "2.5", True, 1j, None], dtype=object))]
+    [[1.0, 2.5, nan, nan, nan], [False, False, True, True, False]]
+    """
+    if isinstance(values.dtype, pd.CategoricalDtype):
+        values = values.astype(object)
+    if isinstance(values.dtype, np.dtype) and values.dtype.kind in "fiu":
+        numbers: NDArray[Any] = values.to_numpy("float64")
+        return numbers, np.zeros(len(values), dtype=bool)
+    there = values.notna().to_numpy()
+    if values.dtype == object:
+        odd = np.fromiter((isinstance(value, NO_NUMBERS) for value in values), bool, len(values)) & there
+        values = values.mask(odd)
+    else:
+        odd = np.full(
+            len(values), is_bool_dtype(values) or not is_numeric_dtype(values) and not is_string_dtype(values)
+        )
+        odd |= is_complex_dtype(values)
+    if odd.all():
+        return np.full(len(values), np.nan), there & odd
+    numbers = pd.to_numeric(values, errors="coerce").astype("float64").to_numpy()
+    return numbers, np.isnan(numbers) & there
 
 
 def to_long(frame: pd.DataFrame, row: str, name: str) -> pd.DataFrame:
@@ -291,7 +332,7 @@ def by_day(frame: Any, part: str, name: Any, read: Callable[[pd.Series, str], pd
 
 
 def long_bars(bars: Union[pd.DataFrame, Mapping[str, pd.DataFrame]]) -> pd.DataFrame:
-    """Bars of any of the forms as sid, session and the five columns."""
+    """Bars of any of the forms as sid, session (in days since 1970-01-01) and the five columns."""
     if isinstance(bars, pd.DataFrame) and bars.columns.nlevels == 2:
         level = price_level(bars.columns)
         bars = {name: bars.xs(name, axis=1, level=level) for name in bars.columns.unique(level)}
@@ -300,7 +341,7 @@ def long_bars(bars: Union[pd.DataFrame, Mapping[str, pd.DataFrame]]) -> pd.DataF
             raise DataFault("bars: there is neither open nor close", f"there are {listed(bars.columns)}")
         refuse_versions(bars.columns)
         frame = select_columns(bars, "bars", optional=BARS)
-        frame = frame.assign(session=read_days(frame.session, "bars"))
+        frame = frame.assign(session=read_day_numbers(frame.session, "bars"))
     else:
         frame = bars_by_name(bars)
     if frame.empty:
@@ -339,7 +380,7 @@ def refuse_versions(columns: Iterable[Any]) -> None:
 
 def bars_by_name(bars: Mapping[str, pd.DataFrame]) -> pd.DataFrame:
     """Bars that are given by name, as wide frames, as one long frame."""
-    wide: dict[str, pd.Series] = {}
+    wide: dict[str, pd.DataFrame] = {}
     for given, frame in bars.items():
         name = str(given).lower()
         if name not in BARS:
@@ -347,16 +388,28 @@ def bars_by_name(bars: Mapping[str, pd.DataFrame]) -> pd.DataFrame:
             raise DataFault(f"bars: there is nothing called {given!r}", listed(BARS))
         if name in wide:
             raise DataFault(f"bars: {name} is there twice", f"there are {listed(bars)}")
-        rows = to_long(by_day(frame, "bars", given, read_days), "session", name)
-        wide[name] = rows.set_index(["session", "sid"])[name]
+        wide[name] = by_day(frame, "bars", given, read_days)
+        twice = frame.columns[frame.columns.duplicated()]
+        if len(twice):
+            raise DataFault(
+                f"bars: {given} has two columns of {twice[0]}{and_others(len(twice) - 1)}", "keep one of them"
+            )
     if not wide:
         raise DataFault("bars: there is none", f"give frames by name: {listed(BARS)}")
-    return (
-        pd.concat(wide, axis=1)
-        .reindex(columns=list(BARS))
-        .rename_axis(["session", "sid"])
-        .reset_index()[HEADERS["bars"]]
-    )
+    days, assets = (union([frame.axes[axis] for frame in wide.values()]) for axis in (0, 1))
+    wide = {name: frame.reindex(index=days, columns=assets) for name, frame in wide.items()}
+    rows = {
+        "sid": np.tile(assets.to_numpy(), len(days)),
+        "session": np.repeat(days.to_numpy().astype("datetime64[D]").astype("int32"), len(assets)),
+    }
+    cells = {name: wide[name].to_numpy().ravel() if name in wide else np.nan for name in BARS}
+    return pd.DataFrame({**rows, **cells}, copy=False)
+
+
+def union(axes: Sequence[pd.Index]) -> pd.Index:
+    """All that stands on one of the axes, each once, in the order in which it comes."""
+    first = axes[0]
+    return first if all(axis.equals(first) for axis in axes) else first.append(list(axes[1:])).unique()
 
 
 def long_labels(
@@ -499,13 +552,36 @@ def ratio(value: Any, inverse: bool = False) -> Fraction:
     >>> ratio("2:1"), ratio(0.5), ratio(3.0, inverse=True), ratio(1 / 3), ratio("7514/7609")
     (Fraction(1, 2), Fraction(1, 2), Fraction(1, 3), Fraction(1, 3), Fraction(7514, 7609))
     """
+    if isinstance(value, (bool, np.bool_)):
+        raise TypeError(f"{value} is no ratio")
     if isinstance(value, str) and ":" in value:
         new, old = map(Fraction, value.split(":"))
         return old / new
+    if is_narrow(value):
+        value = _of_narrow(value)
     if isinstance(value, float):
         value = Fraction(value).limit_denominator(int(10**9 / max(1, value)))
     exact = Fraction(int(value) if isinstance(value, np.integer) else value)
     return 1 / exact if inverse else exact
+
+
+def is_narrow(value: Any) -> bool:
+    """Whether a value is a float of 32 or 16 bits."""
+    return isinstance(value, np.floating) and value.itemsize < 8
+
+
+def _of_narrow(value: Any) -> Fraction:
+    """The fraction that a float of 32 or 16 bits stands for: the only one of numbers up to 2,048, or up to 16.
+
+    >>> _of_narrow(np.float32(1 / 3)), _of_narrow(np.float32(1.5)), _of_narrow(np.float16(0.1))
+    (Fraction(1, 3), Fraction(3, 2), Fraction(1, 10))
+    """
+    most = 2 ** ((np.finfo(type(value)).nmant - 1) // 2)
+    exact = Fraction(float(value))
+    found = exact.limit_denominator(most) if exact <= 1 else 1 / (1 / exact).limit_denominator(most)
+    if found.numerator > most or type(value)(found.numerator / found.denominator) != value:
+        raise ValueError(f"{value} is none of numbers up to {most}")
+    return found
 
 
 def ratios(frame: pd.DataFrame, what: str, sids: Sids) -> Iterable[tuple[int, int, int, int]]:
@@ -521,16 +597,17 @@ def ratios(frame: pd.DataFrame, what: str, sids: Sids) -> Iterable[tuple[int, in
     if what == "splits":
         require_unique(clean.assign(sid=given.sid), ["sid", "effective_date"], what)
     seconds = [int(pd.Timestamp(day).timestamp()) for day in clean.effective_date]
-    values = zip(*(given[name] for name in kind))
+    values = zip(*(given[name].to_numpy() for name in kind))
     for at, asset, sid, date, value in zip(given.index, given.sid, clean.sid, seconds, values):
         try:
             exact = ratio(value[0]) / ratio(value[1]) if len(value) == 2 else ratio(value[0], kind == ["split"])
         except (TypeError, ValueError, ArithmeticError):
             exact = Fraction(0)
         if not 0 < exact or max(exact.numerator, exact.denominator) > 10**9:
-            shown = ":".join(map(str, value))
+            given_as = ":".join(map(str, value))
+            hint = f"; {NARROW}" if any(map(is_narrow, value)) else ""
             raise DataFault(
-                f"{what}: the ratio {shown} of {asset} is none of numbers from 1 to 1,000,000,000", f"row {at}"
+                f"{what}: the ratio {given_as} of {asset} is none of numbers from 1 to 1,000,000,000", f"row {at}{hint}"
             )
         yield date, exact.numerator, exact.denominator, int(sid)
 
