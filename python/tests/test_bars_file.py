@@ -1,4 +1,5 @@
 """Bars of one frame or of many as one file."""
+
 import numpy as np
 import pandas as pd
 import pytest

@@ -1,4 +1,5 @@
 """A piece's files, over random small data: the definition `cut` of crates/pl_cut, and the rows of the whole."""
+
 import csv
 import random
 import sqlite3

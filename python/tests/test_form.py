@@ -1,4 +1,5 @@
 """The form of the package: types, layout, and what docstrings say."""
+
 import inspect
 import re
 import subprocess

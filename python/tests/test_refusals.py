@@ -1,4 +1,5 @@
 """What can't be read in one way is refused with the value, the reason and what to write, and never by a bare error."""
+
 import importlib
 import os
 import shutil

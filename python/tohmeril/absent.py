@@ -1,4 +1,5 @@
 """Modules of Zipline and Quantopian that are none here: who imports one learns what to write."""
+
 from __future__ import annotations
 
 import re

@@ -4,6 +4,7 @@ A bar is a record of seven whole numbers. Batches of records are sorted by asset
 where there are many. In the end the bars of some assets at a time are read from all batches, and are written in the
 order of their sids.
 """
+
 from __future__ import annotations
 
 import os
@@ -131,6 +132,7 @@ class Bars:
 
     def _values(self, rows: pd.DataFrame, places: Array, name: str) -> Array:
         """A column as floats, which has no value that a bar can't have."""
+        values: Array
         values, wrong = read_numbers(rows[name])
         if wrong.any():
             told = f"{name} has {shown(rows[name], wrong)} in place of a number"
@@ -153,7 +155,7 @@ class Bars:
     def _refuse(self, rows: pd.DataFrame, places: Array, wrong: Array, told: str, hint: str = "") -> None:
         """Raise the fault of the wrong rows, where there is one."""
         if wrong.any():
-            place = self._place(places[int(wrong.argmax())])
+            place = self._place(int(places[int(wrong.argmax())]))
             place = place and f"row {place}{and_others(int(wrong.sum()) - 1)}"
             raise DataFault(f"bars: {told}", "; ".join(filter(None, (place, hint))))
 
@@ -170,8 +172,9 @@ class Bars:
         records = self.records[self.sorted : self.filled]
         if (records[1:, KEY] < records[:-1, KEY]).any():
             records[:] = records.take(np.argsort(records[:, KEY], kind="stable"), axis=0)
-        keys = records[:, KEY].copy()
-        starts = np.searchsorted(keys, np.arange(len(self.numbers) + 1) << 32)
+        keys: Array = records[:, KEY].copy()
+        bounds: Array = np.arange(len(self.numbers) + 1, dtype="i8") << 32
+        starts: Array = np.asarray(keys.searchsorted(bounds))
         self.batches.append(Batch(self.laid + self.sorted, starts))
         self.sorted = self.filled
         keys = keys[records[:, ROW] >= 0]
@@ -198,11 +201,12 @@ class Bars:
 
     def _read(self, batch: Batch, first: int, end: int) -> Array:
         """The records of a batch that are of the assets from one to another, without the latter."""
-        start, stop = batch.place + batch.starts[first], batch.place + batch.starts[end]
-        if start >= self.laid or self.file is None:
-            return self.records[start - self.laid : stop - self.laid]
-        size = WIDTH * self.records.itemsize
-        return np.frombuffer(os.pread(self.file.fileno(), (stop - start) * size, start * size), "i8").reshape(-1, WIDTH)
+        start, stop = (batch.place + int(batch.starts[asset]) for asset in (first, end))
+        found: Array = self.records[max(start - self.laid, 0) : max(stop - self.laid, 0)]
+        if start < self.laid and self.file is not None:
+            size = WIDTH * self.records.itemsize
+            found = np.frombuffer(os.pread(self.file.fileno(), (stop - start) * size, start * size), "i8")
+        return found.reshape(-1, WIDTH)
 
     def end(self) -> None:
         """End the taking in; from here on the attributes are those of all bars."""
@@ -291,12 +295,14 @@ class Bars:
 
 def _keys(assets: Array, days: Array) -> Array:
     """Numbers in the order of assets and days."""
-    return (assets << 32) + (days + np.int64(1 << 31))
+    found: Array = (assets << 32) + (days + np.int64(1 << 31))
+    return found
 
 
 def _days(keys: Array) -> Array:
     """The days of such numbers."""
-    return (keys & 0xFFFFFFFF) - (1 << 31)
+    found: Array = (keys & 0xFFFFFFFF) - (1 << 31)
+    return found
 
 
 def _with_values(records: Array) -> Array:
@@ -450,7 +456,8 @@ def lines(sids: Array, days: Array, cells: Array) -> bytearray:
 def _day_texts(first: int, last: int) -> Array:
     """The days from one to another between commas, since most blocks have the same ones."""
     days = np.arange(first, last + 1).astype("datetime64[D]").astype("S10")
-    return np.char.add(np.char.add(b",", days), b",").view("u4").reshape(-1, 3)
+    texts: Array = np.char.add(np.char.add(b",", days), b",").view("u4").reshape(-1, 3)
+    return texts
 
 
 def _digits(numbers: Array) -> list[Array]:
@@ -458,7 +465,7 @@ def _digits(numbers: Array) -> list[Array]:
     rest = numbers
     found: list[Array] = []
     while (greatest := int(rest.max())) >= 10_000:
-        above = rest // 10_000
+        above: Array = rest // 10_000
         last = rest - above * 10_000
         shown = np.where(above > 0, FOUR[last], FRONT[last])
         found.insert(0, np.where(rest > 0, shown, 0) if found else shown)

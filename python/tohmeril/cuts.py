@@ -2,6 +2,7 @@
 
 Beside each cut file stand the numbers that its records have in the whole file, for faults.
 """
+
 from __future__ import annotations
 
 import csv
@@ -250,9 +251,7 @@ def _adjustments(source: Path, span: Span) -> None:
     """Copy the adjustments of days after the first bar that is read and up to the last session."""
     days = [int(pd.Timestamp(day).timestamp()) + SECONDS for day in (span.first, span.last)]
     try:
-        with readable(source) as name, closing(
-            sqlite3.connect(span.folder / FILES["adjustments"], uri=True)
-        ) as store, store:
+        with readable(source) as name, closing(sqlite3.connect(span.folder / FILES["adjustments"], uri=True)) as store:
             store.execute("ATTACH ? AS source", (name,))
             for table in TABLES:
                 store.execute(CREATE.format(table))
@@ -261,5 +260,6 @@ def _adjustments(source: Path, span: Span) -> None:
                     "WHERE effective_date >= ? AND effective_date < ?",
                     days,
                 )
+            store.commit()
     except sqlite3.Error as error:
         raise StoreFault(f"store: {source}") from error

@@ -1,4 +1,5 @@
 """Days: the one place that reads them, from any form that has one meaning alone."""
+
 from __future__ import annotations
 
 import calendar
@@ -182,10 +183,11 @@ def _day_after(value: Any) -> date:
 def _datetime64(value: np.datetime64) -> date:
     if np.datetime_data(value.dtype)[0] in ("Y", "M", "W"):
         raise NoDay(f"{value} is a period", "give one of its days")
-    day: Union[date, int] = value.astype("datetime64[D]").item()
+    day: Any = np.asarray(value, "datetime64[D]").tolist()
     if isinstance(day, int):  # of a year that no date has
         raise NoDay(f"{value} is not of the years {YEARS[0]} to {YEARS[-1]}")
-    return day
+    found: date = day
+    return found
 
 
 def _text(value: str) -> date:

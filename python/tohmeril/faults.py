@@ -1,5 +1,5 @@
-"""The program's statuses as exceptions. Each carries the line that the program printed, and how to mend what it names.
-"""
+"""The program's statuses as exceptions. Each carries the line that the program printed, and how to mend what it names."""
+
 from __future__ import annotations
 
 import csv
@@ -234,7 +234,8 @@ class DataFault(Fault, status=4):
             "Negative": lambda name, field: field.startswith("-"),
             "BadRatio": lambda name, field: name in ("num", "den") and not 1 <= int(field) <= 10**9,
         }
-        breaks = rules.get(self.rule, lambda name, field: name in WRONG.get(self.rule or "", "").split())
+        rules.setdefault(self.rule, lambda name, field: name in WRONG.get(self.rule or "", "").split())
+        breaks = rules[self.rule]
         shown = f"    {'row' if self.table else 'record'} {self.record}: {','.join(fields)}"
         for at, (name, field) in enumerate(zip(names, fields)):
             if breaks(name, field):

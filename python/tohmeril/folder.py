@@ -10,6 +10,7 @@ its files, wherever the writer is ended. `Data` reads `current` once and then na
 so that it sees one version from its first read to its last. It holds a shared lock on it for as long as it lives, and
 a writer removes no version that is held. Writers take turns.
 """
+
 from __future__ import annotations
 
 import fcntl

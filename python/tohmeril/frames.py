@@ -1,4 +1,5 @@
 """Frames of pandas as the records of the program's files."""
+
 from __future__ import annotations
 
 import io

@@ -1,4 +1,5 @@
 """What comes after the last session of a folder, added so that no row that was shown changes."""
+
 from __future__ import annotations
 
 import mmap
@@ -278,7 +279,9 @@ def _beside(
         )
         files["revisions"] = pd.concat([*filter(None.__ne__, [files.get("revisions")]), cells])[HEADERS["revisions"]]
     for part, name in FIRST.items():
-        wrong = files[part][files[part][name] <= store.last] if part in files else ()
+        if part not in files:
+            continue
+        wrong = files[part][files[part][name] <= store.last]
         if len(wrong):
             record, verb = wrong.iloc[0], "starts" if name == "start" else "is known"
             raise DataFault(
@@ -333,13 +336,11 @@ def _add_adjustments(
     """Add rows to the tables of adjustments, which act after the last session alone. Their counts."""
     path = store.data.files["adjustments"]
     try:
-        with readable(path) as name, closing(sqlite3.connect(name, uri=True)) as old, closing(
-            sqlite3.connect(new / FILES["adjustments"])
-        ) as copy:
-            old.backup(copy)
-            newest = {
-                table: copy.execute(f"SELECT coalesce(max(id), 0) FROM {table}").fetchone()[0] for table in TABLES
-            }
+        with readable(path) as name, closing(sqlite3.connect(name, uri=True)) as old:
+            with closing(sqlite3.connect(new / FILES["adjustments"])) as copy:
+                old.backup(copy)
+                last = "SELECT coalesce(max(id), 0) FROM {}"
+                newest = {table: copy.execute(last.format(table)).fetchone()[0] for table in TABLES}
     except sqlite3.Error as error:
         fault = StoreFault(f"store: {path}")
         fault.note = fault.note or str(error)

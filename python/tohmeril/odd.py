@@ -1,6 +1,7 @@
 """What looks odd in data though it is lawful: most of it shows later as an empty or a wrong column, and the program is
 silent.
 """
+
 from __future__ import annotations
 
 import sqlite3
@@ -74,14 +75,13 @@ def check_files(
     failed: Optional[Exception] = None
     last = data.sessions[-1] if data.sessions else "1970-01-01"
     try:
-        with data.steady(), program.file(PROBE) as name, program.stream(
-            ["run", name, *data.names, last, last, *data.options]
-        ) as judged:
-            try:
-                found += _looked(data, pipelines, lacking, _blocks(data) if bars is None else bars)
-            except Exception as error:  # the program says better what is wrong in a file
-                failed = error
-            judged.read()
+        with data.steady(), program.file(PROBE) as name:
+            with program.stream(["run", name, *data.names, last, last, *data.options]) as judged:
+                try:
+                    found += _looked(data, pipelines, lacking, _blocks(data) if bars is None else bars)
+                except Exception as error:  # the program says better what is wrong in a file
+                    failed = error
+                judged.read()
     except LimitFault as fault:  # the rest can be looked at all the same
         found.insert(0, str(fault).replace("\n", ": "))
     if failed is not None:
@@ -372,11 +372,6 @@ def _dated(data: Data, pipelines: Sequence[Piped], part: str) -> Iterator[str]:
 
 def _columns(table: Optional[pd.DataFrame]) -> Iterator[str]:
     for name, cells in {} if table is None else table.items():
-        if (
-            (cells == -1).all()
-            if cells.dtype == "int64"
-            else not cells.notna().any()
-            if cells.dtype != bool
-            else not cells.any()
-        ):
+        some = cells != -1 if cells.dtype == "int64" else cells if cells.dtype == bool else cells.notna()
+        if not some.any():
             yield f"table: the column {name!r} has no value"

@@ -3,6 +3,7 @@
 docs/VENDORS.md says of each source what is point in time in it and what is not. No reader uses a network or a vendor's
 package.
 """
+
 from __future__ import annotations
 
 import warnings
