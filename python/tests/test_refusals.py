@@ -15,7 +15,7 @@ import numpy as np
 import pandas as pd
 import pytest
 
-from tohmeril import Data, DataFault, ReadFault, StoreFault, run_pipeline
+from tohmeril import Data, DataFault, ReadFault, StoreFault, explain, run_pipeline, vendors, verify
 from tohmeril.data import readable
 from tohmeril.frames import read_numbers
 from tohmeril.pipeline import Pipeline
@@ -185,6 +185,58 @@ def test_what_is_no_path(tmp_path):
     for call in (lambda: Data(5), lambda: Data(None), lambda: Data.write(5, {"close": CLOSE})):
         with pytest.raises(TypeError, match="a folder is given by its path, and not by (5|None)"):
             call()
+
+
+@pytest.mark.parametrize("given", [5, "frame.csv", [1], {"close": CLOSE}, None])
+@pytest.mark.parametrize(
+    "reader, what",
+    [
+        (vendors.yfinance, "yfinance"),
+        (vendors.stooq, "stooq"),
+        (lambda given: vendors.sharadar(given, given), "SEP"),
+        (vendors.crsp, "CRSP"),
+    ],
+    ids=["yfinance", "stooq", "sharadar", "crsp"],
+)
+def test_frames_of_vendors(reader, what, given):
+    with pytest.raises(DataFault, match=f"{what}: {type(given).__name__} is no frame\ngive a DataFrame of pandas"):
+        reader(given)
+
+
+@pytest.mark.parametrize(
+    "call, sort, told",
+    [
+        (lambda data: data.check(table=5), TypeError, "table is a frame of run_pipeline, and not 5"),
+        (lambda data: data.sids(5), TypeError, r"symbols are given as a list, as \['AAPL'\], and not as 5"),
+        (lambda data: data.sids("AAA"), TypeError, "and not as 'AAA'"),
+        (lambda data: explain(PIPE, DAYS[9], "AAA", ["y"], data), TypeError, "column is the name of one of the pipe"),
+        (lambda data: verify(PIPE, 5, data), TypeError, "derivation is one of explain, its text or the Path .* not 5"),
+        (
+            lambda data: run_pipeline(PIPE, DAYS[9], DAYS[10], data, cut="/nowhere"),
+            FileNotFoundError,
+            "cut: there is no folder /nowhere: make it, where all machines see it, or give cut=True",
+        ),
+        (lambda data: vendors.csvdir(5), TypeError, "a folder is given by its path, and not by 5"),
+        (
+            lambda data: Data.write(data.folder, {"close": CLOSE}, sessions=[]),
+            DataFault,
+            "sessions: there is none\nwithout sessions= they are the days of the bars",
+        ),
+        (
+            lambda data: Data.write(data.folder, {"close": CLOSE}, labels={("a", "b"): {"AAA": "x"}}),
+            DataFault,
+            r"labels: \('a', 'b'\) is no name\na name is a text",
+        ),
+        (
+            lambda data: Data.write(data.folder, {"close": CLOSE}, numbers={5: CLOSE}),
+            DataFault,
+            "numbers: 5 is no name\ngive frames by name, or by the column of a DataSet",
+        ),
+    ],
+)
+def test_arguments(call, sort, told, tmp_path):
+    with pytest.raises(sort, match=told):
+        call(Data.write(tmp_path, {"close": CLOSE}))
 
 
 def link(path):

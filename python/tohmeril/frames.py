@@ -40,6 +40,7 @@ PUBLISHED = ("labels", "numbers", "revisions")  # what becomes known on a day, p
 ADJUSTED = re.compile("adj|^raw|raw$")  # of names in small letters alone: another version of a price
 EVENTS = re.compile("^(stock)?split|^div|^capitalgain")
 NO_SYMBOL = "where the symbol is NA or NAN, read the file with keep_default_na=False"
+FRAMES = "give a DataFrame of pandas: help(tohmeril.ingest.write) has its columns"
 FORMS_OF_NUMBERS = "give numbers, or texts as 187.25; NaN or None for a missing one"
 NARROW = "floats of 32 bits do not hold it: give num and den as whole numbers, or ratios that were never of 32 bits"
 NO_NUMBERS = (bool, np.bool_, complex, np.complexfloating, date, timedelta, np.datetime64, np.timedelta64)
@@ -217,7 +218,7 @@ def late_parts(after_close: Union[bool, str, Iterable[str]]) -> frozenset[str]:
     return frozenset(parts)
 
 
-def require_frame(given: Any, what: str) -> pd.DataFrame:
+def require_frame(given: Any, what: str, hint: str = FRAMES) -> pd.DataFrame:
     """What was given, where it is a frame.
 
     >>> require_frame({"AAPL": 2}, "splits")
@@ -227,10 +228,7 @@ def require_frame(given: Any, what: str) -> pd.DataFrame:
     """
     if isinstance(given, pd.DataFrame):
         return given
-    raise DataFault(
-        f"{what}: {type(given).__name__} is no frame",
-        "give a DataFrame of pandas: help(tohmeril.ingest.write) has its columns",
-    )
+    raise DataFault(f"{what}: {type(given).__name__} is no frame", hint)
 
 
 def has_column(frame: pd.DataFrame, name: str) -> bool:
@@ -431,6 +429,8 @@ def long_labels(
         )
     parts = []
     for name, given in labels.items():
+        if not isinstance(name, str):
+            raise DataFault(f"labels: {name!r} is no name", "a name is a text, as 'sector'")
         if not isinstance(given, (pd.DataFrame, pd.Series, Mapping)):
             raise DataFault(f"labels: {name} is no series by asset", "give a mapping, as {'AAA': 'Tech'}")
         frame = (
@@ -473,6 +473,9 @@ def long_numbers(
         if not isinstance(numbers, Mapping):
             require_frame(numbers, "numbers")
         names = [getattr(key, "name", key) for key in numbers]  # of texts and of a DataSet's columns
+        for name in names:
+            if not isinstance(name, str):
+                raise DataFault(f"numbers: {name!r} is no name", "give frames by name, or by the column of a DataSet")
         require_unique(pd.DataFrame({"name": names}), ["name"], "numbers")
         parts = [changes(name, frame, late, there) for name, frame in zip(names, numbers.values())]
         found = pd.concat(parts or [pd.DataFrame(columns=HEADERS["numbers"])], ignore_index=True)

@@ -61,6 +61,8 @@ def check(
     StoreFault
         Where the tables of the adjustments can't be read.
     """
+    if table is not None and not isinstance(table, pd.DataFrame):
+        raise TypeError(f"table is a frame of run_pipeline, and not {table!r}")
     return [*check_files(as_data(data), pipelines, lacking), *_columns(table)]
 
 
