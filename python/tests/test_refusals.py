@@ -306,6 +306,13 @@ def test_files_that_are_none(part, told, text, plain):
     assert not (plain / "versions").exists()
 
 
+def test_a_database_that_is_not_there(plain):
+    data = Data(plain, adjustments="nowhere.db")
+    for call in (data.check, lambda: run_pipeline(PIPE, DAYS[9], DAYS[10], data, cut=True, pieces=2)):
+        with pytest.raises((ReadFault, StoreFault), match="nowhere.db\n.*there is no such file"):
+            call()
+
+
 def ended(path, mode):
     """Let a process that writes to a database end in the middle."""
     lines = [
