@@ -17,9 +17,9 @@ import pytest
 
 from tohmeril import Data, DataFault, ReadFault, StoreFault, explain, run_pipeline, vendors, verify
 from tohmeril.data import readable
-from tohmeril.frames import read_numbers
 from tohmeril.pipeline import Pipeline
 from tohmeril.pipeline.factors import Returns
+from tohmeril.values import read_numbers
 
 pytestmark = pytest.mark.filterwarnings("ignore:(bars|splits|labels|numbers):UserWarning")
 DAYS = pd.bdate_range("2024-01-02", periods=30)

@@ -29,9 +29,10 @@ import numpy as np
 import pandas as pd
 
 from .faults import DataFault
-from .frames import FORMS_OF_NUMBERS, NEGATIVE, NO_SYMBOL, and_others, long_bars, read_numbers, shown
+from .frames import NEGATIVE, NO_SYMBOL, long_bars
 from .pipeline.script import BARS
 from .pipeline.term import GREATEST
+from .values import FORMS_OF_NUMBERS, and_others, read_numbers, shown
 
 if TYPE_CHECKING:
     Array = np.ndarray[Any, Any]
@@ -464,7 +465,7 @@ def _digits(numbers: Array) -> list[Array]:
     """The digits of whole numbers from 0 on, by fours, with zero bytes in front."""
     rest = numbers
     found: list[Array] = []
-    while (greatest := int(rest.max())) >= 10_000:
+    while rest.max() >= 10_000:
         above: Array = rest // 10_000
         last = rest - above * 10_000
         shown = np.where(above > 0, FOUR[last], FRONT[last])

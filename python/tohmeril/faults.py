@@ -1,4 +1,4 @@
-"""The program's statuses as exceptions. Each carries the line that the program printed, and how to mend what it names."""
+"""The program's statuses as exceptions. Each carries the line that the program printed, and says how to mend it."""
 
 from __future__ import annotations
 

@@ -20,10 +20,11 @@ from .data import FILES, HEADERS, NEEDED, SECONDS, TABLES, Data, readable, recor
 from .days import Day, read_day
 from .faults import DataFault, LimitFault, ReadFault, StoreFault
 from .folder import as_path, lost, writing
-from .frames import FOREVER, Sids, and_others, late_parts, read_symbols, require_unique, select_columns
+from .frames import FOREVER, Sids, late_parts, read_symbols, require_unique, select_columns
 from .ingest import add_adjustments, adjustments, beside_bars, calendar, of_parts, write_records
 from .odd import PROBE
 from .pipeline.script import BARS
+from .values import and_others
 
 if TYPE_CHECKING:
     Array = np.ndarray[Any, Any]

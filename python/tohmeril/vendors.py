@@ -17,8 +17,9 @@ import pandas as pd
 from .days import Day, read_day, read_days
 from .faults import DataFault
 from .folder import as_path
-from .frames import FOREVER, listed, ratio, require_frame, to_long, to_numbers, whole_number
+from .frames import FOREVER, listed, require_frame, to_long
 from .pipeline.script import BARS
+from .values import ratio, to_numbers, whole_number
 
 PRICES = ("open", "high", "low", "close")
 KEYS = ["symbol", "date"]
