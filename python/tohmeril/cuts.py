@@ -180,8 +180,10 @@ def _bars(data: Data, spans: Sequence[Span], assets: pd.Index) -> None:
 
 
 def _plain_keys(text: Array, ends: Array, lengths: Array) -> Optional[tuple[Keys, Keys]]:
-    """The sids and the days of lines of seven fields that begin with digits as the program writes them; None where one
-    line of the block is another."""
+    """The sids and the days of lines of seven fields that begin as the program writes them.
+
+    None where one line of the block is another.
+    """
     commas, starts = np.flatnonzero(text == ord(",")), ends - lengths + 1
     if len(commas) != 6 * len(ends):
         return None
@@ -207,9 +209,16 @@ def _plain_keys(text: Array, ends: Array, lengths: Array) -> Optional[tuple[Keys
         days = days * 10 + digits
     if none.any() or ((text[starts] == ord("0")) & (width > 1)).any():
         return None
-    return Keys(*_distinct(sids, str)), Keys(
-        *_distinct(days, lambda day: f"{day // 10_000:04}-{day // 100 % 100:02}-{day % 100:02}")
-    )
+    return _distinct(sids, str), _distinct(days, _as_day)
+
+
+def _as_day(number: int) -> str:
+    """The day of a number YYYYMMDD, which need not be one.
+
+    >>> _as_day(20240102)
+    '2024-01-02'
+    """
+    return f"{number // 10_000:04}-{number // 100 % 100:02}-{number % 100:02}"
 
 
 def _any_keys(block: bytes) -> tuple[Keys, Keys]:
@@ -234,10 +243,10 @@ def _any_keys(block: bytes) -> tuple[Keys, Keys]:
     return sids, days
 
 
-def _distinct(numbers: Array, text: Callable[[int], str]) -> tuple[Array, list[str]]:
-    """The codes of numbers, and the texts of the distinct ones."""
+def _distinct(numbers: Array, text: Callable[[int], str]) -> Keys:
+    """Numbers as keys, by the texts of the distinct ones."""
     codes, distinct = pd.factorize(numbers)
-    return codes, list(map(text, distinct.tolist()))
+    return Keys(codes, list(map(text, distinct.tolist())))
 
 
 def _places(keys: Keys, known: pd.Index) -> Array:
