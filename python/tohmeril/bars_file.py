@@ -1,7 +1,7 @@
 """Bars of one frame or of many, one after the other, as the lines of a file, with little memory.
 
-A bar is a record of seven whole numbers. Batches of records are sorted by asset and day, and are laid into a file
-where there are many. In the end the bars of some assets at a time are read from all batches, and are written in the
+A bar is a record of seven whole numbers. Small batches of records are sorted by asset and day; where there are many
+they are laid into a file, as one batch that is sorted, too. In the end the bars of some assets at a time are read from all batches, and are written in the
 order of their sids.
 """
 
@@ -174,9 +174,7 @@ class Bars:
         if (records[1:, KEY] < records[:-1, KEY]).any():
             records[:] = records.take(np.argsort(records[:, KEY], kind="stable"), axis=0)
         keys: Array = records[:, KEY].copy()
-        bounds: Array = np.arange(len(self.numbers) + 1, dtype="i8") << 32
-        starts: Array = np.asarray(keys.searchsorted(bounds))
-        self.batches.append(Batch(self.laid + self.sorted, starts))
+        self.batches.append(Batch(self.laid + self.sorted, self._starts(keys)))
         self.sorted = self.filled
         keys = keys[records[:, ROW] >= 0]
         fresh = np.full(len(self.numbers) - len(self.first), np.iinfo("i4").max, "i4")
@@ -193,12 +191,22 @@ class Bars:
         self.last[there] = np.maximum(self.last[there], day[ends])
 
     def _lay(self) -> None:
-        """Lay the records in memory into the file."""
+        """Lay the records in memory into the file, as one batch."""
         if self.file is None:
             self.file = open(self.path, "wb+")
-        self.file.write(self.records[: self.filled].data)
+        keys: Array = self.records[: self.filled, KEY].copy()
+        order = np.argsort(keys, kind="stable")
+        for start in range(0, len(order), GROUP):
+            self.file.write(self.records.take(order[start : start + GROUP], axis=0).data)
         self.file.flush()
+        there = [batch for batch in self.batches if batch.place < self.laid]
+        self.batches = [*there, Batch(self.laid, self._starts(keys[order]))]
         self.laid, self.sorted, self.filled = self.laid + self.filled, 0, 0
+
+    def _starts(self, keys: Array) -> Array:
+        """Where those of each asset begin among sorted keys."""
+        bounds: Array = np.arange(len(self.numbers) + 1, dtype="i8") << 32
+        return np.asarray(keys.searchsorted(bounds))
 
     def _read(self, batch: Batch, first: int, end: int) -> Array:
         """The records of a batch that are of the assets from one to another, without the latter."""
