@@ -1,4 +1,5 @@
 """What comes after the last session: rows that were shown stay, and the rows of all mornings are those of one write."""
+
 import shutil
 
 import numpy as np
@@ -39,9 +40,8 @@ def parts():
     close = pd.DataFrame(chance.lognormal(3, 0.1, (30, 5)).round(2), index=DAYS, columns=names)
     close.loc[: DAYS[17], "EEE"] = np.nan  # it begins later
     close.loc[DAYS[21] :, "DDD"] = np.nan  # it ends
-    close.loc[DAYS[11], "AAA"] = close.loc[
-        DAYS[15:17], "CCC"
-    ] = np.nan  # halts, one of them on the last session of the first write
+    close.loc[DAYS[11], "AAA"] = np.nan  # a halt
+    close.loc[DAYS[15:17], "CCC"] = np.nan  # another, on the last session of the first write too
     bars = close.rename_axis("date").reset_index().melt("date", var_name="symbol", value_name="close").dropna()
     bars = bars.assign(open=1.5, high=2.5, low=np.nan, volume=chance.integers(100, 10**6, len(bars)))
     open_end = pd.Timestamp("2199-12-31")

@@ -1,4 +1,5 @@
 """Bars of one frame or of many as one file."""
+
 import numpy as np
 import pandas as pd
 import pytest
@@ -52,13 +53,16 @@ def wanted(frame):
 
 
 @pytest.mark.parametrize(
-    "batch, group", [(1 << 22, 1 << 18), (20_000, 1000), (1 << 14, 200)], ids=["memory", "file", "small groups"]
+    "memory, batch, group",
+    [(1 << 22, 1 << 17, 1 << 17), (1 << 22, 1000, 200), (4000, 1000, 1000), (2000, 2000, 200)],
+    ids=["one batch", "many", "in a file", "each in a file"],
 )
-@pytest.mark.parametrize("pieces", [1, 7], ids=["one frame", "many"])
-def test_frames_one_after_the_other(pieces, batch, group, frame, wanted, tmp_path, monkeypatch):
+@pytest.mark.parametrize("pieces", [1, 7], ids=["one frame", "seven"])
+def test_frames_one_after_the_other(pieces, memory, batch, group, frame, wanted, tmp_path, monkeypatch):
+    monkeypatch.setattr(bars_file, "MEMORY", memory)
     monkeypatch.setattr(bars_file, "BATCH", batch)
     monkeypatch.setattr(bars_file, "GROUP", group)
-    monkeypatch.setattr(bars_file, "BLOCK", min(group, 1 << 14))
+    monkeypatch.setattr(bars_file, "BLOCK", min(group, 1 << 13))
     parts = [frame.iloc[at::pieces] for at in range(pieces)]
     data = Data.write(tmp_path, parts[0] if pieces == 1 else iter(parts))
     assert data.files["bars"].read_text() == wanted
@@ -89,6 +93,11 @@ def test_wide_frames_are_long_ones(frame, wanted, tmp_path):
     other = {**wide, "close": wide["close"][::-1], "low": wide["low"].iloc[:, ::-1]}
     assert Data.write(tmp_path / "other", other).files["bars"].read_text() == wanted
     assert Data.write(tmp_path / "levels", pd.concat(wide, axis=1)).files["bars"].read_text() == wanted
+    some = {**wide, "volume": wide["volume"].iloc[100:, 3:]}
+    fewer = frame.assign(volume=frame.volume.where((frame.date >= wide["close"].index[100]) & (frame.symbol >= "S11")))
+    wanted = Data.write(tmp_path / "fewer", fewer).files["bars"].read_text()
+    assert wide["close"].columns[3] == "S11"
+    assert Data.write(tmp_path / "some", some).files["bars"].read_text() == wanted
 
 
 @pytest.mark.parametrize(

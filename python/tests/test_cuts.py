@@ -9,6 +9,7 @@ import sqlite3
 from datetime import date, timedelta
 from types import SimpleNamespace
 
+import numpy as np
 import pytest
 
 from tohmeril import Data, cuts, run_text
@@ -150,6 +151,39 @@ def test_the_files_of_a_piece_are_the_cut(seed, tmp_path, monkeypatch):
         sids = {row[0] for row in wanted["assets"]}
         found.update((table, [row for row in found[table] if row[4] in sids]) for table in TABLES)
         assert as_text(found) == as_text(wanted), (first, last)
+
+
+LINE = "7,2024-01-02,1,2,3,4,5\n"
+
+
+@pytest.mark.parametrize(
+    "lines, plain",
+    [
+        (LINE * 3, True),
+        (LINE + "4294967295,1999-12-31,,,,,\n" + "0,2024-13-99,a,b,c,d,e\n", True),
+        (LINE.replace("\n", "\r\n") * 2, True),
+        (LINE + "\n", False),
+        (LINE + "07,2024-01-02,1,2,3,4,5\n", False),
+        (LINE + '"7",2024-01-02,1,2,3,4,5\n', False),
+        (LINE + '7,"2024-01-02",1,2,3,4,5\n', False),
+        (LINE + "7,2024/01/02,1,2,3,4,5\n", False),
+        (LINE + "7,2024-01-2x,1,2,3,4,5\n", False),
+        (LINE + ",2024-01-02,1,2,3,4,5\n", False),
+        (LINE + " 7,2024-01-02,1,2,3,4,5\n", False),
+        (LINE + "12345678901,2024-01-02,1,2,3,4,5\n", False),
+        (LINE + "7,2024-01-02,1,2,3,4\n" + "7,2024-01-02,1,2,3,4,5,6\n", False),
+        (LINE + "7\n" + "7,2024-01-02,1,2,3,4,5,6,7,8,9,10\n", False),
+        ("sid,session,open,high,low,close,volume\n" + LINE, False),
+    ],
+)
+def test_keys_of_lines(lines, plain):
+    """Those of lines that the program writes are read as those of any lines."""
+    text = np.frombuffer(lines.encode(), "u1")
+    ends = np.flatnonzero(text == ord("\n"))
+    quick = cuts._plain_keys(text, ends, np.diff(ends, prepend=-1))
+    assert (quick is not None) == plain
+    for key, wanted in zip(quick or (), cuts._any_keys(lines.encode())):
+        assert [key.texts[code] for code in key.codes] == [wanted.texts[code] for code in wanted.codes]
 
 
 def reading():

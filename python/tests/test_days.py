@@ -1,4 +1,5 @@
 """Days: what is read, and that everything else is refused, wherever a day is given."""
+
 import datetime as dt
 import time
 

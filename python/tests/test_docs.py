@@ -1,4 +1,5 @@
 """The pages for readers: their examples, and the rows of their tables."""
+
 import doctest
 import re
 import textwrap

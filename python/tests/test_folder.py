@@ -1,4 +1,5 @@
 """A folder is whole or it is not there: writers that are ended, readers beside them, disks that are full."""
+
 import errno
 import os
 import pickle

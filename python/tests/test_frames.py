@@ -1,4 +1,5 @@
 """What `Data.write` refuses in frames, and what it takes, by the frames alone."""
+
 import warnings
 from pathlib import Path
 

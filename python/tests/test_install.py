@@ -1,4 +1,5 @@
 """The package installs without a network into a fresh environment."""
+
 import importlib.util
 import shutil
 import subprocess

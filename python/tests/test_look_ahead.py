@@ -2,6 +2,7 @@
 
 `LOOK_AHEAD_CASES` says how many markets are drawn, 300 where it is not set.
 """
+
 import os
 import random
 import sqlite3

@@ -1,4 +1,5 @@
 """What is said to those who write something else than they mean."""
+
 import importlib
 import re
 import shutil
@@ -414,9 +415,11 @@ def test_names_without_records(data, tmp_path):
             warnings.simplefilter("always")
             call()
         assert [str(each.message) for each in told] == [
-            "no record has the label 'sectr', so that it is empty; there are listing, sector"
-            if "listing" in str(told[0].message)
-            else "no record has the label 'sectr', so that it is empty; there are sector",
+            (
+                "no record has the label 'sectr', so that it is empty; there are listing, sector"
+                if "listing" in str(told[0].message)
+                else "no record has the label 'sectr', so that it is empty; there are sector"
+            ),
             "no record has the number 'earnings', so that it is empty; there are score",
         ]
         assert all(each.filename == __file__ for each in told)
@@ -453,7 +456,6 @@ def test_too_many_bars_in_a_piece(data, monkeypatch):
     monkeypatch.setattr(runs, "_piece", full)
     with pytest.raises(LimitFault, match="in the piece from 2023-12-18 to 2023-12-21: give pieces=4"):
         run_pipeline(pipe, *RANGE, data, cut=True, pieces=2)
-    with ThreadPoolExecutor(2) as pool, pytest.raises(
-        LimitFault, match="in the piece from 2023-12-18 to .*: give pieces=6"
-    ):
+    told = "in the piece from 2023-12-18 to .*: give pieces=6"
+    with ThreadPoolExecutor(2) as pool, pytest.raises(LimitFault, match=told):
         run_pipeline(pipe, *RANGE, data, cut=True, pieces=3, executor=pool)

@@ -1,4 +1,5 @@
 """Numbers beside bars: columns of a DataSet, what `Data.write` makes of them, their values by pandas' as-of join."""
+
 import pickle
 import random
 import re

@@ -1,4 +1,5 @@
 """What looks odd though it is lawful. The folders are written by hand, since `Data.write` refuses some of it."""
+
 import sqlite3
 from contextlib import closing
 

@@ -1,4 +1,5 @@
 """Pictures, and the forward returns that they show."""
+
 import numpy as np
 import pandas as pd
 import pytest

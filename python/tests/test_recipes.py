@@ -1,4 +1,5 @@
 """The recipes in Python run as they are."""
+
 import os
 import subprocess
 import sys

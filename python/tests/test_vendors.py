@@ -1,4 +1,5 @@
 """Frames of vendors' forms, made small. The values are worked out by hand; Apple's of 2020 are its exchange's."""
+
 import doctest
 import sqlite3
 import warnings

@@ -1,4 +1,5 @@
 """Which program is called, and what `python -m tohmeril version` says of it."""
+
 import hashlib
 import os
 from pathlib import Path

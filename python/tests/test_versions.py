@@ -2,6 +2,7 @@
 
 The warnings by which pandas 1.5 tells of pandas 2 are errors in all tests (pyproject.toml).
 """
+
 import ast
 
 import pandas as pd

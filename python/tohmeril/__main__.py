@@ -3,6 +3,7 @@
 The first adds the CSV files of the folder NEWS to the folder STORE and makes TODAY its last session, by the rules of
 `tohmeril.news.append`. The second prints which version this is, and whether the program is that of its release.
 """
+
 from __future__ import annotations
 
 import argparse

@@ -2,6 +2,7 @@
 
 Beside each cut file stand the numbers that its records have in the whole file, for faults.
 """
+
 from __future__ import annotations
 
 import csv
@@ -14,15 +15,18 @@ from contextlib import closing, contextmanager
 from itertools import islice
 from pathlib import Path
 from tempfile import TemporaryDirectory
-from typing import Any, Container, Iterator, NamedTuple, Sequence, Union
+from typing import TYPE_CHECKING, Any, Callable, Container, Iterator, NamedTuple, Optional, Sequence, Union
 
 import numpy as np
 import pandas as pd
 
-from .data import CREATE, FILES, HEADERS, SECONDS, TABLES, Data, read_only, records
+from .data import CREATE, FILES, HEADERS, SECONDS, TABLES, Data, readable, records
 from .faults import DataFault, ReadFault, StoreFault
 from .pipeline.script import Script
 from .plans import plan
+
+if TYPE_CHECKING:
+    Array = np.ndarray[Any, Any]
 
 BLOCK = 8 << 20  # bytes of bars at a time
 SINCE = {
@@ -38,6 +42,13 @@ class Span(NamedTuple):
     first: str
     last: str
     sids: frozenset[str]
+
+
+class Keys(NamedTuple):
+    """A field of lines: its text is that of its code."""
+
+    codes: Array
+    texts: list[str]
 
 
 def cut_files(script: Script, data: Data, ranges: Sequence[tuple[str, str]], folder: Path) -> list[Data]:
@@ -155,35 +166,93 @@ def _bars(data: Data, spans: Sequence[Span], assets: pd.Index) -> None:
             is_record = lengths - (text[ends - 1] == ord("\r")) > 1
             numbers = last + np.cumsum(is_record, dtype="i8")
             last = numbers[-1]
-            keys = pd.read_csv(
-                io.BytesIO(block),
-                header=None,
-                names=["sid", "session"],
-                usecols=[0, 1],
-                index_col=False,
-                dtype="category",
-                quoting=csv.QUOTE_NONE,
-                keep_default_na=False,
-                skip_blank_lines=False,
-                lineterminator="\n",
-                encoding_errors="replace",
-            )
-            asset, session = _places(keys.sid, assets), _places(keys.session, sessions)
+            sids, days = _plain_keys(text, ends, lengths) or _any_keys(block)
+            asset, session = _places(sids, assets), _places(days, sessions)
             unknown = (asset < 0) | (session < 0) | (numbers == 1)
+            places = np.append(0, ends + 1)
             for folder, mine, first, end in pieces:
                 kept = is_record & (mine[asset] & (session >= first) & (session < end) | unknown)
                 if kept.any():
+                    stretches = np.flatnonzero(np.diff(kept, prepend=False, append=False))
                     with open(folder / FILES["bars"], "ab") as out, open(folder / "bars.records", "ab") as whole:
-                        out.write(memoryview(text[np.repeat(kept, lengths)]))  # tofile turns Ctrl-C into a TypeError
-                        whole.write(memoryview(numbers[kept]))
+                        out.writelines(memoryview(block)[a:b] for a, b in places[stretches].reshape(-1, 2))
+                        whole.write(memoryview(numbers[kept]))  # tofile turns Ctrl-C into a TypeError
 
 
-def _places(keys: pd.Series, known: pd.Index) -> np.ndarray[Any, Any]:
-    """The places of keys among the known ones; -1 for one that is not."""
-    places: np.ndarray[Any, Any] = np.append(
-        known.get_indexer([str(key).strip('"') for key in keys.cat.categories]), -1
+def _plain_keys(text: Array, ends: Array, lengths: Array) -> Optional[tuple[Keys, Keys]]:
+    """The sids and the days of lines of seven fields that begin as the program writes them.
+
+    None where one line of the block is another.
+    """
+    commas, starts = np.flatnonzero(text == ord(",")), ends - lengths + 1
+    if len(commas) != 6 * len(ends):
+        return None
+    first, second, last = commas[::6], commas[1::6], commas[5::6]
+    width = first - starts
+    if (first < starts).any() or (last > ends).any() or (second - first != 11).any():
+        return None
+    if (
+        width.min() < 1
+        or width.max() > 10
+        or (text[first + 5] != ord("-")).any()
+        or (text[first + 8] != ord("-")).any()
+    ):
+        return None
+    sids, days, none = np.zeros(len(ends), "i8"), np.zeros(len(ends), "i8"), np.zeros(len(ends), bool)
+    for at in range(int(width.max())):
+        digits = np.where(at < width, text[np.minimum(starts + at, first)], ord("0")) - np.uint8(ord("0"))
+        none |= digits > 9
+        sids = np.where(at < width, sids * 10 + digits, sids)
+    for place in (1, 2, 3, 4, 6, 7, 9, 10):
+        digits = text[first + place] - np.uint8(ord("0"))
+        none |= digits > 9
+        days = days * 10 + digits
+    if none.any() or ((text[starts] == ord("0")) & (width > 1)).any():
+        return None
+    return _distinct(sids, str), _distinct(days, _as_day)
+
+
+def _as_day(number: int) -> str:
+    """The day of a number YYYYMMDD, which need not be one.
+
+    >>> _as_day(20240102)
+    '2024-01-02'
+    """
+    return f"{number // 10_000:04}-{number // 100 % 100:02}-{number % 100:02}"
+
+
+def _any_keys(block: bytes) -> tuple[Keys, Keys]:
+    """The first two fields of lines of any form."""
+    keys = pd.read_csv(
+        io.BytesIO(block),
+        header=None,
+        names=["sid", "session"],
+        usecols=[0, 1],
+        index_col=False,
+        dtype="category",
+        quoting=csv.QUOTE_NONE,
+        keep_default_na=False,
+        skip_blank_lines=False,
+        lineterminator="\n",
+        encoding_errors="replace",
     )
-    found: np.ndarray[Any, Any] = places[keys.cat.codes.to_numpy()]
+    sids, days = (
+        Keys(key.cat.codes.to_numpy(), [str(text).strip('"') for text in key.cat.categories])
+        for key in (keys.sid, keys.session)
+    )
+    return sids, days
+
+
+def _distinct(numbers: Array, text: Callable[[int], str]) -> Keys:
+    """Numbers as keys, by the texts of the distinct ones."""
+    codes, distinct = pd.factorize(numbers)
+    return Keys(codes, list(map(text, distinct.tolist())))
+
+
+def _places(keys: Keys, known: pd.Index) -> Array:
+    """The places of keys among the known ones; -1 for one that is not."""
+    places: Array = np.append(known.get_indexer(keys.texts), -1)
+    found: Array = places[keys.codes]
     return found
 
 
@@ -191,8 +260,8 @@ def _adjustments(source: Path, span: Span) -> None:
     """Copy the adjustments of days after the first bar that is read and up to the last session."""
     days = [int(pd.Timestamp(day).timestamp()) + SECONDS for day in (span.first, span.last)]
     try:
-        with closing(sqlite3.connect(span.folder / FILES["adjustments"], uri=True)) as store, store:
-            store.execute("ATTACH ? AS source", (read_only(source),))
+        with readable(source) as name, closing(sqlite3.connect(span.folder / FILES["adjustments"], uri=True)) as store:
+            store.execute("ATTACH ? AS source", (name,))
             for table in TABLES:
                 store.execute(CREATE.format(table))
                 store.execute(
@@ -200,5 +269,6 @@ def _adjustments(source: Path, span: Span) -> None:
                     "WHERE effective_date >= ? AND effective_date < ?",
                     days,
                 )
+            store.commit()
     except sqlite3.Error as error:
         raise StoreFault(f"store: {source}") from error

@@ -1,4 +1,5 @@
 """Days: the one place that reads them, from any form that has one meaning alone."""
+
 from __future__ import annotations
 
 import calendar
@@ -17,6 +18,7 @@ if TYPE_CHECKING:
 
 Day = Union[str, int, date, datetime, pd.Timestamp, np.datetime64]
 YEARS = range(1900, 2200)  # of the days that the program knows
+EPOCH = date(1970, 1, 1).toordinal()
 FIRST_SECOND = 10**8  # of 1973: smaller numbers are no seconds since 1970
 LAST_SECOND = 7_258_118_400  # the first second of 2200
 TIME = r"(?:[01][0-9]|2[0-3]):[0-5][0-9](?::[0-5][0-9](?:[.,][0-9]+)?)?"
@@ -103,6 +105,14 @@ def read_days(values: pd.Series, what: str, *, seconds: bool = False) -> pd.Seri
     return _taken(codes, distinct, _second if seconds else _date, values, what)
 
 
+def read_day_numbers(values: pd.Series, what: str) -> NDArray[Any]:
+    """The days of a column as `read_days` reads them, as numbers of days since 1970-01-01."""
+    codes, distinct = _distinct(values, what)
+    days = _read_each(codes, distinct, _date, values, what)
+    found: NDArray[Any] = np.array([day.toordinal() - EPOCH for day in days], dtype="int32")[codes]
+    return found
+
+
 def read_known(values: pd.Series, what: str, after_close: bool) -> pd.Series:
     """The first days whose tables may show what became known on the days of a column.
 
@@ -173,10 +183,11 @@ def _day_after(value: Any) -> date:
 def _datetime64(value: np.datetime64) -> date:
     if np.datetime_data(value.dtype)[0] in ("Y", "M", "W"):
         raise NoDay(f"{value} is a period", "give one of its days")
-    day: Union[date, int] = value.astype("datetime64[D]").item()
+    day: Any = np.asarray(value, "datetime64[D]").tolist()
     if isinstance(day, int):  # of a year that no date has
         raise NoDay(f"{value} is not of the years {YEARS[0]} to {YEARS[-1]}")
-    return day
+    found: date = day
+    return found
 
 
 def _text(value: str) -> date:
@@ -277,14 +288,23 @@ def _distinct(values: pd.Series, what: str, keep_times: bool = False) -> tuple[N
 def _taken(
     codes: NDArray[Any], distinct: Sequence[Any], read: Callable[[Any], date], values: pd.Series, what: str
 ) -> pd.Series:
-    """The days that `read` makes of the values of a column."""
+    """The days that `read` makes of the values of a column, as texts."""
     texts: NDArray[Any] = np.empty(len(distinct), dtype=object)
+    texts[:] = [day.isoformat() for day in _read_each(codes, distinct, read, values, what)]
+    return pd.Series(texts[codes], index=values.index, name=values.name, dtype=object)
+
+
+def _read_each(
+    codes: NDArray[Any], distinct: Sequence[Any], read: Callable[[Any], date], values: pd.Series, what: str
+) -> list[date]:
+    """The days that `read` makes of the distinct values of a column."""
+    days = []
     for at, value in enumerate(distinct):
         try:
-            texts[at] = _known(read(value), value).isoformat()
+            days.append(_known(read(value), value))
         except NoDay as error:
             raise _fault(f"{what}: {error.why}", error.instead, values, codes == at) from None
-    return pd.Series(texts[codes], index=values.index, name=values.name, dtype=object)
+    return days
 
 
 def _shown(value: Any) -> str:

@@ -1,5 +1,5 @@
-"""The program's statuses as exceptions. Each carries the line that the program printed, and how to mend what it names.
-"""
+"""The program's statuses as exceptions. Each carries the line that the program printed, and says how to mend it."""
+
 from __future__ import annotations
 
 import csv
@@ -12,7 +12,7 @@ from itertools import islice
 from pathlib import Path
 from typing import TYPE_CHECKING, Callable, Optional, Sequence
 
-from .data import TABLES, read_only, records
+from .data import TABLES, readable, records
 
 if TYPE_CHECKING:
     from .pipeline.script import Script
@@ -234,7 +234,8 @@ class DataFault(Fault, status=4):
             "Negative": lambda name, field: field.startswith("-"),
             "BadRatio": lambda name, field: name in ("num", "den") and not 1 <= int(field) <= 10**9,
         }
-        breaks = rules.get(self.rule, lambda name, field: name in WRONG.get(self.rule or "", "").split())
+        rules.setdefault(self.rule, lambda name, field: name in WRONG.get(self.rule or "", "").split())
+        breaks = rules[self.rule]
         shown = f"    {'row' if self.table else 'record'} {self.record}: {','.join(fields)}"
         for at, (name, field) in enumerate(zip(names, fields)):
             if breaks(name, field):
@@ -251,7 +252,7 @@ def _record(path: str, number: int) -> tuple[Sequence[str], Sequence[str]]:
 
 def _row(path: str, table: str, number: int) -> tuple[Sequence[str], Sequence[str]]:
     """The names and the fields of a row of the adjustments."""
-    with closing(sqlite3.connect(read_only(path), uri=True)) as store:
+    with readable(path) as name, closing(sqlite3.connect(name, uri=True)) as store:
         row = store.execute(f"SELECT {', '.join(COLUMNS)} FROM {table} WHERE id = ?", (number,)).fetchone()
         return COLUMNS, [str(field) for field in row or ()]
 
@@ -296,7 +297,7 @@ def _broken(path: str) -> str:
         return "a write of it was broken off, as the journal beside it says: open it once with sqlite3, which mends it"
     table = ""
     try:
-        with closing(sqlite3.connect(read_only(path), uri=True)) as store:
+        with readable(path) as name, closing(sqlite3.connect(name, uri=True)) as store:
             for table in TABLES:
                 there = {row[1] for row in store.execute(f"PRAGMA table_info({table})")}
                 lacking = [name for name in COLUMNS if name not in there]

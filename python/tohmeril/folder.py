@@ -10,6 +10,7 @@ its files, wherever the writer is ended. `Data` reads `current` once and then na
 so that it sees one version from its first read to its last. It holds a shared lock on it for as long as it lives, and
 a writer removes no version that is held. Writers take turns.
 """
+
 from __future__ import annotations
 
 import fcntl
@@ -18,9 +19,16 @@ import shutil
 import sqlite3
 from contextlib import closing, contextmanager, suppress
 from pathlib import Path
-from typing import Iterator, Mapping, Optional, Sequence
+from typing import Iterator, Mapping, Optional, Sequence, Union
 
 KEPT = 2  # versions that stay though nobody holds them: the current one and the one before
+
+
+def as_path(folder: Union[str, os.PathLike[str]]) -> Path:
+    """The path of a folder."""
+    if not isinstance(folder, (str, os.PathLike)):
+        raise TypeError(f"a folder is given by its path, and not by {folder!r}")
+    return Path(folder)
 
 
 class Held:
@@ -63,6 +71,15 @@ def hold(folder: Path) -> Optional[Held]:
         if held.is_there():
             return held
     return None
+
+
+def lost(folder: Path) -> str:
+    """What is said of a folder whose version is not there; empty where it is."""
+    path = current(folder)
+    if path is None or path.is_dir():
+        return ""
+    there = ", ".join(map(str, _numbers(folder / "versions"))) or "none"
+    return f"versions/current leads to {path.name}, which is not there: let it lead to one that is; there are {there}"
 
 
 def is_link(path: Path) -> bool:
@@ -116,6 +133,7 @@ def writing(folder: Path, names: Sequence[str]) -> Iterator[Path]:
         The files that a version may have. Plain ones in the folder become a version of their own before.
     """
     fresh, versions = not folder.exists(), folder / "versions"
+    _require_places(folder, names)
     try:
         with _turn(versions):
             new = _emptied(versions / "new")
@@ -135,6 +153,19 @@ def writing(folder: Path, names: Sequence[str]) -> Iterator[Path]:
             with suppress(OSError):  # there is something in it, perhaps by the next writer
                 for path in [versions, folder][: 1 + fresh]:
                     path.rmdir()
+
+
+def _require_places(folder: Path, names: Sequence[str]) -> None:
+    """Refuse a folder that can't be made, or has a folder in the place of a file."""
+    from .faults import DataFault  # which needs this module first
+
+    path = next(path for path in (folder / "versions", folder, *folder.absolute().parents) if os.path.lexists(path))
+    if not path.is_dir():
+        what = f"is a link to {os.readlink(path)}, which is not there" if path.is_symlink() else "is a file"
+        raise DataFault(f"folder: {path} {what}", "give another folder, or remove it")
+    for name in names:
+        if (folder / name).is_dir():
+            raise DataFault(f"folder: {folder / name} is a folder", "give another folder, or remove it")
 
 
 @contextmanager
@@ -167,9 +198,8 @@ def _take_in(folder: Path, names: Sequence[str]) -> None:
     old = _emptied(folder / "versions/old")
     for name in names:
         source = folder / name
-        if source.with_name(f"{name}-wal").exists():  # a database whose newest rows are in its log
-            with closing(sqlite3.connect(source)) as store, closing(sqlite3.connect(old / name)) as copy:
-                store.backup(copy)
+        if any(source.with_name(f"{name}-{log}").exists() for log in ("wal", "journal")):
+            _copy_store(source, old / name)
         elif is_plain(source) and not source.is_symlink():
             try:
                 os.link(source, old / name)
@@ -178,6 +208,17 @@ def _take_in(folder: Path, names: Sequence[str]) -> None:
         elif source.exists():
             shutil.copyfile(source, old / name)
     _publish(folder, old, names)
+
+
+def _copy_store(source: Path, target: Path) -> None:
+    """Copy a database whose newest rows are in a log beside it, or of which a write was broken off."""
+    from .faults import StoreFault
+
+    try:
+        with closing(sqlite3.connect(source)) as store, closing(sqlite3.connect(target)) as copy:
+            store.backup(copy)
+    except sqlite3.Error as error:
+        raise StoreFault(f"store: {source}", str(error)) from None
 
 
 def _publish(folder: Path, new: Path, names: Sequence[str]) -> None:
@@ -202,7 +243,7 @@ def _publish(folder: Path, new: Path, names: Sequence[str]) -> None:
             (folder / name).unlink()
         elif name in given and not is_link(folder / name):
             _link(versions, f"versions/current/{name}", folder / name)
-            for log in ("wal", "shm"):
+            for log in ("wal", "shm", "journal"):
                 (folder / f"{name}-{log}").unlink(missing_ok=True)
     _sync(folder)
 

@@ -1,24 +1,24 @@
 """Frames of pandas as the records of the program's files."""
+
 from __future__ import annotations
 
 import io
 import re
 import warnings
 from fractions import Fraction
-from numbers import Integral
 from pathlib import Path
 from typing import Any, Callable, Iterable, Mapping, Optional, Sequence, Union
 
 import numpy as np
 import pandas as pd
-from numpy.typing import NDArray
 
 from . import program
 from .data import FILES, HEADERS, NEEDED
-from .days import NoDay, read_day, read_days, read_known
+from .days import NoDay, read_day, read_day_numbers, read_days, read_known
 from .faults import DataFault
 from .pipeline.script import BARS, is_name
 from .pipeline.term import GREATEST
+from .values import NARROW, and_others, is_narrow, ratio, rows_of, to_numbers, whole_number
 
 OTHER = {
     "sid": ("asset", "symbol", "ticker"),
@@ -37,6 +37,7 @@ PUBLISHED = ("labels", "numbers", "revisions")  # what becomes known on a day, p
 ADJUSTED = re.compile("adj|^raw|raw$")  # of names in small letters alone: another version of a price
 EVENTS = re.compile("^(stock)?split|^div|^capitalgain")
 NO_SYMBOL = "where the symbol is NA or NAN, read the file with keep_default_na=False"
+FRAMES = "give a DataFrame of pandas: help(tohmeril.ingest.write) has its columns"
 NEGATIVE = (
     "in CRSP such a price is a mean of bid and ask: give .abs()",
     "in CRSP a volume of -99 is a missing one: give NaN",
@@ -148,36 +149,6 @@ def read_symbols(symbols: Mapping[str, int]) -> dict[str, int]:
     return {symbol: sid for sid, symbol in owners.items()}
 
 
-def whole_number(value: Any) -> Optional[int]:
-    """A whole number, which may be a float, as an int; None for all else.
-
-    >>> whole_number(7), whole_number(10001.0), whole_number(1.5), whole_number(True), whole_number("7")
-    (7, 10001, None, None, None)
-    """
-    if isinstance(value, (bool, np.bool_)):
-        return None
-    if isinstance(value, Integral) or isinstance(value, float) and value.is_integer():
-        return int(value)
-    return None
-
-
-def rows_of(rows: Union[pd.Series, pd.DataFrame], wrong: NDArray[Any]) -> str:
-    """The first wrong row of a column, and how many others there are."""
-    return f"row {rows.index[wrong.argmax()]}{and_others(int(wrong.sum()) - 1)}"
-
-
-def and_others(count: int, verb: bool = False) -> str:
-    """The end of a message that names one of several.
-
-    >>> and_others(0), and_others(1), and_others(2, verb=True)
-    ('', ', and 1 other', ', and so are 2 others')
-    """
-    if not count:
-        return ""
-    many = count > 1
-    return f", and {('so is ', 'so are ')[many] * verb}{count} other{'s' * many}"
-
-
 def either(names: Sequence[str]) -> str:
     """Names of which one is wanted.
 
@@ -195,6 +166,10 @@ def late_parts(after_close: Union[bool, str, Iterable[str]]) -> frozenset[str]:
     """
     if isinstance(after_close, bool):
         return frozenset(PUBLISHED if after_close else ())
+    if not isinstance(after_close, Iterable):
+        raise DataFault(
+            f"after_close: {after_close!r} is no name of a part", f"True, or some of {', '.join(PUBLISHED)}"
+        )
     parts = [after_close] if isinstance(after_close, str) else list(after_close)
     for part in parts:
         if part not in PUBLISHED:
@@ -202,7 +177,7 @@ def late_parts(after_close: Union[bool, str, Iterable[str]]) -> frozenset[str]:
     return frozenset(parts)
 
 
-def require_frame(given: Any, what: str) -> pd.DataFrame:
+def require_frame(given: Any, what: str, hint: str = FRAMES) -> pd.DataFrame:
     """What was given, where it is a frame.
 
     >>> require_frame({"AAPL": 2}, "splits")
@@ -212,10 +187,7 @@ def require_frame(given: Any, what: str) -> pd.DataFrame:
     """
     if isinstance(given, pd.DataFrame):
         return given
-    raise DataFault(
-        f"{what}: {type(given).__name__} is no frame",
-        "give a DataFrame of pandas: help(tohmeril.ingest.write) has its columns",
-    )
+    raise DataFault(f"{what}: {type(given).__name__} is no frame", hint)
 
 
 def has_column(frame: pd.DataFrame, name: str) -> bool:
@@ -265,17 +237,6 @@ def require_unique(frame: pd.DataFrame, key: list[str], what: str) -> pd.DataFra
     return frame
 
 
-def to_numbers(values: pd.Series, what: str) -> pd.Series:
-    """Values of any type as floats, with missing ones as NaN."""
-    numbers = pd.to_numeric(values, errors="coerce").astype("float64")
-    wrong = (numbers.isna() & values.notna()).to_numpy()
-    if wrong.any():
-        shown = values.iloc[wrong.argmax()]
-        if not (isinstance(shown, float) and np.isnan(shown)):
-            raise DataFault(f"{what}: {values.name} has {shown!r} in place of a number", rows_of(values, wrong))
-    return numbers
-
-
 def to_long(frame: pd.DataFrame, row: str, name: str) -> pd.DataFrame:
     """A wide frame, with a column for each asset, as rows of `row`, sid and value."""
     return frame.rename_axis(index=row, columns="sid").reset_index().melt(row, var_name="sid", value_name=name)
@@ -291,7 +252,7 @@ def by_day(frame: Any, part: str, name: Any, read: Callable[[pd.Series, str], pd
 
 
 def long_bars(bars: Union[pd.DataFrame, Mapping[str, pd.DataFrame]]) -> pd.DataFrame:
-    """Bars of any of the forms as sid, session and the five columns."""
+    """Bars of any of the forms as sid, session (in days since 1970-01-01) and the five columns."""
     if isinstance(bars, pd.DataFrame) and bars.columns.nlevels == 2:
         level = price_level(bars.columns)
         bars = {name: bars.xs(name, axis=1, level=level) for name in bars.columns.unique(level)}
@@ -300,7 +261,7 @@ def long_bars(bars: Union[pd.DataFrame, Mapping[str, pd.DataFrame]]) -> pd.DataF
             raise DataFault("bars: there is neither open nor close", f"there are {listed(bars.columns)}")
         refuse_versions(bars.columns)
         frame = select_columns(bars, "bars", optional=BARS)
-        frame = frame.assign(session=read_days(frame.session, "bars"))
+        frame = frame.assign(session=read_day_numbers(frame.session, "bars"))
     else:
         frame = bars_by_name(bars)
     if frame.empty:
@@ -339,7 +300,7 @@ def refuse_versions(columns: Iterable[Any]) -> None:
 
 def bars_by_name(bars: Mapping[str, pd.DataFrame]) -> pd.DataFrame:
     """Bars that are given by name, as wide frames, as one long frame."""
-    wide: dict[str, pd.Series] = {}
+    wide: dict[str, pd.DataFrame] = {}
     for given, frame in bars.items():
         name = str(given).lower()
         if name not in BARS:
@@ -347,16 +308,28 @@ def bars_by_name(bars: Mapping[str, pd.DataFrame]) -> pd.DataFrame:
             raise DataFault(f"bars: there is nothing called {given!r}", listed(BARS))
         if name in wide:
             raise DataFault(f"bars: {name} is there twice", f"there are {listed(bars)}")
-        rows = to_long(by_day(frame, "bars", given, read_days), "session", name)
-        wide[name] = rows.set_index(["session", "sid"])[name]
+        wide[name] = by_day(frame, "bars", given, read_days)
+        twice = frame.columns[frame.columns.duplicated()]
+        if len(twice):
+            raise DataFault(
+                f"bars: {given} has two columns of {twice[0]}{and_others(len(twice) - 1)}", "keep one of them"
+            )
     if not wide:
         raise DataFault("bars: there is none", f"give frames by name: {listed(BARS)}")
-    return (
-        pd.concat(wide, axis=1)
-        .reindex(columns=list(BARS))
-        .rename_axis(["session", "sid"])
-        .reset_index()[HEADERS["bars"]]
-    )
+    days, assets = (union([frame.axes[axis] for frame in wide.values()]) for axis in (0, 1))
+    wide = {name: frame.reindex(index=days, columns=assets) for name, frame in wide.items()}
+    rows = {
+        "sid": np.tile(assets.to_numpy(), len(days)),
+        "session": np.repeat(days.to_numpy().astype("datetime64[D]").astype("int32"), len(assets)),
+    }
+    cells = {name: wide[name].to_numpy().ravel() if name in wide else np.nan for name in BARS}
+    return pd.DataFrame({**rows, **cells}, copy=False)
+
+
+def union(axes: Sequence[pd.Index]) -> pd.Index:
+    """All that stands on one of the axes, each once, in the order in which it comes."""
+    first = axes[0]
+    return first if all(axis.equals(first) for axis in axes) else first.append(list(axes[1:])).unique()
 
 
 def long_labels(
@@ -377,6 +350,8 @@ def long_labels(
         )
     parts = []
     for name, given in labels.items():
+        if not isinstance(name, str):
+            raise DataFault(f"labels: {name!r} is no name", "a name is a text, as 'sector'")
         if not isinstance(given, (pd.DataFrame, pd.Series, Mapping)):
             raise DataFault(f"labels: {name} is no series by asset", "give a mapping, as {'AAA': 'Tech'}")
         frame = (
@@ -419,6 +394,9 @@ def long_numbers(
         if not isinstance(numbers, Mapping):
             require_frame(numbers, "numbers")
         names = [getattr(key, "name", key) for key in numbers]  # of texts and of a DataSet's columns
+        for name in names:
+            if not isinstance(name, str):
+                raise DataFault(f"numbers: {name!r} is no name", "give frames by name, or by the column of a DataSet")
         require_unique(pd.DataFrame({"name": names}), ["name"], "numbers")
         parts = [changes(name, frame, late, there) for name, frame in zip(names, numbers.values())]
         found = pd.concat(parts or [pd.DataFrame(columns=HEADERS["numbers"])], ignore_index=True)
@@ -493,21 +471,6 @@ def last_day(period: Any) -> str:
     return read_day(getattr(period, "end_time", period))
 
 
-def ratio(value: Any, inverse: bool = False) -> Fraction:
-    """The ratio that multiplies prices. With `inverse` a number gives new shares for an old one.
-
-    >>> ratio("2:1"), ratio(0.5), ratio(3.0, inverse=True), ratio(1 / 3), ratio("7514/7609")
-    (Fraction(1, 2), Fraction(1, 2), Fraction(1, 3), Fraction(1, 3), Fraction(7514, 7609))
-    """
-    if isinstance(value, str) and ":" in value:
-        new, old = map(Fraction, value.split(":"))
-        return old / new
-    if isinstance(value, float):
-        value = Fraction(value).limit_denominator(int(10**9 / max(1, value)))
-    exact = Fraction(int(value) if isinstance(value, np.integer) else value)
-    return 1 / exact if inverse else exact
-
-
 def ratios(frame: pd.DataFrame, what: str, sids: Sids) -> Iterable[tuple[int, int, int, int]]:
     """The rows of a table of adjustments: effective date in seconds since 1970, the ratio's two numbers, sid."""
     kinds = [kind for kind in (["num", "den"], ["split"], ["ratio"]) if all(has_column(frame, name) for name in kind)]
@@ -521,16 +484,17 @@ def ratios(frame: pd.DataFrame, what: str, sids: Sids) -> Iterable[tuple[int, in
     if what == "splits":
         require_unique(clean.assign(sid=given.sid), ["sid", "effective_date"], what)
     seconds = [int(pd.Timestamp(day).timestamp()) for day in clean.effective_date]
-    values = zip(*(given[name] for name in kind))
+    values = zip(*(given[name].to_numpy() for name in kind))
     for at, asset, sid, date, value in zip(given.index, given.sid, clean.sid, seconds, values):
         try:
             exact = ratio(value[0]) / ratio(value[1]) if len(value) == 2 else ratio(value[0], kind == ["split"])
         except (TypeError, ValueError, ArithmeticError):
             exact = Fraction(0)
         if not 0 < exact or max(exact.numerator, exact.denominator) > 10**9:
-            shown = ":".join(map(str, value))
+            given_as = ":".join(map(str, value))
+            hint = f"; {NARROW}" if any(map(is_narrow, value)) else ""
             raise DataFault(
-                f"{what}: the ratio {shown} of {asset} is none of numbers from 1 to 1,000,000,000", f"row {at}"
+                f"{what}: the ratio {given_as} of {asset} is none of numbers from 1 to 1,000,000,000", f"row {at}{hint}"
             )
         yield date, exact.numerator, exact.denominator, int(sid)
 

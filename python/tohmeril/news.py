@@ -1,4 +1,5 @@
 """What comes after the last session of a folder, added so that no row that was shown changes."""
+
 from __future__ import annotations
 
 import mmap
@@ -15,14 +16,15 @@ import pandas as pd
 
 from . import program
 from .bars_file import AnyBars, Bars, as_number, as_text, gathered
-from .data import FILES, HEADERS, NEEDED, SECONDS, TABLES, Data, read_only
+from .data import FILES, HEADERS, NEEDED, SECONDS, TABLES, Data, readable, records
 from .days import Day, read_day
 from .faults import DataFault, LimitFault, ReadFault, StoreFault
-from .folder import writing
-from .frames import FOREVER, Sids, and_others, late_parts, read_symbols, require_unique, select_columns
+from .folder import as_path, lost, writing
+from .frames import FOREVER, Sids, late_parts, read_symbols, require_unique, select_columns
 from .ingest import add_adjustments, adjustments, beside_bars, calendar, of_parts, write_records
 from .odd import PROBE
 from .pipeline.script import BARS
+from .values import and_others
 
 if TYPE_CHECKING:
     Array = np.ndarray[Any, Any]
@@ -93,7 +95,7 @@ def append(
     DataFault
         News that would change what was shown, or that are there already, or that the program refuses.
     """
-    folder, given = Path(folder), {"splits": splits, "mergers": mergers, "dividends": dividends}
+    folder, given = as_path(folder), {"splits": splits, "mergers": mergers, "dividends": dividends}
     with writing(folder, list(FILES.values())) as new:
         store = _opened(folder)
         early: list[pd.DataFrame] = []
@@ -129,18 +131,24 @@ def _opened(folder: Path) -> Store:
     data = Data(folder)
     for part in NEEDED:
         if not data.files[part].exists():
-            raise ReadFault(f"read: {data.files[part]}", "append adds to a folder that is there: Data.write makes one")
+            note = lost(folder) or "append adds to a folder that is there: Data.write makes one"
+            raise ReadFault(f"read: {data.files[part]}", note)
     if not data.sessions:
         raise DataFault(f"{data.files['sessions']}:1: data Empty")
+    for part in ("assets", "bars"):
+        if next(records(data.files[part]), None) != HEADERS[part]:
+            raise DataFault(f"{data.files[part]}:1: data BadHeader")
     lives = pd.read_csv(data.files["assets"], dtype={"sid": "int64"}, index_col="sid", encoding="utf-8-sig")
     return Store(data, data.sessions[-1], lives)
 
 
 def _kept(rows: pd.DataFrame, store: Store, late: Optional[Day], early: list[pd.DataFrame]) -> Array:
     """Which bars are no earlier than the last session; the others are put to the early ones, where they may be late."""
-    kept: Array = (rows.session >= store.last).to_numpy()
+    kept: Array = (rows.session >= as_number(store.last)).to_numpy()
     if not kept.all():
-        first = rows[~kept].iloc[0]
+        before = rows[~kept]
+        before = before.assign(session=before.session.map(as_text))
+        first = before.iloc[0]
         if late is None:
             raise DataFault(
                 f"bars: that of {first.sid} on {first.session} is before {store.last}, the last session, whose rows "
@@ -148,7 +156,7 @@ def _kept(rows: pd.DataFrame, store: Store, late: Optional[Day], early: list[pd.
                 "give what is new alone, and a bar that is corrected or late as a revision; late=DAY takes all "
                 "such bars as revisions that became known on that day",
             )
-        early.append(rows[~kept])
+        early.append(before)
     return kept
 
 
@@ -272,7 +280,9 @@ def _beside(
         )
         files["revisions"] = pd.concat([*filter(None.__ne__, [files.get("revisions")]), cells])[HEADERS["revisions"]]
     for part, name in FIRST.items():
-        wrong = files[part][files[part][name] <= store.last] if part in files else ()
+        if part not in files:
+            continue
+        wrong = files[part][files[part][name] <= store.last]
         if len(wrong):
             record, verb = wrong.iloc[0], "starts" if name == "start" else "is known"
             raise DataFault(
@@ -327,15 +337,15 @@ def _add_adjustments(
     """Add rows to the tables of adjustments, which act after the last session alone. Their counts."""
     path = store.data.files["adjustments"]
     try:
-        with closing(sqlite3.connect(read_only(path), uri=True)) as old, closing(
-            sqlite3.connect(new / FILES["adjustments"])
-        ) as copy:
-            old.backup(copy)
-            newest = {
-                table: copy.execute(f"SELECT coalesce(max(id), 0) FROM {table}").fetchone()[0] for table in TABLES
-            }
+        with readable(path) as name, closing(sqlite3.connect(name, uri=True)) as old:
+            with closing(sqlite3.connect(new / FILES["adjustments"])) as copy:
+                old.backup(copy)
+                last = "SELECT coalesce(max(id), 0) FROM {}"
+                newest = {table: copy.execute(last.format(table)).fetchone()[0] for table in TABLES}
     except sqlite3.Error as error:
-        raise StoreFault(f"store: {path}", str(error)) from None
+        fault = StoreFault(f"store: {path}")
+        fault.note = fault.note or str(error)
+        raise fault from None
     add_adjustments(new, given, sids)
     counts = {}
     with adjustments(new) as added:

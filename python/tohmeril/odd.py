@@ -1,6 +1,7 @@
 """What looks odd in data though it is lawful: most of it shows later as an empty or a wrong column, and the program is
 silent.
 """
+
 from __future__ import annotations
 
 import sqlite3
@@ -11,7 +12,7 @@ import numpy as np
 import pandas as pd
 
 from . import program
-from .data import SECONDS, TABLES, Data, read_only
+from .data import SECONDS, TABLES, Data, readable
 from .faults import LimitFault, StoreFault
 from .pipeline.script import BARS
 from .plans import Piped, Source, as_data, as_script, named_in
@@ -60,6 +61,8 @@ def check(
     StoreFault
         Where the tables of the adjustments can't be read.
     """
+    if table is not None and not isinstance(table, pd.DataFrame):
+        raise TypeError(f"table is a frame of run_pipeline, and not {table!r}")
     return [*check_files(as_data(data), pipelines, lacking), *_columns(table)]
 
 
@@ -74,14 +77,13 @@ def check_files(
     failed: Optional[Exception] = None
     last = data.sessions[-1] if data.sessions else "1970-01-01"
     try:
-        with data.steady(), program.file(PROBE) as name, program.stream(
-            ["run", name, *data.names, last, last, *data.options]
-        ) as judged:
-            try:
-                found += _looked(data, pipelines, lacking, _blocks(data) if bars is None else bars)
-            except Exception as error:  # the program says better what is wrong in a file
-                failed = error
-            judged.read()
+        with data.steady(), program.file(PROBE) as name:
+            with program.stream(["run", name, *data.names, last, last, *data.options]) as judged:
+                try:
+                    found += _looked(data, pipelines, lacking, _blocks(data) if bars is None else bars)
+                except Exception as error:  # the program says better what is wrong in a file
+                    failed = error
+                judged.read()
     except LimitFault as fault:  # the rest can be looked at all the same
         found.insert(0, str(fault).replace("\n", ": "))
     if failed is not None:
@@ -146,7 +148,7 @@ def _lives(data: Data, assets: pd.DataFrame) -> Iterator[str]:
 
 
 def _symbols(data: Data) -> Iterator[str]:
-    if "symbols" not in data.files:
+    if data.symbols is None:
         return
     rows = pd.read_csv(data.files["symbols"], dtype=str, keep_default_na=False)
     yield from (
@@ -192,7 +194,7 @@ class _Bars:
         self.data, self.sids, self.sessions = data, pd.Index(np.unique(sids)), pd.Index(data.sessions)
         self.close = np.full(len(self.sids), np.nan)  # the newest one of each asset, and its session
         self.place = np.full(len(self.sids), -1)
-        self.greatest: list[pd.Series] = []
+        self.greatest = np.full(len(BARS) + 1, np.nan)  # of the columns, and of close * volume
         self.zeros, self.zero, self.steps, self.step = 0, "", 0, ""
         self.width = len(self.sessions) + 1  # a key is the place of the asset times this and that of the session
         acting = adjustments[adjustments.asset >= 0]
@@ -205,13 +207,15 @@ class _Bars:
 
     def add(self, block: pd.DataFrame) -> None:
         """Look at some bars."""
-        self.greatest.append(block[list(BARS)].assign(**{"close * volume": block.close * block.volume}).max())
-        zero = (block[list(BARS[:4])] == 0).to_numpy().any(axis=1)
+        cells = [block[name].to_numpy() for name in BARS]
+        self.greatest = np.fmax(
+            self.greatest, [np.fmax.reduce(each, initial=np.nan) for each in (*cells, cells[3] * cells[4])]
+        )
+        zero = np.logical_or.reduce([each == 0 for each in cells[:4]])
         if zero.any():
-            self.zero = self.zero or "{} on {}".format(
-                _asset(self.data, block.sid[zero].iloc[0]), block.session[zero].iloc[0]
-            )
-            self.zeros += zero.sum()
+            at = int(zero.argmax())
+            self.zero = self.zero or f"{_asset(self.data, block.sid.iloc[at])} on {block.session.iloc[at]}"
+            self.zeros += int(zero.sum())
         asset = self.sids.get_indexer(block.sid)
         place = np.append(self.sessions.get_indexer(block.session.cat.categories), -1)[block.session.cat.codes]
         close = block.close.to_numpy()
@@ -261,8 +265,8 @@ class _Bars:
 
     def oddities(self, lacking: Container[str]) -> Iterator[str]:
         """What was seen."""
-        for name, greatest in pd.DataFrame(self.greatest).max().items():
-            if pd.isna(greatest) and name != "close * volume" and name not in lacking:
+        for name, greatest in zip([*BARS, "close * volume"], self.greatest):
+            if np.isnan(greatest) and name != "close * volume" and name not in lacking:
                 yield f"bars: the column {name} is empty"
             elif greatest > NEAR:
                 yield (
@@ -292,12 +296,14 @@ def _adjustments(data: Data, sids: pd.Series) -> pd.DataFrame:
     path = data.files.get("adjustments")
     if path is not None:
         try:
-            with closing(sqlite3.connect(read_only(path), uri=True)) as store:
+            with readable(path) as name, closing(sqlite3.connect(name, uri=True)) as store:
                 for table in TABLES:
                     rows = store.execute(f"SELECT sid, effective_date, num, den FROM {table}").fetchall()
                     parts[table] = np.array(rows, dtype="int64").reshape(-1, 4)
         except (sqlite3.Error, TypeError, ValueError, OverflowError) as error:
-            raise StoreFault(f"store: {path}", f"in the table {TABLES[len(parts)]}: {error}") from None
+            fault = StoreFault(f"store: {path}")
+            fault.note = fault.note or f"in the table {TABLES[len(parts)]}: {error}"
+            raise fault from None
     rows = np.concatenate([*parts.values(), np.empty((0, 4), "int64")])
     found = pd.DataFrame(rows, columns=["sid", "seconds", "num", "den"])
     days = (found.seconds // SECONDS).clip(-30_000, 100_000).to_numpy().astype("datetime64[D]").astype(str)
@@ -368,11 +374,6 @@ def _dated(data: Data, pipelines: Sequence[Piped], part: str) -> Iterator[str]:
 
 def _columns(table: Optional[pd.DataFrame]) -> Iterator[str]:
     for name, cells in {} if table is None else table.items():
-        if (
-            (cells == -1).all()
-            if cells.dtype == "int64"
-            else not cells.notna().any()
-            if cells.dtype != bool
-            else not cells.any()
-        ):
+        some = cells != -1 if cells.dtype == "int64" else cells if cells.dtype == bool else cells.notna()
+        if not some.any():
             yield f"table: the column {name!r} has no value"

@@ -16,6 +16,7 @@ no later row.
 >>> figure.axes[0].get_title()
 'mean return of the next 5 sessions by fifth, percent'
 """
+
 from __future__ import annotations
 
 from numbers import Integral

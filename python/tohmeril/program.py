@@ -1,4 +1,5 @@
 """Calls of the program: finding it, reading what it writes, raising the fault that it ends with."""
+
 from __future__ import annotations
 
 import os

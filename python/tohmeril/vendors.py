@@ -3,6 +3,7 @@
 docs/VENDORS.md says of each source what is point in time in it and what is not. No reader uses a network or a vendor's
 package.
 """
+
 from __future__ import annotations
 
 import warnings
@@ -15,11 +16,14 @@ import pandas as pd
 
 from .days import Day, read_day, read_days
 from .faults import DataFault
-from .frames import FOREVER, listed, ratio, to_long, to_numbers, whole_number
+from .folder import as_path
+from .frames import FOREVER, listed, require_frame, to_long
 from .pipeline.script import BARS
+from .values import ratio, to_numbers, whole_number
 
 PRICES = ("open", "high", "low", "close")
 KEYS = ["symbol", "date"]
+FRAMES = "give a DataFrame of pandas, with the columns that the source has"
 AS_REPORTED = ("ARQ", "ARY", "ART")
 BY_PERFORMANCE = range(500, 600)  # CRSP's codes of delistings for cause
 
@@ -87,9 +91,8 @@ def stooq(prices: pd.DataFrame, symbol: Optional[str] = None) -> dict[str, pd.Da
     dict
         bars alone. Stooq adjusts its prices by splits and dividends, and says neither, so give no splits with them.
     """
-    plain = prices.rename(columns=lambda name: str(name).strip("<> ").lower()).rename(
-        columns={"vol": "volume", "ticker": "symbol"}
-    )
+    plain = require_frame(prices, "stooq", FRAMES).rename(columns=lambda name: str(name).strip("<> ").lower())
+    plain = plain.rename(columns={"vol": "volume", "ticker": "symbol"})
     if "per" in plain:
         other = plain.per.astype(str) != "D"
         if other.any():
@@ -386,18 +389,9 @@ def csvdir(folder: Union[str, Path]) -> dict[str, pd.DataFrame]:
     Parameters
     ----------
     folder : str or Path
-        Each file of ``folder/daily``, or of the folder itself, is named by its symbol and has date, open, high, low,
-        close, volume, and perhaps dividend, in cash, and split, new shares for an old one.
-
-    Returns
-    -------
-    dict
-        bars, and perhaps splits and dividends.
-
-    Parameters
-    ----------
-    folder : str or Path
-        The bundle's folder, or the one of its files.
+        The bundle's folder, or the one of its files. Each file of ``folder/daily``, or of the folder itself, is named
+        by its symbol and has date, open, high, low, close, volume, and perhaps dividend, in cash, and split, new shares
+        for an old one.
 
     Returns
     -------
@@ -409,7 +403,8 @@ def csvdir(folder: Union[str, Path]) -> dict[str, pd.DataFrame]:
     DataFault
         There is no file, or one has other columns.
     """
-    folder = Path(folder) / "daily" if (Path(folder) / "daily").is_dir() else Path(folder)
+    folder = as_path(folder)
+    folder = folder / "daily" if (folder / "daily").is_dir() else folder
     frames = []
     for path in sorted(folder.glob("*.csv")):
         frame = pd.read_csv(path)
@@ -485,7 +480,7 @@ def _later_splits(rows: pd.DataFrame, splits: pd.DataFrame, same_day: bool = Fal
 
 def _of_symbols(prices: pd.DataFrame, symbol: Optional[str], what: str) -> pd.DataFrame:
     """A frame by day, of one symbol or with a level of symbols in its columns, as rows with small letters as names."""
-    if prices.columns.nlevels == 1:
+    if require_frame(prices, what, FRAMES).columns.nlevels == 1:
         prices = prices.set_index([name for name in prices.columns if str(name).lower() == "date"] or prices.index)
     days = read_days(pd.Series(prices.index, dtype=prices.index.dtype, name="the index"), what).to_numpy()
     if prices.columns.nlevels == 1:
@@ -508,8 +503,10 @@ def _of_symbols(prices: pd.DataFrame, symbol: Optional[str], what: str) -> pd.Da
 
 def _plain(frame: pd.DataFrame, asset: str, what: str, needed: Iterable[str]) -> pd.DataFrame:
     """A frame with small letters as names, and symbol and date as they are here."""
-    plain = frame.reset_index(drop=all(name is None for name in frame.index.names)).rename(
-        columns=lambda name: str(name).lower()
+    plain = (
+        require_frame(frame, what, FRAMES)
+        .reset_index(drop=all(name is None for name in frame.index.names))
+        .rename(columns=lambda name: str(name).lower())
     )
     _need(plain, [asset, "date", *needed], what)
     return plain.rename(columns={asset: "symbol"}).assign(date=read_days(plain.date, what))

@@ -1,4 +1,5 @@
 """Which version this is, and whether the program at work is the one that its release names."""
+
 from __future__ import annotations
 
 import hashlib

@@ -1,4 +1,5 @@
 """Zipline's Pipeline API, as far as the program's language says it."""
+
 from __future__ import annotations
 
 from typing import TYPE_CHECKING, Mapping, Optional

@@ -15,6 +15,7 @@ close.latest > 5 & close.latest.notnull()
 >>> price.rank(ascending=False) is EquityPricing.close.latest.rank(ascending=False)
 True
 """
+
 from __future__ import annotations
 
 import math
@@ -281,7 +282,7 @@ class NumberColumn(BoundColumn):
 
     __slots__ = ()
     holds = "numbers"
-    dtype = np.dtype("float64")
+    dtype: np.dtype[Any] = np.dtype("float64")
     missing_value = np.nan
     alias: Any = property()  # that of `latest`, as the next one
     downsample: Any = property()

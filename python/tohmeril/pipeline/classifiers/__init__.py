@@ -1,4 +1,5 @@
 """Zipline's classifiers, and the labels of the labels file; all are exact."""
+
 from __future__ import annotations
 
 from typing import Sequence

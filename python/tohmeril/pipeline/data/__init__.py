@@ -1,4 +1,5 @@
 """What pipelines read: the columns of bars, numbers beside them, and the labels of assets."""
+
 from __future__ import annotations
 
 from typing import NoReturn

@@ -8,6 +8,7 @@ number("earnings")
 
 `Data.write` takes the numbers of such a column under its name, with the days on which they became known.
 """
+
 from __future__ import annotations
 
 from typing import Any, Optional

@@ -14,6 +14,7 @@ sum of the present x_k; missing where n is 0
 <BLANKLINE>
 Units: those of the input. Source: ours. Rounding: none.
 """
+
 from __future__ import annotations
 
 import math

@@ -1,4 +1,5 @@
 """Zipline's module of this name: its names, which say what comes nearest."""
+
 from . import (
     RollingLinearRegression,
     RollingLinearRegressionOfReturns,

@@ -1,4 +1,5 @@
 """Zipline's module of this name: what of it is here."""
+
 from . import (
     RSI,
     Aroon,

@@ -4,6 +4,7 @@
 >>> AtLeastN(inputs=[EquityPricing.volume.latest > 0], window_length=20, N=15)
 AtLeastN(volume.latest > 0, 20, 15)
 """
+
 from __future__ import annotations
 
 import typing

@@ -1,4 +1,5 @@
 """Zipline's module of this name: what of it is here."""
+
 from ..term import Filter  # noqa: F401
 from . import (
     AllPresent,

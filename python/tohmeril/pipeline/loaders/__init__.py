@@ -6,6 +6,7 @@ tohmeril.pipeline.term.Inexpressible: there is no DataFrameLoader here: write to
 numbers={Signals.score: frame}), where frame has a row for each day on which values became known, and a column for each
 asset
 """
+
 from ..term import Elsewhere
 
 DataFrameLoader = Elsewhere(

@@ -1,2 +1,3 @@
 """Zipline's module of this name."""
+
 from . import DataFrameLoader  # noqa: F401

@@ -1,0 +1,3 @@
+"""Quantopian's module of this name."""
+
+from . import EquityPricing, USEquityPricing  # noqa: F401
