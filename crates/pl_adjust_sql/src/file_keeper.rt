@@ -1,16 +1,17 @@
 //! The database files of the disk.
 
-ghost use Rattle.std.specs.Prelude.{◌≡◌, ◌==◌, ◌↔◌, None, IfOk, IsTrue, OnErr, false, not, slice_index_or};
+ghost use Rattle.std.specs.Prelude.{◌≡◌, ◌==◌, ◌↔◌, ◌++◌, None, IfOk, IsTrue, OnErr, false, not, slice_index_or, string_bytes};
 ghost use Rattle.std.specs.IoError.{error_kind};
 ghost use Rattle.sqlite_disk.specs.Memory.{memory_bytes, memory_is_usable};
 ghost use Rattle.pl_outside.specs.Counts.{count_end, count_plus};
+ghost use Rattle.pl_adjust_sql.specs.Beside.{suffix_of};
 
 use crate::read::read_table;
 use crate::refusal::TableError;
 use pl_outside::{AdjustKeeper, KeepError, RawAdjust, Table};
 use sqlite::{Connection, Error, ErrorCode, FileStore, Files, Options};
 use sqlite_disk::{Disk, Memory};
-use std::alloc::Global;
+use std::alloc::{AllocError, Global};
 use std::fs;
 use std::io::{self, ErrorKind};
 
@@ -96,7 +97,7 @@ fn copied_files(rt: &HostRuntime, alloc: Global, name: &str) -> Result<Files<Mem
     ensures db { IfOk result (λ files. IsTrue (memory_is_usable files.db)) }
 {
     let bytes = fs::read(rt, name).map_err(read_error)?;
-    if bytes.is_empty() || is_cut_off(bytes_beside(rt, alloc, name, "journal")?.as_slice()) {
+    if bytes.is_empty() || is_cut_off(bytes_beside(rt, alloc, name, Beside::Journal)?.as_slice()) {
         return Err(TableError::Refused);
     }
     let db = copy_of(alloc, bytes.as_slice())?;
@@ -113,7 +114,7 @@ fn copied_files(rt: &HostRuntime, alloc: Global, name: &str) -> Result<Files<Mem
 fn log_of(rt: &HostRuntime, alloc: Global, name: &str) -> Result<Memory, TableError>
     ensures { IfOk result (λ disk. IsTrue (memory_is_usable disk)) }
 {
-    let log = bytes_beside(rt, alloc, name, "wal")?;
+    let log = bytes_beside(rt, alloc, name, Beside::Log)?;
     copy_of(alloc, log.as_slice())
 }
 
@@ -127,22 +128,37 @@ fn is_cut_off(journal: &[u8]) -> bool
     }
 }
 
-// The bytes of SQLite's file of that kind beside a database file, and none where there is no such file.
+// The files that SQLite keeps beside a database file.
+#[derive(Clone, Copy)]
+enum Beside {
+    Log,
+    Journal,
+}
+
+// The bytes of such a file, and none where there is no such file.
 fn bytes_beside(
     rt: &HostRuntime,
     alloc: Global,
     name: &str,
-    kind: &str,
+    kind: Beside,
 ) -> Result<Vec<u8>, TableError> {
-    let Ok(path) = format!(in alloc; "{name}-{kind}") else {
-        return Err(TableError::Memory);
-    };
+    let path = path_beside(alloc, name, kind)?;
     match fs::read(rt, path.as_str()) {
         Ok(bytes) => Ok(bytes),
         Err(error) => match error.kind() {
             ErrorKind::NotFound => Ok(Vec::new(alloc)),
             _ => Err(read_error(error)),
         },
+    }
+}
+
+// The path of such a file: that of the database file, with SQLite's suffix.
+fn path_beside(alloc: Global, name: &str, kind: Beside) -> Result<String, AllocError>
+    ensures { IfOk result (λ path. string_bytes path ≡ name.now ++ suffix_of kind) }
+{
+    match kind {
+        Beside::Log => format!(in alloc; "{name}-wal"),
+        Beside::Journal => format!(in alloc; "{name}-journal"),
     }
 }
 

@@ -1,12 +1,13 @@
 //! The files of the disk.
 
-ghost use Rattle.std.specs.Prelude.{◌≡◌, None, [], false};
-ghost use Rattle.pl_outside.specs.Counts.{count_end};
+ghost use Rattle.std.specs.Prelude.{◌≡◌, ◌≤◌, ◌↔◌, None, Some, [], IfOk, IsOk, OnErr, false, length};
+ghost use Rattle.std.specs.Io.KnownBytes.{ReadConsumes};
+ghost use Rattle.pl_outside.specs.Counts.{HasCause, count_end};
 
 use crate::faults::failed;
 use pl_outside::{Failed, Shelf};
 use std::fs::{self, File};
-use std::io::Read;
+use std::io::{self, Read};
 
 /// The files of the disk by their paths, of which the one that was begun last is open. Contracts see nothing
 /// of it but its faults.
@@ -47,29 +48,52 @@ impl Shelf for FileShelf<'_> {
     ghost sound = { λ _. false };
 
     fn begin(&mut self, name: &str) -> Result<(), Failed> {
-        match fs::open(self.rt, name) {
-            Ok(file) => {
-                self.file = Some(file);
-                Ok(())
-            }
-            Err(_) => {
-                self.file = None;
-                Err(failed(&mut self.faults))
-            }
-        }
+        keep_opened(fs::open(self.rt, name), &mut self.file, &mut self.faults)
     }
 
     fn next(&mut self, into: &mut [u8]) -> Result<usize, Failed> {
-        let Some(file) = &mut self.file else {
-            return Ok(0);
-        };
-        match file.read(into) {
-            Ok(count) => Ok(count),
-            Err(_) => Err(failed(&mut self.faults)),
+        match &mut self.file {
+            Some(file) => read_piece(file, &mut self.faults, into),
+            None => Ok(0),
         }
     }
 
     ghost use Rattle.std.proofs.Common.{rules};
 
     ghost sound_tells = { Prim.search rules };
+}
+
+// The file that was opened is the one to read, and there is none where it could not be opened.
+fn keep_opened<T: Drop>(
+    opened: io::Result<T>,
+    file: &mut Option<T>,
+    faults: &mut u64,
+) -> Result<(), Failed>
+    ensures ok { IsOk result ↔ IsOk opened }
+    ensures kept { IfOk opened (λ f. file.new ≡ Some f) }
+    ensures none { OnErr opened (file.new ≡ None) }
+    ensures cause { HasCause faults.old faults.new result }
+{
+    match opened {
+        Ok(opened) => {
+            *file = Some(opened);
+            Ok(())
+        }
+        Err(_) => {
+            *file = None;
+            Err(failed(faults))
+        }
+    }
+}
+
+// The next bytes of a reader, as many as it gives.
+fn read_piece<R: Read>(from: &mut R, faults: &mut u64, into: &mut [u8]) -> Result<usize, Failed>
+    ensures within { IfOk result (λ n. n ≤ length into.old) }
+    ensures bytes { ReadConsumes (R.remaining from.old) (R.remaining from.new) result into.new }
+    ensures cause { HasCause faults.old faults.new result }
+{
+    match from.read(into) {
+        Ok(count) => Ok(count),
+        Err(_) => Err(failed(faults)),
+    }
 }

@@ -1,7 +1,7 @@
 //! The name and the date that were read last. In most files a record has the name of the record before it,
 //! and in files by day its date, so these are looked at before a name is tested or a date is read.
 
-ghost use Rattle.std.specs.Prelude.{◌≡◌, ◌≤◌, take, true, IsTrue};
+ghost use Rattle.std.specs.Prelude.{◌≡◌, ◌≤◌, take, true, false, IsTrue};
 ghost use Rattle.pl_spec.specs.Dates.{date_in};
 ghost use Rattle.pl_spec.specs.Names.{is_name};
 
@@ -53,7 +53,8 @@ impl Last {
 
     // Whether a text is a name, which is then the last one.
     pub(crate) fn is_name(&mut self, text: &[u8]) -> bool
-        ensures { result ≡ is_name text.now }
+        ensures exact { result ≡ is_name text.now }
+        ensures stays { result ≡ false → self.new ≡ self.old }
     {
         if let Some(name) = &self.name {
             if name.is(text) {

@@ -19,6 +19,8 @@ pub(crate) struct Place {
     pub(crate) value: i64,
 }
 
+const _: () = prove!(size_of::<Place>() == 24);
+
 // Rows of numbers with their distinct names.
 #[derive(Debug)]
 pub(crate) struct NumberRows {

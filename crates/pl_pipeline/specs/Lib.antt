@@ -1,4 +1,4 @@
--- What the contracts of the project cite of pipelines. docs/DEFINITIONS.md explains each definition.
+-- What the contracts of the project cite of pipelines. docs/DEFINITIONS.md has the heart of it.
 pub mod Kind
 pub mod Formula
 pub mod Elementary

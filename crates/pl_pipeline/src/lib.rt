@@ -1,9 +1,9 @@
 //! What pipelines mean: the kinds of terms with their formulas, cross-sections, terms and their graph, values,
 //! tables and their text. They stand on the definitions of worlds (`pl_spec`).
 //!
-//! The definitions are in `specs/`, and docs/DEFINITIONS.md explains each of them. The types here are those
-//! that both the definitions and the code speak of; the crates that they belong to export them. The laws of
-//! the definitions are the crate `pl_laws`.
+//! The definitions are in `specs/`; docs/DEFINITIONS.md has their heart. The types here are those that both
+//! the definitions and the code speak of; the crates that they belong to export them. The laws of the
+//! definitions are the crate `pl_laws`.
 #![tactic(auto)]
 
 /// Which rank equal values have: places of their own by ascending sid, the least or the greatest of their

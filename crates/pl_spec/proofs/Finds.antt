@@ -1,6 +1,6 @@
 -- What the look-ups of a world find.
 use Rattle.std.proofs.Common.{◌≡◌, ℕ, zero, suc, ◌<◌, Bool, true, false, ◌&&◌, ◌==◌, cond, ℤ, pos, ◌≤ℤ◌, List, [], ◌∷◌, length, get_or, filter, find, Option, Some, None, option_map, unwrap_or, option_and_then, refl, sym, ◌∙◌, ap, arith, inl, inr}
-use Rattle.std.specs.Prelude.{Contains, ◌⊎◌}
+use Rattle.std.specs.Prelude.{Contains, ◌⊎◌, ◌↔◌}
 use Rattle.std.specs.List.{list_all}
 use Rattle.std.specs.Int.RustNames.{int_le}
 use Rattle.std.proofs.lemmas.Bool.{eq-eqb, eqb-true, and_parts, true≢false}
@@ -113,6 +113,12 @@ label_of name a day r e =
     let front = and_parts _ _ (and_parts _ _ e).0 in
     ((bytes_eq-Decides r.name name).0 front.0, eqb-true r.sid a front.1)
 
+label-counts : (name : List ℕ) (a : ℕ) (day : ℤ) (r : LabelRow) → (is_label_of name a day r ≡ true) ↔ ((r.name ≡ name) × (r.sid ≡ a) × (r.start ≤ℤ day))
+label-counts name a day r = (
+  λ e. let own = label_of name a day r e in (own.0, own.1, int_le-true r.start day (and_parts _ _ e).1),
+  λ h. rw ((bytes_eq-Decides r.name name).1 h.0, eq-eqb r.sid a h.1, le-int_le r.start day h.2) refl,
+)
+
 module _ (w : World) (name : List ℕ) (a : ℕ) (day : ℤ) where
   started : List LabelRow
   started = filter (is_label_of name a day) w.labels
@@ -163,6 +169,7 @@ bars_are_found = record { found = bar-found; none = bar-none }
 pub labels_are_found : LabelsAreFound
 labels_are_found =
     record {
+      counts = label-counts;
       found = λ w once name a d day on_day r h e latest. label-found w name a day once d on_day r h e latest;
       none = λ w name a d day on_day none. label-none w name a day d on_day none;
     }

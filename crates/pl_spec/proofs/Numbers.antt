@@ -1,10 +1,10 @@
 -- Numbers are found by what was known, whatever comes later, and in whatever order.
-use Rattle.std.proofs.Common.{◌≡◌, ℕ, Bool, true, ℤ, ◌≤ℤ◌, List, filter, find, option_map, unwrap_or, Contains, IsPermutation, sym, ◌∙◌, ap, arith}
+use Rattle.std.proofs.Common.{◌≡◌, ℕ, Bool, true, ℤ, ◌≤ℤ◌, List, filter, find, option_map, unwrap_or, Contains, IsPermutation, ◌↔◌, refl, sym, ◌∙◌, ap, arith}
 use Rattle.std.specs.List.{list_all}
 use Rattle.std.specs.Int.RustNames.{int_le}
 use Rattle.std.proofs.Math.Path.{fun_ext}
 use Rattle.std.proofs.lemmas.Int.{ints}
-use Rattle.std.proofs.lemmas.Bool.{eqb-true, and_parts}
+use Rattle.std.proofs.lemmas.Bool.{eq-eqb, eqb-true, and_parts}
 use Rattle.std.proofs.lemmas.Slice.Eq.{bytes_eq-Decides}
 use Rattle.pl_spec.specs.Rounding.{MISSING}
 use Rattle.pl_spec.specs.Numbers.{NumberRow, last_known, is_number_of, number_at, numbers_by, NumbersOnce, NumbersAreFound, NumbersLookBack}
@@ -20,6 +20,12 @@ number_of : (name : List ℕ) (a : ℕ) (day : ℤ) (r : NumberRow) → is_numbe
 number_of name a day r e =
     let front = and_parts _ _ (and_parts _ _ e).0 in
     ((bytes_eq-Decides r.name name).0 front.0, eqb-true r.sid a front.1)
+
+number-counts : (name : List ℕ) (a : ℕ) (day : ℤ) (r : NumberRow) → (is_number_of name a day r ≡ true) ↔ ((r.name ≡ name) × (r.sid ≡ a) × (r.known ≤ℤ day))
+number-counts name a day r = (
+  λ e. let own = number_of name a day r e in (own.0, own.1, int_le-true r.known day (and_parts _ _ e).1),
+  λ h. rw ((bytes_eq-Decides r.name name).1 h.0, eq-eqb r.sid a h.1, le-int_le r.known day h.2) refl,
+)
 
 -- of rows of one name and asset no two are known last
 one_last : (rows : List NumberRow) → NumbersOnce rows → (name : List ℕ) (a : ℕ) (day : ℤ) (x y : NumberRow)
@@ -90,7 +96,7 @@ number-permuted rows others once moved name a day = ap (λ o. unwrap_or (option_
         ∙ ap (λ p. find p vs) (fun_ext (λ r. list_all-permuted (λ q. int_le q.known r.known) us vs still))
 
 pub numbers_are_found : NumbersAreFound
-numbers_are_found = record { found = number-found; none = number-none }
+numbers_are_found = record { counts = number-counts; found = number-found; none = number-none }
 
 pub numbers_look_back : NumbersLookBack
 numbers_look_back = record { without = number-without; agreeing = number-agreeing; in_any_order = number-permuted }

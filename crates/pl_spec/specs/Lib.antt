@@ -1,4 +1,4 @@
--- What the contracts of the project cite. docs/DEFINITIONS.md explains each definition.
+-- What the contracts of the project cite. docs/DEFINITIONS.md has the heart of it.
 pub mod Limits
 pub mod Rounding
 pub mod Dates

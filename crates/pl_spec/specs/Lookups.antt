@@ -1,5 +1,5 @@
 -- What the look-ups of a world find.
-use Rattle.std.specs.Prelude.{◌≡◌, true, ℕ, ℤ, pos, ◌≤ℤ◌, List, Some, None, Contains}
+use Rattle.std.specs.Prelude.{◌≡◌, ◌↔◌, true, ℕ, ℤ, pos, ◌≤ℤ◌, List, Some, None, Contains}
 use Rattle.pl_spec.specs.declared.Column.{Column}
 use Rattle.pl_spec.specs.Rounding.{MISSING}
 use Rattle.pl_spec.specs.World.{World, Bar, LabelRow, day_of, cell_of, bar_cell, nonempty, is_label_of, label_at}
@@ -17,8 +17,11 @@ pub record BarsAreFound : Type 0 where
   pub found : (w : World) → BarsOnce w → (b : Bar) → Contains w.bars b → (c : Column) → bar_cell w b.sid c (pos b.session) ≡ cell_of c b
   pub none : (w : World) (a s : ℕ) → ((b : Bar) → Contains w.bars b → b.sid ≡ a → b.session ≡ s → ⊥) → (c : Column) → bar_cell w a c (pos s) ≡ MISSING
 
--- The label is that of the one row that started last, and there is none where none has started.
+-- The label is that of the one row that started last, and there is none where none has started. A row counts
+-- exactly where it has the name, is of the asset and started by the day.
 pub record LabelsAreFound : Type 0 where
+  pub counts : (name : List ℕ) (a : ℕ) (day : ℤ) (r : LabelRow)
+      → (is_label_of name a day r ≡ true) ↔ ((r.name ≡ name) × (r.sid ≡ a) × (r.start ≤ℤ day))
   pub found : (w : World) → LabelsOnce w → (name : List ℕ) (a : ℕ) (d day : ℤ) → day_of w d ≡ Some day
       → (r : LabelRow) → Contains w.labels r → is_label_of name a day r ≡ true
       → ((q : LabelRow) → Contains w.labels q → is_label_of name a day q ≡ true → q.start ≤ℤ r.start)

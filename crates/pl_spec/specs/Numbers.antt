@@ -1,5 +1,5 @@
 -- Numbers beside bars: each is of a name and an asset, and counts from the day on which it was known.
-use Rattle.std.specs.Prelude.{◌≡◌, ℕ, Bool, true, ◌&&◌, ◌==◌, ℤ, ◌≤ℤ◌, List, filter, find, Option, option_map, unwrap_or, bytes_eq, Contains, IsPermutation}
+use Rattle.std.specs.Prelude.{◌≡◌, ◌↔◌, ℕ, Bool, true, ◌&&◌, ◌==◌, ℤ, ◌≤ℤ◌, List, filter, find, Option, option_map, unwrap_or, bytes_eq, Contains, IsPermutation}
 use Rattle.std.specs.List.{list_all}
 use Rattle.std.specs.Int.RustNames.{int_le}
 use Rattle.pl_spec.specs.Rounding.{MISSING}
@@ -35,8 +35,11 @@ numbers_by day rows = filter (λ r. int_le r.known day) rows
 abbrev pub NumbersOnce : List NumberRow → Type 0
 NumbersOnce rows = (r q : NumberRow) → Contains rows r → Contains rows q → r.name ≡ q.name → r.sid ≡ q.sid → r.known ≡ q.known → r ≡ q
 
--- The number is the value of the one row that was known last, and missing where none was known.
+-- The number is the value of the one row that was known last, and missing where none was known. A row counts
+-- exactly where it has the name, is of the asset and was known by the day.
 pub record NumbersAreFound : Type 0 where
+  pub counts : (name : List ℕ) (a : ℕ) (day : ℤ) (r : NumberRow)
+      → (is_number_of name a day r ≡ true) ↔ ((r.name ≡ name) × (r.sid ≡ a) × (r.known ≤ℤ day))
   pub found : (rows : List NumberRow) → NumbersOnce rows → (name : List ℕ) (a : ℕ) (day : ℤ)
       → (r : NumberRow) → Contains rows r → is_number_of name a day r ≡ true
       → ((q : NumberRow) → Contains rows q → is_number_of name a day q ≡ true → q.known ≤ℤ r.known)

@@ -1,9 +1,9 @@
 //! What a world is: the definitions of numbers, days, sessions, assets, bars, labels, adjustments and windows,
 //! on which every contract of the project rests. What pipelines mean in a world is the crate `pl_pipeline`.
 //!
-//! The definitions are in `specs/`, and docs/DEFINITIONS.md explains each of them. The types here are those
-//! that both the definitions and the code speak of; the crates that they belong to export them. The laws of
-//! the definitions are the crate `pl_laws`.
+//! The definitions are in `specs/`; docs/DEFINITIONS.md has their heart. The types here are those that both
+//! the definitions and the code speak of; the crates that they belong to export them. The laws of the
+//! definitions are the crate `pl_laws`.
 #![tactic(auto)]
 
 /// A column of daily bars. Prices are millionths of a unit of money, volumes millionths of a share.
