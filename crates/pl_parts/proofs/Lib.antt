@@ -1,0 +1,5 @@
+pub mod KeptRows
+pub mod ByColumn
+pub mod Cells
+pub mod Dates
+pub mod Fields
