@@ -206,7 +206,8 @@ class Bars:
     def _starts(self, keys: Array) -> Array:
         """Where those of each asset begin among sorted keys."""
         bounds: Array = np.arange(len(self.numbers) + 1, dtype="i8") << 32
-        return np.asarray(keys.searchsorted(bounds))
+        found: Array = np.asarray(keys.searchsorted(bounds))
+        return found
 
     def _read(self, batch: Batch, first: int, end: int) -> Array:
         """The records of a batch that are of the assets from one to another, without the latter."""
