@@ -1,16 +1,22 @@
 -- The label of a column on a day, found by numbers.
-use Rattle.std.proofs.Common.{◌≡◌, ℕ, ◌<◌, true, false, ℤ, pos, ◌≤ℤ◌, List, [], ◌∷◌, length, map, get_or, All, AllPairs, Option, Some, None, IfSome, option_and_then, refl, sym, ap, ◌∙◌}
+use Rattle.std.proofs.Common.{◌≡◌, ℕ, ◌<◌, Bool, true, false, ℤ, pos, ◌≤ℤ◌, List, [], ◌∷◌, length, map, filter, get_or, All, AllPairs, Option, Some, None, IfSome, option_map, option_and_then, slice_get, refl, sym, ap, ◌∙◌, arith}
 use Rattle.std.specs.Prelude.{Contains}
-use Rattle.std.specs.List.{position}
+use Rattle.std.specs.Cmp.{both_ways}
+use Rattle.std.specs.Int.RustNames.{int_le}
+use Rattle.std.specs.List.{position, list_all}
 use Rattle.std.specs.Str.{bytes_eq}
 use Rattle.std.proofs.lemmas.Bool.{true≢false}
+use Rattle.std.proofs.lemmas.Int.{ints}
 use Rattle.std.proofs.lemmas.List.{get_or_default}
+use Rattle.std.proofs.lemmas.Option.{slice_get-map, slice_get_within, get_or_from_slice_get}
 use Rattle.std.proofs.lemmas.List.Elements.{All-map}
 use Rattle.pl_spec.specs.Parts.{ColumnLabel}
 use Rattle.pl_spec.specs.World.{World, LabelRow, is_label_of, label_at, nonempty}
 use Rattle.pl_spec.specs.Lookups.{LabelsOnce}
-use Rattle.pl_spec.proofs.Finds.{labels_are_found}
+use Rattle.pl_spec.proofs.Finds.{labels_are_found, contains-filter, filter-contains, all-contains, contains-all}
+use Rattle.pl_spec.proofs.Signed.{int_le-true, le-int_le}
 use Rattle.pl_assets.specs.Labels.{by_column, is_from, is_text, label_on, names_of}
+use Rattle.pl_assets.specs.LabelRowsShown.{is_newest_in}
 use Rattle.pl_assets.specs.LabelPlaces.{AreNumbered, HasStarted, IsLastStarted, IsPlace, row_at, shown_rows, text_in}
 use Rattle.pl_assets.specs.declared.labels.rows.Place.{Place}
 use Rattle.pl_assets.specs.declared.labels.rows.LabelRows.{LabelRows}
@@ -49,6 +55,11 @@ unfolding label_on
 on_day rows name col day = refl
 
 -- ---- the row that started last
+
+-- a row starts by the day, where there is one
+abbrev pub starts_by : ℤ → Option Place → Bool
+starts_by k None = true
+starts_by k (Some p) = int_le p.start k
 
 -- the code of a row's text, where there is one
 abbrev pub code_in : Option Place → Option ℕ
@@ -130,3 +141,44 @@ module _ (t : LabelRows) (numbered : AreNumbered t) (number col : ℕ) (day : �
   unfolding rows name
   last_known once None h = rw (names_same, label_none h) tt
   last_known once (Some p) h = rw (names_same, label_found once p h) (text_coded t numbered p.code (here_now p h.0).code)
+
+  -- ---- the newest row
+
+  us : List LabelRow
+  us = filter (is_label_of name col day) (map by_column rows)
+
+  pub newest_by : (k : ℤ) (o : Option Place) → IsLastStarted t.places.items number col day o
+      → list_all (λ q. int_le q.start k) (filter (is_label_of (get_or t.names number []) col day) (map by_column (shown_rows t))) ≡ starts_by k o
+  unfolding rows name us
+  newest_by k None h =
+      contains-all (λ q. int_le q.start k) us (λ q in_us. let it = of_us q in_us in absurd (h it.0 it.1 it.2))
+    where
+      of_us : (q : LabelRow) → Contains us q → (p : Place) × Contains t.places.items p × HasStarted number col day p × (row p ≡ q)
+      of_us q in_us =
+          let found = filter-contains (is_label_of name col day) (map by_column rows) q in_us in
+          let it = from_place q found.0 in
+          (it.0, it.1, row_is it.0 it.1 (ap (is_label_of name col day) it.2 ∙ found.1), it.2)
+  newest_by k (Some p) h = both_ways _ _ there_is all_are
+    where
+      there_is : list_all (λ q. int_le q.start k) us ≡ true → int_le p.start k ≡ true
+      there_is e = all-contains (λ q. int_le q.start k) us e (row p) (contains-filter (is_label_of name col day) (map by_column rows) (row p) (there p h.0) (is_row p h.1))
+
+      all_are : int_le p.start k ≡ true → list_all (λ q. int_le q.start k) us ≡ true
+      all_are e = contains-all (λ q. int_le q.start k) us (λ q in_us.
+          let found = filter-contains (is_label_of name col day) (map by_column rows) q in_us in
+          let it = from_place q found.0 in
+          let started : HasStarted number col day it.0 = row_is it.0 it.1 (ap (is_label_of name col day) it.2 ∙ found.1) in
+          let le : it.0.start ≤ℤ p.start = h.2 it.0 it.1 started in
+          let low : p.start ≤ℤ k = int_le-true p.start k e in
+          let both : it.0.start ≤ℤ k = omega (arith, ints, le, low) in
+          ap (λ (x : LabelRow). int_le x.start k) (sym it.2) ∙ le-int_le it.0.start k both)
+
+-- whether the row of a place is the newest
+pub newest-at : (t : LabelRows) → AreNumbered t → (i : ℕ) (p : Place) (day : ℤ) → slice_get t.places.items i ≡ Some p → (o : Option Place) → IsLastStarted t.places.items p.name p.col day o
+    → option_map (is_newest_in (shown_rows t) day) (slice_get (shown_rows t) i) ≡ Some (starts_by p.start o)
+newest-at t numbered i p day at o last =
+    let inside : i < length t.places.items = slice_get_within t.places.items i p at in
+    let here : IsPlace t.names t.texts p = (let it : IsPlace t.names t.texts (get_or t.places.items i p) = numbered.places i p inside in rw (get_or_from_slice_get t.places.items i p p at) at it) in
+    let named : p.name < length (names_of (shown_rows t)) = (let n : p.name < length t.names = here.name in rw numbered.names at n) in
+    ap (option_map (is_newest_in (shown_rows t) day)) (slice_get-map (row_at t.names t.texts) t.places.items i ∙ ap (option_map (row_at t.names t.texts)) at)
+    ∙ ap (λ b. Some b) (newest_by t numbered p.name p.col day named p.start o last)

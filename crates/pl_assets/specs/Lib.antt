@@ -4,3 +4,4 @@ pub mod LabelPlaces
 pub mod LabelStarts
 pub mod LabelRules
 pub mod LabelWorlds
+pub mod LabelRowsShown

@@ -1,6 +1,6 @@
 //! The labels of assets: read from a file or put together row by row, and looked up by day.
 
-ghost use Rattle.std.specs.Prelude.{◌≡◌, ◌<◌, ◌≤◌, ◌++◌, ◌∷◌, ◌==◌, [], length, position, slice_index_or, bytes_eq, All, Contains, IfOk, IfSome, IsTrue, OnOk, OnErr, option_and_then};
+ghost use Rattle.std.specs.Prelude.{◌≡◌, ◌<◌, ◌≤◌, ◌++◌, ◌∷◌, ◌==◌, [], length, position, slice_get, slice_index_or, bytes_eq, Some, All, Contains, IfOk, IfSome, IsTrue, OnOk, OnErr, option_map, option_and_then};
 ghost use Rattle.std.specs.List.{list_any, position_or_len};
 ghost use Rattle.pl_records.specs.Reading.{Answers};
 ghost use Rattle.pl_spec.specs.AsOf.{labels_by};
@@ -9,6 +9,7 @@ ghost use Rattle.pl_records.specs.Records.{csv_records};
 ghost use Rattle.pl_lifetimes.specs.Assets.{sid_of};
 ghost use Rattle.pl_assets.specs.Labels.{AreLabels, MayFollow, is_printable, label_on, label_row, labels_of, names_of, no_labels, with_label};
 ghost use Rattle.pl_assets.specs.LabelFaults.{fault_of};
+ghost use Rattle.pl_assets.specs.LabelRowsShown.{is_newest_in, shown_at};
 ghost use Rattle.pl_spec.specs.Limits.{most_label_bytes};
 
 mod error;
@@ -20,6 +21,7 @@ mod texts;
 pub use error::LabelsError;
 use pl_fixed::Memory;
 use pl_lifetimes::Assets;
+pub use rows::LabelAt;
 use rows::LabelRows;
 use std::alloc::Global;
 use std::marker::Model;
@@ -127,6 +129,24 @@ impl Labels {
         ensures labels { AreLabels self.now }
     {
         self.rows.places.len()
+    }
+
+    /// The row of a place among them, from 0, in the order of the file.
+    pub fn row(&self, i: usize) -> LabelAt<'_>
+        requires { i < length self.now.rows }
+        ensures row { slice_get self.now.rows i ≡ Some (shown_at result) }
+        ensures field { result.field.now ≡ quote result.text.now }
+    {
+        self.rows.row(i)
+    }
+
+    /// Whether of the rows with the name and the column of row i none that starts by the day, counted from
+    /// 1970-01-01, starts later than row i.
+    pub fn is_newest(&self, i: usize, day: i32) -> bool
+        requires { i < length self.now.rows }
+        ensures { option_map (is_newest_in self.now.rows day) (slice_get self.now.rows i) ≡ Some result }
+    {
+        order::is_newest(&self.rows, &self.order, i, day)
     }
 
     /// The number of a name, from 0; `None` where no row has it.

@@ -5,7 +5,7 @@
 mod labels;
 pub mod laws;
 
-pub use labels::{Labels, LabelsError, Texts};
+pub use labels::{LabelAt, Labels, LabelsError, Texts};
 pub use pl_lifetimes::{AssetRow, Assets, AssetsError, MOST_ASSETS};
 
 /// How many rows of labels there may be. The limit is this project's own.

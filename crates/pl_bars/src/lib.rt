@@ -2,7 +2,7 @@
 //! a place among the assets, and by its session, a place among the sessions.
 #![tactic(auto)]
 
-ghost use Rattle.std.specs.Prelude.{◌≡◌, ℕ, ◌+◌, ◌*◌, ◌^◌, ◌<◌, ◌≤◌, length, pos, slice_index, slice_index_or, IfOk, All};
+ghost use Rattle.std.specs.Prelude.{◌≡◌, ℕ, ◌+◌, ◌*◌, ◌^◌, ◌<◌, ◌≤◌, length, pos, slice_get, slice_index, slice_index_or, Some, IfOk, All};
 ghost use Rattle.pl_records.specs.Reading.{Answers};
 ghost use Rattle.pl_spec.specs.AsOf.{bars_before};
 ghost use Rattle.pl_spec.specs.Rounding.{IsCell};
@@ -111,6 +111,15 @@ impl Bars {
         ensures bars { AreBars self.now }
     {
         self.rows.len()
+    }
+
+    /// The bar of a place among them, from 0.
+    pub fn row(&self, i: usize) -> BarRow
+        requires { i < length self.now }
+        ensures bar { slice_get self.now i ≡ Some result }
+        ensures cells { All IsCell result.cells }
+    {
+        self.rows[i]
     }
 
     /// One cell of the bar of the asset in a column on a session, in millionths; `MISSING` where there is no

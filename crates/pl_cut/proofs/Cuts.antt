@@ -57,7 +57,7 @@ module _ (w : World) (span : Span) where
       (λ x e. ap (λ b. is_of w span b && is_event_in span x.event) (eqb-true x.sid a e)) w.adjustments)
       ∙ sym (filter-map (λ e. is_of w span a && is_event_in span e) (λ (x : Adjustment). x.event) (filter (λ x. x.sid == a) w.adjustments))
 
-  events-kept : (a : ℕ) → is_of w span a ≡ true → events_of part a ≡ filter (is_event_in span) (events_of w a)
+  pub events-kept : (a : ℕ) → is_of w span a ≡ true → events_of part a ≡ filter (is_event_in span) (events_of w a)
   events-kept a of = events-of a ∙ ap (λ b. filter (λ e. b && is_event_in span e) (events_of w a)) of
 
   pub is-world : IsWorld w → IsWorld part

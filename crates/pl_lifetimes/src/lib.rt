@@ -89,6 +89,14 @@ impl Assets {
         self.rows[col].sid
     }
 
+    /// The asset in a column.
+    pub fn row(&self, col: usize) -> AssetRow
+        requires { col < length self.now }
+        ensures { slice_get self.now col ≡ Some result }
+    {
+        self.rows[col]
+    }
+
     /// The column of the asset with a sid; `None` where no asset has it. It is found by bisection.
     pub fn col_of(&self, sid: u32) -> Option<usize>
         ensures within { IfSome result (λ i. i < length self.now) }

@@ -12,3 +12,4 @@ pub mod NumberNames
 pub mod NumbersSaid
 pub mod NumbersMoved
 pub mod NumberWorlds
+pub mod NumbersLast

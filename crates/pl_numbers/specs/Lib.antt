@@ -3,3 +3,4 @@ pub mod NumberFaults
 pub mod NumberPlaces
 pub mod NumberRules
 pub mod NumberLaws
+pub mod NumberRowsShown

@@ -2,7 +2,7 @@
 //! which it was known.
 #![tactic(auto)]
 
-ghost use Rattle.std.specs.Prelude.{◌≡◌, ℕ, ◌+◌, ◌<◌, ◌≤◌, [], length, pos, position, slice_index_or, bytes_eq, All, IfOk, IfSome};
+ghost use Rattle.std.specs.Prelude.{◌≡◌, ℕ, ◌+◌, ◌<◌, ◌≤◌, [], length, pos, position, slice_get, slice_index_or, bytes_eq, Some, All, IfOk, IfSome, option_map};
 ghost use Rattle.pl_spec.specs.AsOf.{column_numbers_by};
 ghost use Rattle.pl_spec.specs.Dates.{IsDay};
 ghost use Rattle.pl_spec.specs.Rounding.{IsCell};
@@ -10,6 +10,7 @@ ghost use Rattle.pl_records.specs.Reading.{Answers};
 ghost use Rattle.pl_records.specs.Records.{csv_records};
 ghost use Rattle.pl_numbers.specs.Numbers.{AreNumbers, known_on, number_on, numbers_of};
 ghost use Rattle.pl_numbers.specs.NumberFaults.{fault_of};
+ghost use Rattle.pl_numbers.specs.NumberRowsShown.{is_newest_in, shown_at};
 
 mod cut;
 mod error;
@@ -28,6 +29,7 @@ pub use error::NumbersError;
 use pl_calendar::Sessions;
 use pl_fixed::Memory;
 use pl_lifetimes::Assets;
+pub use rows::NumberAt;
 use rows::NumberRows;
 use std::alloc::Global;
 use std::marker::Model;
@@ -103,6 +105,24 @@ impl Numbers {
         ensures numbers { AreNumbers self.now }
     {
         self.rows.places.len()
+    }
+
+    /// The row of a place among them, from 0.
+    pub fn row(&self, i: usize) -> NumberAt<'_>
+        requires { i < length self.now.rows }
+        ensures row { slice_get self.now.rows i ≡ Some (shown_at result) }
+        ensures cell { IsCell result.value }
+    {
+        self.rows.row(i)
+    }
+
+    /// Whether of the rows with the name and the column of row i none that was known by the day, counted from
+    /// 1970-01-01, was known later than row i.
+    pub fn is_newest(&self, i: usize, day: i32) -> bool
+        requires { i < length self.now.rows }
+        ensures { option_map (is_newest_in self.now.rows day) (slice_get self.now.rows i) ≡ Some result }
+    {
+        search::is_newest(&self.rows, i, day)
     }
 
     /// The number of a name, if a row has it.

@@ -1,10 +1,12 @@
 //! Rows of numbers, as they are kept.
-ghost use Rattle.std.specs.Prelude.{◌≡◌, ◌+◌, ◌∷◌, ◌++◌, ◌<◌, ◌≤◌, ◌^◌, [], length, pos, ◌+ℤ◌, bytes_eq, OnOk};
+ghost use Rattle.std.specs.Prelude.{◌≡◌, ◌+◌, ◌∷◌, ◌++◌, ◌<◌, ◌≤◌, ◌^◌, [], length, pos, ◌+ℤ◌, slice_get, Some, bytes_eq, OnOk};
 ghost use Rattle.std.specs.List.{position_or_len};
 ghost use Rattle.pl_spec.specs.Limits.{most_numbers};
 ghost use Rattle.pl_assets.specs.LabelPlaces.{key};
 ghost use Rattle.pl_assets.specs.Labels.{with_text};
-ghost use Rattle.pl_numbers.specs.NumberPlaces.{AreNumbered, key_next, key_of, shown_rows};
+ghost use Rattle.pl_spec.specs.Rounding.{IsCell};
+ghost use Rattle.pl_numbers.specs.NumberPlaces.{AreNumbered, IsTable, key_next, key_of, shown_rows};
+ghost use Rattle.pl_numbers.specs.NumberRowsShown.{shown_at};
 
 use crate::reading::NextNumber;
 use pl_assets::Texts;
@@ -17,6 +19,16 @@ pub(crate) struct Place {
     pub(crate) col: u32,
     pub(crate) known: i32,
     pub(crate) value: i64,
+}
+
+/// A row of numbers: from the day `known` on, counted from 1970-01-01, the asset in the column has the value
+/// under the name, in millionths; `MISSING` says that it has none.
+#[derive(Clone, Copy, Debug)]
+pub struct NumberAt<'a> {
+    pub name: &'a [u8],
+    pub col: u32,
+    pub known: i32,
+    pub value: i64,
 }
 
 // Rows of numbers with their distinct names.
@@ -45,6 +57,22 @@ impl NumberRows {
         NumberRows {
             names: Texts::new(alloc),
             places: Vec::new(alloc),
+        }
+    }
+
+    // The row of a place, from 0.
+    pub(crate) fn row(&self, i: usize) -> NumberAt<'_>
+        requires table { IsTable self.now }
+        requires within { i < length self.now.places.items }
+        ensures row { slice_get (shown_rows self.now) i ≡ Some (shown_at result) }
+        ensures cell { IsCell result.value }
+    {
+        let place = self.places[i];
+        NumberAt {
+            name: self.names.text(place.name as usize),
+            col: place.col,
+            known: place.known,
+            value: place.value,
         }
     }
 

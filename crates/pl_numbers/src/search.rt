@@ -1,11 +1,12 @@
 //! The number of a column on a day.
-ghost use Rattle.std.specs.Prelude.{◌≡◌, ◌+◌, ◌<◌, ◌≤◌, [], ℕ, ℤ, FitsSigned, IsTrue, length, nat_le, pos, slice_index_or, IfSome};
+ghost use Rattle.std.specs.Prelude.{◌≡◌, ◌+◌, ◌<◌, ◌≤◌, [], ℕ, ℤ, FitsSigned, IsTrue, length, nat_le, pos, slice_get, slice_index_or, Some, IfSome, option_map};
 ghost use Rattle.std.specs.Int.{w32};
 ghost use Rattle.pl_spec.specs.Dates.{IsDay};
 ghost use Rattle.pl_spec.specs.Rounding.{IsCell};
 ghost use Rattle.pl_assets.specs.LabelPlaces.{key};
 ghost use Rattle.pl_numbers.specs.Numbers.{known_on, number_on};
 ghost use Rattle.pl_numbers.specs.NumberPlaces.{AllLow, IsNewest, IsTable, KeyPoint, Rise, key_of, shown_rows};
+ghost use Rattle.pl_numbers.specs.NumberRowsShown.{is_newest_in};
 
 use crate::rows::{NumberRows, Place, key, key_of};
 use pl_calendar::Sessions;
@@ -34,6 +35,20 @@ pub(crate) fn known_on(rows: &NumberRows, name: u32, col: usize, day: i32) -> Op
     match newest {
         Some(place) => Some(place.known),
         None => None,
+    }
+}
+
+// Whether no row of the name and the column of row i, which was known by the day, was known later than it.
+pub(crate) fn is_newest(rows: &NumberRows, i: usize, day: i32) -> bool
+    requires table { IsTable rows.now }
+    requires within { i < length rows.now.places.items }
+    ensures { option_map (is_newest_in (shown_rows rows.now) day) (slice_get (shown_rows rows.now) i)
+        ≡ Some result }
+{
+    let place = rows.places[i];
+    match known_on(rows, place.name, place.col as usize, day) {
+        Some(known) => known <= place.known,
+        None => true,
     }
 }
 

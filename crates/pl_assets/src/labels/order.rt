@@ -1,8 +1,9 @@
 //! The order of label rows by name, column and day, in which a label is searched for.
 
-ghost use Rattle.std.specs.Prelude.{◌≡◌, ◌+◌, ◌^◌, ◌-◌, ◌<◌, ◌≤◌, length, pos, ◌+ℤ◌, vec_len, vec_capacity, IfOk};
+ghost use Rattle.std.specs.Prelude.{◌≡◌, ◌+◌, ◌^◌, ◌-◌, ◌<◌, ◌≤◌, length, pos, ◌+ℤ◌, vec_len, vec_capacity, slice_get, Some, IfOk, option_map};
 ghost use Rattle.pl_records.specs.Sorted.{HasOwnKeys, sorted_by};
-ghost use Rattle.pl_assets.specs.LabelPlaces.{AreNumbered, Ascend, IsLastStarted, IsOrder, KeyPoint, key, key_at, key_of, numbers};
+ghost use Rattle.pl_assets.specs.LabelPlaces.{AreNumbered, Ascend, IsLastStarted, IsOrder, KeyPoint, key, key_at, key_of, numbers, shown_rows};
+ghost use Rattle.pl_assets.specs.LabelRowsShown.{is_newest_in};
 ghost use Rattle.pl_spec.specs.Limits.{most_labels};
 
 use crate::labels::rows::{LabelRows, Place};
@@ -125,5 +126,20 @@ pub(crate) fn last_started(
         Some(place)
     } else {
         None
+    }
+}
+
+// Whether no row of the name and the column of row i, which has started by the day, starts later than it.
+pub(crate) fn is_newest(rows: &LabelRows, order: &[u32], i: usize, day: i32) -> bool
+    requires numbered { AreNumbered rows.now }
+    requires order { IsOrder rows.now.places.items (length rows.now.places.items) order.now }
+    requires within { i < length rows.now.places.items }
+    ensures { option_map (is_newest_in (shown_rows rows.now) day) (slice_get (shown_rows rows.now) i)
+        ≡ Some result }
+{
+    let place = rows.places[i];
+    match last_started(rows, order, place.name, place.col as usize, day) {
+        Some(last) => last.start <= place.start,
+        None => true,
     }
 }

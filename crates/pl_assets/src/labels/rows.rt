@@ -1,10 +1,12 @@
 //! Rows of labels, with their distinct names and texts.
 
-ghost use Rattle.std.specs.Prelude.{◌≡◌, ◌+◌, ◌<◌, ◌≤◌, ◌^◌, not, [], ◌∷◌, ◌++◌, length, IfOk, IfSome, OnOk, OnErr};
+ghost use Rattle.std.specs.Prelude.{◌≡◌, ◌+◌, ◌<◌, ◌≤◌, ◌^◌, not, [], ◌∷◌, ◌++◌, length, slice_get, Some, All, IfOk, IfSome, OnOk, OnErr};
 ghost use Rattle.std.specs.Int.RustNames.{int_le};
 ghost use Rattle.pl_spec.specs.AsOf.{labels_by};
+ghost use Rattle.pl_spec.specs.Lines.{quote};
 ghost use Rattle.pl_assets.specs.Labels.{with_label};
 ghost use Rattle.pl_assets.specs.LabelPlaces.{AreNumbered, IsBehind, IsPlace, KeepsFront, row_at, shown_rows, text_in};
+ghost use Rattle.pl_assets.specs.LabelRowsShown.{shown_at};
 ghost use Rattle.pl_spec.specs.Limits.{most_labels};
 
 use crate::labels::texts::{LabelTexts, Texts};
@@ -18,6 +20,17 @@ pub(crate) struct Place {
     pub(crate) col: u32,
     pub(crate) start: i32,
     pub(crate) code: Option<u32>,
+}
+
+/// A row of labels: from the day `start` on, counted from 1970-01-01, the asset in the column has the text
+/// under the name; an empty one says that it has none. `field` is the text as a field of csv.
+#[derive(Clone, Copy, Debug)]
+pub struct LabelAt<'a> {
+    pub name: &'a [u8],
+    pub col: u32,
+    pub start: i32,
+    pub text: &'a [u8],
+    pub field: &'a [u8],
 }
 
 // Rows of labels, one after the other, with their distinct names and texts.
@@ -83,13 +96,41 @@ impl LabelRows {
     }
 
     // The text of a row.
-    fn text_of(&self, place: &Place) -> &[u8]
+    pub(crate) fn text_of(&self, place: &Place) -> &[u8]
         requires { IsPlace self.now.names self.now.texts place.now }
         ensures { result.now ≡ text_in self.now.texts place.now.code }
     {
         match place.code {
             Some(code) => self.texts.text(code as usize),
             None => &[],
+        }
+    }
+
+    // The text of a row as a field of csv.
+    pub(crate) fn field_of(&self, place: &Place) -> &[u8]
+        requires { IsPlace self.now.names self.now.texts place.now }
+        ensures { result.now ≡ quote (text_in self.now.texts place.now.code) }
+    {
+        match place.code {
+            Some(code) => self.texts.field(code as usize),
+            None => &[],
+        }
+    }
+
+    // The row of a number, counted from 0.
+    pub(crate) fn row(&self, i: usize) -> LabelAt<'_>
+        requires places { All (IsPlace self.now.names self.now.texts) self.now.places.items }
+        requires within { i < length self.now.places.items }
+        ensures row { slice_get (shown_rows self.now) i ≡ Some (shown_at result) }
+        ensures field { result.field.now ≡ quote result.text.now }
+    {
+        let place = &self.places[i];
+        LabelAt {
+            name: self.names.text(place.name as usize),
+            col: place.col,
+            start: place.start,
+            text: self.text_of(place),
+            field: self.field_of(place),
         }
     }
 

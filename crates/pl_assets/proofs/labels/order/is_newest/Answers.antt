@@ -1,0 +1,23 @@
+use Rattle.std.proofs.Common.{◌≡◌, ◌∙◌, Some, None, slice_get, rules, w32, FitsSigned, sym, ap₂}
+use Rattle.std.specs.Int.RustNames.{int_le}
+use Rattle.std.proofs.lemmas.Int.{to_z-of_z}
+use Rattle.pl_assets.specs.LabelPlaces.{IsLastStarted}
+use Rattle.pl_assets.proofs.LabelSearch.{newest-at}
+use Rattle.pl_assets.proofs.labels.order.is_newest.Goals as goal
+
+pub returns-in-Some : goal.returns-in-Some
+returns-in-Some c =
+    let p = c.index-place.result.now in
+    let at : slice_get c.args.rows.now.places.items c.args.i ≡ Some c.index-place.result.now = search rules in
+    let last : IsLastStarted c.args.rows.now.places.items p.name p.col c.args.day (Some c.in-Some.last) = rw (to_z-of_z w32 c.args.day c.ranges.day, c.in-Some.is) at c.last_started.ensures in
+    let first : FitsSigned w32 c.in-Some.last.start = search rules in
+    let second : FitsSigned w32 c.index-place.result.now.start = search rules in
+    newest-at c.args.rows.now c.requires.numbered c.args.i p c.args.day at (Some c.in-Some.last) last
+    ∙ sym (ap₂ (λ a b. Some (int_le a b)) (to_z-of_z w32 _ first) (to_z-of_z w32 _ second))
+
+pub returns-in-None : goal.returns-in-None
+returns-in-None c =
+    let p = c.index-place.result.now in
+    let at : slice_get c.args.rows.now.places.items c.args.i ≡ Some c.index-place.result.now = search rules in
+    let last : IsLastStarted c.args.rows.now.places.items p.name p.col c.args.day None = rw (to_z-of_z w32 c.args.day c.ranges.day, c.in-None.is) at c.last_started.ensures in
+    newest-at c.args.rows.now c.requires.numbered c.args.i p c.args.day at None last

@@ -1,0 +1,81 @@
+//! A part of what a table reads.
+
+ghost use Rattle.std.specs.Prelude.{◌≡◌, ℕ, Some, IfOk};
+ghost use Rattle.pl_terms.specs.Checked.{pipeline_of};
+ghost use Rattle.pl_words.specs.Request.{Cut};
+ghost use Rattle.pl_words.specs.Views.{cut_of};
+ghost use Rattle.pl_load.specs.Loads.{IsReadyRun};
+ghost use Rattle.pl_load.specs.Views.{unchanged, shelf_change, keeper_change};
+ghost use Rattle.pl_parts.specs.Spans.{span_of};
+ghost use Rattle.pl_cli.specs.Texts.{span_for};
+ghost use Rattle.pl_cli.specs.Commands.{IsAnswered, sink_change, loaded_part};
+
+use crate::commands::{Stats, write_text};
+use pl_fixed::Memory;
+use pl_load::{Fault, Loaded, load};
+use pl_outside::{AdjustKeeper, Shelf, Sink};
+use pl_parts::{
+    Span, assets_text, bars_text, labels_text, numbers_text, ratios_text, revisions_text,
+    sessions_text,
+};
+use pl_spec::AdjustmentKind;
+use pl_words::{CutRequest, WorldPart};
+use std::alloc::Global;
+
+/// Reads and judges what the request names, as a run does, and writes the part that is asked for of what its
+/// rows read, as a file of that part. It gives no numbers. The fault is the first one in the order of work.
+pub fn cut_command<S: Shelf, K: AdjustKeeper, O: Sink>(
+    alloc: Global,
+    request: &CutRequest<'_>,
+    shelf: &mut S,
+    keeper: &mut K,
+    out: &mut O,
+) -> Result<Option<Stats>, Fault>
+    // however many steps were counted
+    ensures { (steps : ℕ)
+        → IsAnswered (shelf_change S.holds S.begun S.sound S.faults shelf.old shelf.new)
+        (keeper_change K.lists K.sound K.faults K.calls keeper.old keeper.new)
+        (sink_change O.taken O.sound O.faults O.room out.old out.new) (unchanged steps)
+        (Some (Cut (cut_of request.now))) result }
+{
+    let loaded = load(alloc, &request.table, shelf, keeper)?;
+    let text = text_of(alloc, &loaded, request.part)?;
+    write_text(out, &text)
+}
+
+// The text of a part of what the rows of what was loaded read.
+fn text_of(alloc: Global, loaded: &Loaded, part: WorldPart) -> Result<Vec<u8>, Memory>
+    requires ready { IsReadyRun loaded.now }
+    ensures { IfOk result (λ v. v.items ≡ loaded_part loaded.now part) }
+{
+    let world = loaded.world.world();
+    let span = span_of(loaded);
+    match part {
+        WorldPart::Sessions => sessions_text(alloc, &world, span),
+        WorldPart::Assets => assets_text(alloc, &world, span),
+        WorldPart::Bars => bars_text(alloc, &world, span),
+        WorldPart::Labels => labels_text(alloc, &world, span),
+        WorldPart::Numbers => numbers_text(alloc, &world, span),
+        WorldPart::Splits => ratios_text(alloc, &world, span, AdjustmentKind::Split),
+        WorldPart::Mergers => ratios_text(alloc, &world, span, AdjustmentKind::Merger),
+        WorldPart::Dividends => ratios_text(alloc, &world, span, AdjustmentKind::Dividend),
+        WorldPart::Revisions => revisions_text(alloc, &world, span),
+    }
+}
+
+// From the least session that the outputs reach back to, up to the last one that is asked for.
+fn span_of(loaded: &Loaded) -> Span
+    requires ready { IsReadyRun loaded.now }
+    ensures { span_of result ≡ span_for loaded.now.world.sessions (pipeline_of loaded.now.checked)
+        loaded.now.plan.from loaded.now.plan.to }
+{
+    let sessions = &loaded.world.sessions;
+    let first = loaded.plan.reach() as usize;
+    let last = loaded.plan.to();
+    Span {
+        first,
+        last,
+        first_day: sessions.day(first),
+        last_day: sessions.day(last),
+    }
+}

@@ -1,0 +1,4 @@
+-- The parts of a world as texts, and the cut's span.
+pub mod Texts
+pub mod Spans
+pub mod Kept
