@@ -1,10 +1,11 @@
 -- How a part of what a table reads is written.
-use Rattle.std.proofs.Common.{◌≡◌, ℕ, ◌<◌, ◌≤◌, ℤ, pos, ◌≤ℤ◌, List, length, get_or, slice_get, Some, Result, refl, sym, ap, ◌∙◌, arith}
+use Rattle.std.proofs.Common.{◌≡◌, ℕ, ◌<◌, ◌≤◌, ℤ, pos, ◌≤ℤ◌, List, length, get_or, slice_get, Some, Result, Vec, IfOk, subst₂, refl, sym, ap, ◌∙◌, arith}
+use Rattle.std.specs.declared.alloc.Global.{Global}
 use Rattle.std.specs.Int.RustNames.{unsigned_abs}
 use Rattle.std.specs.Int.Signed.{≤ℤ_refl}
 use Rattle.std.proofs.lemmas.Int.{ints}
 use Rattle.std.proofs.lemmas.Option.{get_or_from_slice_get}
-use Rattle.pl_cut.specs.Cuts.{Span}
+use Rattle.pl_cut.specs.Cuts.{Span, cut}
 use Rattle.pl_laws.proofs.Reaches.{below_least}
 use Rattle.pl_pipeline.specs.Lows.{least_reach}
 use Rattle.pl_planner.specs.Plans.{Planned, IsPlanOf}
@@ -24,8 +25,10 @@ use Rattle.pl_load.specs.Work.{work}
 use Rattle.pl_load.specs.Views.{ShelfView, KeeperView, Change}
 use Rattle.pl_load.specs.declared.loading.Loaded.{Loaded}
 use Rattle.pl_load.specs.Loads.{IsLoadOf, IsLoad, IsLoaded}
-use Rattle.pl_world.specs.Worlds.{owned_world}
-use Rattle.pl_cli.specs.Texts.{text_of, part_text, span_for}
+use Rattle.pl_world.specs.declared.owned.OwnedWorld.{OwnedWorld}
+use Rattle.pl_world.specs.declared.world.World as lent
+use Rattle.pl_world.specs.Worlds.{owned_world, world_of}
+use Rattle.pl_cli.specs.Texts.{text_of, part_text, text_of_part, span_for}
 use Rattle.pl_cli.specs.Commands.{loaded_part}
 
 -- it asks for the files and tables of its run
@@ -85,3 +88,13 @@ module _ (days : List ℤ) (p : Pipeline) (plan : Planned) (h : IsPlanOf days p 
       one-span first last x y _ plan.to _ _ same l
       (sym (get_or_from_slice_get days first x (pos 0) at_first) ∙ ap (λ k. get_or days k (pos 0)) same)
       (sym (get_or_from_slice_get days last y (pos 0) at_last) ∙ ap (λ k. get_or days k (pos 0)) l)
+
+-- ---- the world of what was loaded, lent
+
+pub same-world : (v : lent.World) (o : OwnedWorld) → v.sessions.now ≡ o.sessions → v.assets.now ≡ o.assets → v.labels.now ≡ o.labels → v.bars.now ≡ o.bars
+    → v.adjustments.now ≡ o.adjustments → v.numbers.now ≡ o.numbers → world_of v ≡ owned_world o
+same-world v o d a l b x n = rw (d, a, l, b, x, n) refl
+
+pub lent-part : {E : Type 0} (part : WorldPart) (v w : World) (s t : Span) (r : Result (Vec ℕ Global) E) → v ≡ w → s ≡ t
+    → IfOk r (λ x. x.items ≡ text_of_part part (cut v s)) → IfOk r (λ x. x.items ≡ text_of_part part (cut w t))
+lent-part {E} part v w s t r e f h = subst₂ (λ (x : World) (y : Span). IfOk r (λ z. z.items ≡ text_of_part part (cut x y))) e f h

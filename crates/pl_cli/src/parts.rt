@@ -7,7 +7,9 @@ ghost use Rattle.pl_words.specs.Views.{cut_of};
 ghost use Rattle.pl_load.specs.Loads.{IsReadyRun};
 ghost use Rattle.pl_load.specs.Views.{unchanged, shelf_change, keeper_change};
 ghost use Rattle.pl_parts.specs.Spans.{span_of};
-ghost use Rattle.pl_cli.specs.Texts.{span_for};
+ghost use Rattle.pl_cut.specs.Cuts.{cut};
+ghost use Rattle.pl_world.specs.Worlds.{world_of, IsMade};
+ghost use Rattle.pl_cli.specs.Texts.{span_for, text_of_part};
 ghost use Rattle.pl_cli.specs.Commands.{IsAnswered, sink_change, loaded_part};
 
 use crate::commands::{Stats, write_text};
@@ -20,6 +22,7 @@ use pl_parts::{
 };
 use pl_spec::AdjustmentKind;
 use pl_words::{CutRequest, WorldPart};
+use pl_world::World;
 use std::alloc::Global;
 
 /// Reads and judges what the request names, as a run does, and writes the part that is asked for of what its
@@ -39,27 +42,34 @@ pub fn cut_command<S: Shelf, K: AdjustKeeper, O: Sink>(
         (Some (Cut (cut_of request.now))) result }
 {
     let loaded = load(alloc, &request.table, shelf, keeper)?;
-    let text = text_of(alloc, &loaded, request.part)?;
+    let text = loaded_text(alloc, &loaded, request.part)?;
     write_text(out, &text)
 }
 
 // The text of a part of what the rows of what was loaded read.
-fn text_of(alloc: Global, loaded: &Loaded, part: WorldPart) -> Result<Vec<u8>, Memory>
+fn loaded_text(alloc: Global, loaded: &Loaded, part: WorldPart) -> Result<Vec<u8>, Memory>
     requires ready { IsReadyRun loaded.now }
     ensures { IfOk result (λ v. v.items ≡ loaded_part loaded.now part) }
 {
     let world = loaded.world.world();
     let span = span_of(loaded);
+    text_of(alloc, &world, span, part)
+}
+
+fn text_of(alloc: Global, world: &World<'_>, span: Span, part: WorldPart) -> Result<Vec<u8>, Memory>
+    requires made { IsMade world.now }
+    ensures { IfOk result (λ v. v.items ≡ text_of_part part (cut (world_of world.now) (span_of span))) }
+{
     match part {
-        WorldPart::Sessions => sessions_text(alloc, &world, span),
-        WorldPart::Assets => assets_text(alloc, &world, span),
-        WorldPart::Bars => bars_text(alloc, &world, span),
-        WorldPart::Labels => labels_text(alloc, &world, span),
-        WorldPart::Numbers => numbers_text(alloc, &world, span),
-        WorldPart::Splits => ratios_text(alloc, &world, span, AdjustmentKind::Split),
-        WorldPart::Mergers => ratios_text(alloc, &world, span, AdjustmentKind::Merger),
-        WorldPart::Dividends => ratios_text(alloc, &world, span, AdjustmentKind::Dividend),
-        WorldPart::Revisions => revisions_text(alloc, &world, span),
+        WorldPart::Sessions => sessions_text(alloc, world, span),
+        WorldPart::Assets => assets_text(alloc, world, span),
+        WorldPart::Bars => bars_text(alloc, world, span),
+        WorldPart::Labels => labels_text(alloc, world, span),
+        WorldPart::Numbers => numbers_text(alloc, world, span),
+        WorldPart::Splits => ratios_text(alloc, world, span, AdjustmentKind::Split),
+        WorldPart::Mergers => ratios_text(alloc, world, span, AdjustmentKind::Merger),
+        WorldPart::Dividends => ratios_text(alloc, world, span, AdjustmentKind::Dividend),
+        WorldPart::Revisions => revisions_text(alloc, world, span),
     }
 }
 

@@ -34,29 +34,38 @@ none-passes p (y ∷ ys) e x h t = here (p y) refl e (none-passes p ys)
 
 -- some row of a list that has one was known as late as all others
 latest : (r : NumberRow) (rs : List NumberRow) → (m : NumberRow) × Contains (r ∷ rs) m × ((q : NumberRow) → Contains (r ∷ rs) q → q.known ≤ℤ m.known)
-latest r [] = (r, contains-front r [], λ q h. elim (first_or_behind r [] q h) [
-  | inl same ↦ (let e : q.known ≡ r.known = ap (λ (x : NumberRow). x.known) (sym same) in omega (arith, ints, e))
-  | inr later ↦ absurd (none_in_empty q later)
-])
+latest r [] = (
+  r,
+  contains-front r [],
+  λ q h. elim (first_or_behind r [] q h) [
+    | inl same ↦ (let e : q.known ≡ r.known = ap (λ (x : NumberRow). x.known) (sym same) in omega (arith, ints, e))
+    | inr later ↦ absurd (none_in_empty q later)
+  ],
+)
 latest r (s ∷ rs) = here (latest s rs)
   where
-    Latest : NumberRow → List NumberRow → Type 0
-    Latest a as = (m : NumberRow) × Contains (a ∷ as) m × ((q : NumberRow) → Contains (a ∷ as) q → q.known ≤ℤ m.known)
-
     here : (m : NumberRow) × Contains (s ∷ rs) m × ((q : NumberRow) → Contains (s ∷ rs) q → q.known ≤ℤ m.known)
         → (m : NumberRow) × Contains (r ∷ s ∷ rs) m × ((q : NumberRow) → Contains (r ∷ s ∷ rs) q → q.known ≤ℤ m.known)
     here it = case (int_le r.known it.0.known) refl
       where
         case : (b : Bool) → int_le r.known it.0.known ≡ b
             → (m : NumberRow) × Contains (r ∷ s ∷ rs) m × ((q : NumberRow) → Contains (r ∷ s ∷ rs) q → q.known ≤ℤ m.known)
-        case true f = (it.0, contains-behind r (s ∷ rs) it.0 it.1, λ q h. elim (first_or_behind r (s ∷ rs) q h) [
-          | inl same ↦ (let e : q.known ≡ r.known = ap (λ (x : NumberRow). x.known) (sym same) in let le = int_le-true r.known it.0.known f in omega (arith, ints, e, le))
-          | inr later ↦ it.2 q later
-        ])
-        case false f = (r, contains-front r (s ∷ rs), λ q h. elim (first_or_behind r (s ∷ rs) q h) [
-          | inl same ↦ (let e : q.known ≡ r.known = ap (λ (x : NumberRow). x.known) (sym same) in omega (arith, ints, e))
-          | inr later ↦ (let lt = int_le-false r.known it.0.known f in let le : q.known ≤ℤ it.0.known = it.2 q later in omega (arith, ints, lt, le))
-        ])
+        case true f = (
+          it.0,
+          contains-behind r (s ∷ rs) it.0 it.1,
+          λ q h. elim (first_or_behind r (s ∷ rs) q h) [
+            | inl same ↦ (let e : q.known ≡ r.known = ap (λ (x : NumberRow). x.known) (sym same) in let le = int_le-true r.known it.0.known f in omega (arith, ints, e, le))
+            | inr later ↦ it.2 q later
+          ],
+        )
+        case false f = (
+          r,
+          contains-front r (s ∷ rs),
+          λ q h. elim (first_or_behind r (s ∷ rs) q h) [
+            | inl same ↦ (let e : q.known ≡ r.known = ap (λ (x : NumberRow). x.known) (sym same) in omega (arith, ints, e))
+            | inr later ↦ (let lt = int_le-false r.known it.0.known f in let le : q.known ≤ℤ it.0.known = it.2 q later in omega (arith, ints, lt, le))
+          ],
+        )
 
 -- a day is at most the other, where there is one
 abbrev pub is_by : ℤ → Option ℤ → Bool

@@ -100,3 +100,6 @@ pub rows-at : (kind : AdjustmentKind) (w : World) (span : Span) (a : ℕ) → is
 rows-at kind w span a of =
     ap (λ l. map (of_sid a) (filter (λ e. is_kind kind e.kind) l)) (events-kept w span a of)
     ∙ ap (map (of_sid a)) (filter-twice (λ e. is_kind kind e.kind) (is_event_in span) (events_of w a))
+
+pub newest-is : (a b : Bool) → Some a ≡ Some b → a ≡ b
+newest-is a b e = cc

@@ -1,10 +1,13 @@
 -- Rows that are gone over one by one, and lists of those that are kept.
-use Rattle.std.proofs.Common.{◌≡◌, ℕ, zero, suc, ◌+◌, Bool, true, false, ◌&&◌, cond, List, [], ◌∷◌, ◌++◌, length, map, filter, take, flat_map, Option, Some, refl, sym, ap, ◌∙◌, arith}
-use Rattle.std.specs.List.{slice_get}
-use Rattle.std.proofs.lemmas.List.{append_assoc, append-nil}
+use Rattle.std.proofs.Common.{◌≡◌, ℕ, zero, suc, ◌+◌, ◌≤◌, Bool, true, false, ◌&&◌, cond, List, [], ◌∷◌, ◌++◌, length, map, filter, take, Option, Some, All, option_map, refl, sym, ap, ◌∙◌, arith}
+use Rattle.std.specs.Prelude.{flat_map, slice_get}
+use Rattle.std.proofs.lemmas.List.{append_assoc, append-nil, length-map, take_all}
+use Rattle.std.proofs.lemmas.Option.{slice_get-map, slice_get_within, get_or_from_slice_get}
 use Rattle.pl_spec.specs.World.{Adjustment}
-use Rattle.pl_parts.specs.Kept.{if_kept, text_at}
-use Rattle.pl_parts.specs.Texts.{lines_from, ratio_line}
+use Rattle.pl_adjust.specs.Events.{PutsCell, event_of}
+use Rattle.pl_parts.specs.declared.gathering.Row.{Row}
+use Rattle.pl_parts.specs.Kept.{if_kept, shown, text_at}
+use Rattle.pl_parts.specs.Texts.{lines_from, of_sid, ratio_line}
 
 -- with one more row
 rows-more : {A B : Type 0} (f : A → List B) (xs : List A) (i : ℕ) → flat_map f (take (suc i) xs) ≡ flat_map f (take i xs) ++ text_at f xs i
@@ -74,3 +77,44 @@ lines-more xs i x head old new e so_far is =
     is ∙ ap (λ l. l ++ ratio_line (i + 1) x) so_far ∙ append_assoc head (lines_from 1 (take i xs)) (ratio_line (i + 1) x)
     ∙ ap (λ k. head ++ (lines_from 1 (take i xs) ++ ratio_line k x)) turned
     ∙ ap (λ l. head ++ l) (sym (lines-next 1 xs i x e)) ∙ ap (λ n. head ++ lines_from 1 (take n xs)) (sym next)
+
+-- ---- from the first row to the last
+
+-- before the first row
+pub begun : {A B : Type 0} (f : A → List B) (xs : List A) (head old new : List B) → old ≡ [] → new ≡ old ++ head → new ≡ head ++ flat_map f (take 0 xs)
+begun f xs head old new none is = is ∙ ap (λ l. l ++ head) none ∙ sym (append-nil head)
+
+-- after the last one
+pub all-end : {A B : Type 0} (f : A → List B) (xs : List A) (i : ℕ) (head out : List B) → length xs ≤ i → out ≡ head ++ flat_map f (take i xs) → out ≡ head ++ flat_map f xs
+all-end f xs i head out end is = is ∙ ap (λ l. head ++ flat_map f l) (take_all i xs end)
+
+pub kept-end : {B C : Type 0} (keep : B → Bool) (f : B → List C) (xs : List B) (i : ℕ) (head out : List C) → length xs ≤ i
+    → out ≡ head ++ flat_map (if_kept keep f) (take i xs) → out ≡ head ++ flat_map f (filter keep xs)
+kept-end keep f xs i head out end is = all-end (if_kept keep f) xs i head out end is ∙ ap (λ l. head ++ l) (kept keep f xs)
+
+pub mapped-end : {A B C : Type 0} (keep : B → Bool) (f : B → List C) (g : A → B) (xs : List A) (i : ℕ) (head out : List C) → length xs ≤ i
+    → out ≡ head ++ flat_map (λ x. if_kept keep f (g x)) (take i xs) → out ≡ head ++ flat_map f (filter keep (map g xs))
+mapped-end keep f g xs i head out end is = all-end (λ x. if_kept keep f (g x)) xs i head out end is ∙ ap (λ l. head ++ l) (kept-mapped keep f g xs)
+
+-- ---- what a row adds
+
+pub nothing-more : {B : Type 0} (old t : List B) → [] ≡ t → old ≡ old ++ t
+nothing-more old t e = sym (append-nil old) ∙ ap (λ l. old ++ l) e
+
+pub row-more : {B : Type 0} (old new x t : List B) → new ≡ old ++ x → x ≡ t → new ≡ old ++ t
+row-more old new x t is e = is ∙ ap (λ l. old ++ l) e
+
+-- ---- gathered rows
+
+pub shown-at : (rows : List Row) (i : ℕ) (r : Row) → slice_get rows i ≡ Some r → slice_get (shown rows) i ≡ Some (of_sid r.sid (event_of r.adjust))
+shown-at rows i r at = slice_get-map (λ (x : Row). of_sid x.sid (event_of x.adjust)) rows i ∙ ap (option_map (λ (x : Row). of_sid x.sid (event_of x.adjust))) at
+
+pub shown-long : (rows : List Row) (i : ℕ) → length rows ≤ i → length (shown rows) ≤ i
+shown-long rows i h = let same : length (shown rows) ≡ length rows = length-map rows (λ (x : Row). of_sid x.sid (event_of x.adjust)) in omega (arith, same, h)
+
+pub shown-puts : (rows : List Row) (i : ℕ) (r : Row) → slice_get rows i ≡ Some r → All (λ x. PutsCell x.event) (shown rows) → PutsCell (event_of r.adjust)
+shown-puts rows i r at all =
+    let x = of_sid r.sid (event_of r.adjust) in
+    let there = shown-at rows i r at in
+    let it = all i x (slice_get_within (shown rows) i x there) in
+    rw (get_or_from_slice_get (shown rows) i x x there) at it

@@ -37,10 +37,10 @@ fn put_kept_asset(
         ++ text_at (if_kept (lives_in (span_of span)) asset_line) assets.now col) }
 {
     let asset = assets.row(col);
-    if lives_in(span, asset) {
-        put_asset(out, asset)?;
+    if !lives_in(span, asset) {
+        return Ok(());
     }
-    Ok(())
+    put_asset(out, asset)
 }
 
 fn put_asset(out: &mut Vec<u8>, asset: AssetRow) -> Result<(), AllocError>

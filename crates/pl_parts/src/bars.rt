@@ -44,10 +44,10 @@ fn put_kept_bar(
         (bar_line world.now.sessions.now) (bar_of world.now.assets.now b)) world.now.bars.now i) }
 {
     let bar = world.bars.row(i);
-    if keeps_bar(world, span, bar) {
-        put_bar(out, world, bar)?;
+    if !keeps_bar(world, span, bar) {
+        return Ok(());
     }
-    Ok(())
+    put_bar(out, world, bar)
 }
 
 fn keeps_bar(world: &World<'_>, span: Span, bar: BarRow) -> bool

@@ -55,12 +55,12 @@ fn add_asset(
         → OnOk result (All (λ x. PutsCell x.event) (shown rows.new.items)) }
 {
     // their sids ascend
-    let _count = world.assets.len();
+    world.assets.len();
     let asset = world.assets.row(col);
-    if lives_in(span, asset) {
-        add_rows(rows, world.adjustments.of_col(col), span, kind, asset.sid)?;
+    if !lives_in(span, asset) {
+        return Ok(());
     }
-    Ok(())
+    add_rows(rows, world.adjustments.of_col(col), span, kind, asset.sid)
 }
 
 fn add_rows(
@@ -89,9 +89,10 @@ fn add_kept(
     ensures { OnOk result (shown rows.new.items ≡ shown rows.old.items
         ++ if_kept (keeps_event kind (span_of span)) (λ e. of_sid sid e ∷ []) (event_of adjust)) }
 {
-    if keeps(kind, span, &adjust) {
-        rows.push(Row { sid, adjust })?;
+    if !keeps(kind, span, &adjust) {
+        return Ok(());
     }
+    rows.push(Row { sid, adjust })?;
     Ok(())
 }
 

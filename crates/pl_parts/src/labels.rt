@@ -43,10 +43,10 @@ fn put_kept_label(
         (label_of world.now.assets.now r)) world.now.labels.now.rows i) }
 {
     let row = world.labels.row(i);
-    if keeps_label(world, span, i, &row) {
-        put_label(out, world, &row)?;
+    if !keeps_label(world, span, i, &row) {
+        return Ok(());
     }
-    Ok(())
+    put_label(out, world, &row)
 }
 
 fn put_label(out: &mut Vec<u8>, world: &World<'_>, row: &LabelAt<'_>) -> Result<(), AllocError>
@@ -91,6 +91,6 @@ fn is_newest_label(world: &World<'_>, i: usize, row: &LabelAt<'_>, day: i32) -> 
         (label_of world.now.assets.now (shown_at row.now)) }
 {
     // their sids ascend
-    let _count = world.assets.len();
+    world.assets.len();
     world.labels.is_newest(i, day)
 }

@@ -43,10 +43,10 @@ fn put_kept_number(
         (number_of world.now.assets.now r)) world.now.numbers.now.rows i) }
 {
     let row = world.numbers.row(i);
-    if keeps_number(world, span, i, &row) {
-        put_number(out, world, &row)?;
+    if !keeps_number(world, span, i, &row) {
+        return Ok(());
     }
-    Ok(())
+    put_number(out, world, &row)
 }
 
 fn put_number(out: &mut Vec<u8>, world: &World<'_>, row: &NumberAt<'_>) -> Result<(), AllocError>
@@ -91,6 +91,6 @@ fn is_newest_number(world: &World<'_>, i: usize, row: &NumberAt<'_>, day: i32) -
         (number_of world.now.assets.now (shown_at row.now)) }
 {
     // their sids ascend
-    let _count = world.assets.len();
+    world.assets.len();
     world.numbers.is_newest(i, day)
 }

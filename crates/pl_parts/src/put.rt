@@ -80,6 +80,7 @@ fn has_date(day: i32) -> bool
 
 // 1900-01-01 and 2199-12-31.
 const FIRST_DAY: i32 = -25_567;
+
 const LAST_DAY: i32 = 84_005;
 
 fn put_date(out: &mut Vec<u8>, day: i32) -> Result<(), AllocError>

@@ -38,6 +38,6 @@ pub(crate) fn is_of(world: &World<'_>, span: Span, col: usize) -> bool
     ensures { result ≡ is_of (world_of world.now) (span_of span) (sid_at world.now.assets.now col) }
 {
     // their sids ascend
-    let _count = world.assets.len();
+    world.assets.len();
     lives_in(span, world.assets.row(col))
 }

@@ -103,21 +103,21 @@ fn put_revised(out: &mut Vec<u8>, adjust: &Adjust) -> Result<(), AllocError>
             value,
         } => {
             put_further_day(out, bar_day)?;
-            put_further(out, name_of(column))?;
+            put_further(out, name_of(column).as_bytes())?;
             put_further_cell(out, value)
         }
         Change::Scale(_) => put(out, b",,,"),
     }
 }
 
-fn name_of(column: Column) -> &'static [u8]
+fn name_of(column: Column) -> &'static str
     ensures { result.now ≡ column_name column }
 {
     match column {
-        Column::OpenPrice => b"open",
-        Column::High => b"high",
-        Column::Low => b"low",
-        Column::Close => b"close",
-        Column::Volume => b"volume",
+        Column::OpenPrice => "open",
+        Column::High => "high",
+        Column::Low => "low",
+        Column::Close => "close",
+        Column::Volume => "volume",
     }
 }

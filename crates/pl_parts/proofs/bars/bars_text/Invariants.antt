@@ -1,4 +1,5 @@
-use Rattle.std.proofs.Common.{◌≡◌, ◌++◌, take, flat_map}
+use Rattle.std.proofs.Common.{◌≡◌, ◌++◌, take}
+use Rattle.std.specs.Prelude.{flat_map}
 use Rattle.pl_spec.specs.Parts.{bar_of}
 use Rattle.pl_world.specs.Worlds.{world_of}
 use Rattle.pl_parts.specs.Spans.{span_of}

@@ -1,4 +1,5 @@
-use Rattle.std.proofs.Common.{◌≡◌, ◌++◌, take, flat_map}
+use Rattle.std.proofs.Common.{◌≡◌, ◌++◌, take}
+use Rattle.std.specs.Prelude.{flat_map}
 use Rattle.pl_parts.specs.Texts.{session_line}
 use Rattle.pl_parts.proofs.sessions.sessions_text.Given as goal
 
