@@ -1,5 +1,5 @@
 -- Rows that are gone over one by one, and lists of those that are kept.
-use Rattle.std.proofs.Common.{◌≡◌, ℕ, zero, suc, ◌+◌, ◌≤◌, Bool, true, false, ◌&&◌, cond, List, [], ◌∷◌, ◌++◌, length, map, filter, take, Option, Some, All, option_map, refl, sym, ap, ◌∙◌, arith}
+use Rattle.std.proofs.Common.{◌≡◌, ℕ, zero, suc, ◌+◌, ◌≤◌, Bool, true, false, ◌&&◌, cond, List, [], ◌∷◌, ◌++◌, length, map, filter, take, Option, Some, All, option_map, Result, Ok, Err, OnOk, refl, sym, ap, ◌∙◌, arith}
 use Rattle.std.specs.Prelude.{flat_map, slice_get}
 use Rattle.std.proofs.lemmas.List.{append_assoc, append-nil, length-map, take_all}
 use Rattle.std.proofs.lemmas.Option.{slice_get-map, slice_get_within, get_or_from_slice_get}
@@ -103,6 +103,16 @@ nothing-more old t e = sym (append-nil old) ∙ ap (λ l. old ++ l) e
 
 pub row-more : {B : Type 0} (old new x t : List B) → new ≡ old ++ x → x ≡ t → new ≡ old ++ t
 row-more old new x t is e = is ∙ ap (λ l. old ++ l) e
+
+-- the same of a call that may fail
+pub on-ok-more : {B T E : Type 0} (r : Result T E) (old new x t : List B) → OnOk r (new ≡ old ++ x) → x ≡ t → OnOk r (new ≡ old ++ t)
+on-ok-more (Ok y) old new x t is e = row-more old new x t is e
+on-ok-more (Err y) old new x t is e = tt
+
+pub all-there : {A : Type 0} (P : A → Type 0) (xs : List A) (i : ℕ) (x : A) → All P xs → slice_get xs i ≡ Some x → P x
+all-there P xs i x all at =
+    let it = all i x (slice_get_within xs i x at) in
+    rw (get_or_from_slice_get xs i x x at) at it
 
 -- ---- gathered rows
 

@@ -1,3 +1,4 @@
 pub mod KeptRows
 pub mod ByColumn
 pub mod Cells
+pub mod Dates

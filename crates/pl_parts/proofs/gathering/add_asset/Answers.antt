@@ -7,16 +7,16 @@ use Rattle.pl_world.specs.Worlds.{world_of}
 use Rattle.pl_parts.specs.Spans.{span_of}
 use Rattle.pl_parts.specs.Kept.{keeps_event, rows_kept, shown}
 use Rattle.pl_parts.specs.Texts.{of_sid, rows_of}
-use Rattle.pl_parts.proofs.KeptRows.{nothing-more, row-more, at-kept, at-left}
+use Rattle.pl_parts.proofs.KeptRows.{nothing-more, on-ok-more, at-kept, at-left}
 use Rattle.pl_parts.proofs.ByColumn.{of-col, rows-at}
 use Rattle.pl_parts.proofs.Cells.{cells-more}
 use Rattle.pl_parts.proofs.gathering.add_asset.Goals as goal
 
-pub returns-then-lives_in-clause-rows : goal.returns-then-lives_in-clause-rows
-returns-then-lives_in-clause-rows c =
+pub returns-then-not-lives_in-clause-rows : goal.returns-then-not-lives_in-clause-rows
+returns-then-not-lives_in-clause-rows c =
     let w = world_of c.args.world.now in
     let span = span_of c.args.span in
-    nothing-more _ _ (at-left (lives_in span) (λ a. rows_of c.args.kind (cut w span) a.sid) (λ a. a) c.args.world.now.assets.now c.args.col c.row-asset.result c.row-asset.ensures (sym c.lives_in.ensures ∙ c.if-lives_in.false))
+    nothing-more _ _ (at-left (lives_in span) (λ a. rows_of c.args.kind (cut w span) a.sid) (λ a. a) c.args.world.now.assets.now c.args.col c.row-asset.result c.row-asset.ensures (sym c.lives_in.ensures ∙ c.if-not-lives_in.true))
 
 pub returns-clause-rows : goal.returns-clause-rows
 returns-clause-rows c =
@@ -25,10 +25,10 @@ returns-clause-rows c =
     let span = span_of c.args.span in
     let a = c.row-asset.result in
     let at = c.row-asset.ensures in
-    let lives : lives_in (span_of c.args.span) c.row-asset.result ≡ true = sym c.lives_in.ensures ∙ c.if-lives_in.true in
+    let lives : lives_in (span_of c.args.span) c.row-asset.result ≡ true = sym c.lives_in.ensures ∙ c.if-not-lives_in.false in
     let of : is_of (world_of c.args.world.now) (span_of c.args.span) c.row-asset.result.sid ≡ true = of-col w span c.len.ensures.assets.ascend c.args.col a at ∙ lives in
     let events = column_events v.sessions.now v.assets.now v.labels.now.rows v.labels.now.texts v.bars.now v.adjustments.now v.numbers.now.rows c.len.ensures.assets.ascend c.requires.made.adjustments_in c.args.col a at in
-    row-more _ _ _ _ c.add_rows.ensures
+    on-ok-more c.add_rows.result _ _ _ _ c.add_rows.ensures
     (ap (λ es. map (of_sid a.sid) (filter (keeps_event c.args.kind span) es)) (c.of_col.ensures.events ∙ sym events)
     ∙ sym (rows-at c.args.kind w span a.sid of)
     ∙ at-kept (lives_in span) (λ x. rows_of c.args.kind (cut w span) x.sid) (λ x. x) v.assets.now c.args.col a at lives)
