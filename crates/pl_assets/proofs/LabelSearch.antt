@@ -149,7 +149,7 @@ module _ (t : LabelRows) (numbered : AreNumbered t) (number col : ℕ) (day : �
 
   pub newest_by : (k : ℤ) (o : Option Place) → IsLastStarted t.places.items number col day o
       → list_all (λ q. int_le q.start k) (filter (is_label_of (get_or t.names number []) col day) (map by_column (shown_rows t))) ≡ starts_by k o
-  unfolding rows name us
+  unfolding rows name row us
   newest_by k None h =
       contains-all (λ q. int_le q.start k) us (λ q in_us. let it = of_us q in_us in absurd (h it.0 it.1 it.2))
     where

@@ -13,7 +13,10 @@ use Rattle.pl_numbers.specs.NumberRowsShown.{is_newest_in}
 use Rattle.pl_numbers.specs.declared.rows.NumberRows.{NumberRows}
 use Rattle.pl_numbers.specs.declared.rows.Place.{Place}
 use Rattle.pl_spec.proofs.Signed.{int_le-true, int_le-false, le-int_le}
-use Rattle.pl_spec.proofs.Finds.{contains-front, contains-behind, first_or_behind, none_in_empty, all-contains, contains-all}
+use Rattle.pl_spec.proofs.Finds.{contains-front, contains-behind, first_or_behind, all-contains, contains-all}
+
+none_in_empty : {X : Type 0} (x : X) → Contains [] x → ⊥
+none_in_empty x h = absurd (omega (arith, h.1))
 
 -- what is found passes, and where nothing is found nothing does
 found-passes : {X : Type 0} (p : X → Bool) (xs : List X) (x : X) → find p xs ≡ Some x → Contains xs x × (p x ≡ true)
@@ -26,9 +29,9 @@ found-passes p (y ∷ ys) x e = here (p y) refl e (found-passes p ys x)
 
 none-passes : {X : Type 0} (p : X → Bool) (xs : List X) → find p xs ≡ None → (x : X) → Contains xs x → p x ≡ true → ⊥
 none-passes p [] e x h t = none_in_empty x h
-none-passes p (y ∷ ys) e x h t = here (p y) refl e (none-passes p ys)
+none-passes {X} p (y ∷ ys) e x h t = here (p y) refl e (none-passes p ys)
   where
-    here : (b : Bool) → p y ≡ b → cond b (Some y) (find p ys) ≡ None → (find p ys ≡ None → (z : _) → Contains ys z → p z ≡ true → ⊥) → ⊥
+    here : (b : Bool) → p y ≡ b → cond b (Some y) (find p ys) ≡ None → (find p ys ≡ None → (z : X) → Contains ys z → p z ≡ true → ⊥) → ⊥
     here true f g rest = let bad : Some y ≡ None = g in cc
     here false f g rest = elim (first_or_behind y ys x h) [ inl same ↦ true≢false (sym t ∙ ap p (sym same) ∙ f) | inr later ↦ rest g x later t ]
 

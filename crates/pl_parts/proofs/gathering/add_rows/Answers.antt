@@ -1,6 +1,7 @@
 use Rattle.std.proofs.Common.{◌≡◌, ◌≤◌, ◌++◌, ◌∷◌, [], ◌∙◌, Some, length, map, filter, slice_get, rules, sym, ap, arith}
 use Rattle.std.proofs.lemmas.List.{append-nil}
 use Rattle.std.proofs.lemmas.List.Concat.{flat_map_single}
+use Rattle.std.proofs.lemmas.Option.{slice_get-get_or}
 use Rattle.pl_adjust.specs.Events.{event_of}
 use Rattle.pl_parts.specs.Spans.{span_of}
 use Rattle.pl_parts.specs.Kept.{if_kept, keeps_event, shown}
@@ -16,7 +17,7 @@ loop-i-preserved c =
     let xs = c.args.adjusts.now in
     let f = (λ a. if_kept (keeps_event c.args.kind (span_of c.args.span)) (λ e. of_sid c.args.sid e ∷ []) (event_of a)) in
     let x = c.index.result.now in
-    let at : slice_get c.args.adjusts.now c.loop-i.i ≡ Some c.index.result.now = search rules in
+    let at : slice_get c.args.adjusts.now c.loop-i.i ≡ Some c.index.result.now = slice_get-get_or c.args.adjusts.now c.loop-i.i c.index.result.now (omega arith) ∙ ap (λ x. Some x) (sym c.index.ensures) in
     more (λ a. if_kept (keeps_event c.args.kind (span_of c.args.span)) (λ e. of_sid c.args.sid e ∷ []) (event_of a)) xs c.loop-i.i _ _ _ c.loop-i.invariant
     (row-more _ _ _ _ c.in_ok-add_kept.ensures (at-place (λ a. if_kept (keeps_event c.args.kind (span_of c.args.span)) (λ e. of_sid c.args.sid e ∷ []) (event_of a)) xs c.loop-i.i x at))
 

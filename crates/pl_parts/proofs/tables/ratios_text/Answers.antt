@@ -1,6 +1,6 @@
 use Rattle.std.proofs.Common.{◌≡◌, ◌≤◌, ◌++◌, ◌∙◌, Some, length, slice_get, rules, sym, ap, arith}
 use Rattle.std.proofs.lemmas.List.{append-nil, length-map, take_all}
-use Rattle.std.proofs.lemmas.Option.{slice_get-map}
+use Rattle.std.proofs.lemmas.Option.{slice_get-get_or}
 use Rattle.pl_adjust.specs.Events.{event_of}
 use Rattle.pl_parts.specs.Kept.{shown}
 use Rattle.pl_parts.specs.Texts.{lines_from, of_sid, ratios_header, ratios_text}
@@ -13,7 +13,7 @@ loop-i-init c = c.in_ok-put.ensures ∙ ap (λ l. l ++ ratios_header) c.new.ensu
 pub loop-i-preserved : goal.loop-i-preserved
 loop-i-preserved c =
     let row = c.index.result.now in
-    let at : slice_get c.in_ok-rows.rows.items c.loop-i.i ≡ Some c.index.result.now = search rules in
+    let at : slice_get c.in_ok-rows.rows.items c.loop-i.i ≡ Some c.index.result.now = slice_get-get_or c.in_ok-rows.rows.items c.loop-i.i c.index.result.now (omega arith) ∙ ap (λ x. Some x) (sym c.index.ensures) in
     lines-more (shown c.in_ok-rows.rows.items) c.loop-i.i (of_sid row.sid (event_of row.adjust)) ratios_header _ _ (shown-at c.in_ok-rows.rows.items c.loop-i.i row at) c.loop-i.invariant c.in_ok-put_ratio.ensures
 
 pub returns : goal.returns

@@ -1,6 +1,7 @@
-use Rattle.std.proofs.Common.{◌≡◌, ◌∙◌, Some, None, slice_get, rules, w32, FitsSigned, sym, ap₂}
+use Rattle.std.proofs.Common.{◌≡◌, ◌∙◌, Some, None, slice_get, rules, w32, FitsSigned, sym, ap, ap₂}
 use Rattle.std.specs.Int.RustNames.{int_le}
 use Rattle.std.proofs.lemmas.Int.{to_z-of_z}
+use Rattle.std.proofs.lemmas.Option.{slice_get-get_or}
 use Rattle.pl_assets.specs.LabelPlaces.{IsLastStarted}
 use Rattle.pl_assets.proofs.LabelSearch.{newest-at}
 use Rattle.pl_assets.proofs.labels.order.is_newest.Goals as goal
@@ -8,7 +9,7 @@ use Rattle.pl_assets.proofs.labels.order.is_newest.Goals as goal
 pub returns-in-Some : goal.returns-in-Some
 returns-in-Some c =
     let p = c.index-place.result.now in
-    let at : slice_get c.args.rows.now.places.items c.args.i ≡ Some c.index-place.result.now = search rules in
+    let at : slice_get c.args.rows.now.places.items c.args.i ≡ Some c.index-place.result.now = slice_get-get_or c.args.rows.now.places.items c.args.i c.index-place.result.now c.requires.within ∙ ap (λ x. Some x) (sym c.index-place.ensures) in
     let last : IsLastStarted c.args.rows.now.places.items p.name p.col c.args.day (Some c.in-Some.last) = rw (to_z-of_z w32 c.args.day c.ranges.day, c.in-Some.is) at c.last_started.ensures in
     let first : FitsSigned w32 c.in-Some.last.start = search rules in
     let second : FitsSigned w32 c.index-place.result.now.start = search rules in
@@ -18,6 +19,6 @@ returns-in-Some c =
 pub returns-in-None : goal.returns-in-None
 returns-in-None c =
     let p = c.index-place.result.now in
-    let at : slice_get c.args.rows.now.places.items c.args.i ≡ Some c.index-place.result.now = search rules in
+    let at : slice_get c.args.rows.now.places.items c.args.i ≡ Some c.index-place.result.now = slice_get-get_or c.args.rows.now.places.items c.args.i c.index-place.result.now c.requires.within ∙ ap (λ x. Some x) (sym c.index-place.ensures) in
     let last : IsLastStarted c.args.rows.now.places.items p.name p.col c.args.day None = rw (to_z-of_z w32 c.args.day c.ranges.day, c.in-None.is) at c.last_started.ensures in
     newest-at c.args.rows.now c.requires.numbered c.args.i p c.args.day at None last
