@@ -25,9 +25,7 @@ use Rattle.pl_load.specs.Work.{work}
 use Rattle.pl_load.specs.Views.{ShelfView, KeeperView, Change}
 use Rattle.pl_load.specs.declared.loading.Loaded.{Loaded}
 use Rattle.pl_load.specs.Loads.{IsLoadOf, IsLoad, IsLoaded}
-use Rattle.pl_world.specs.declared.owned.OwnedWorld.{OwnedWorld}
-use Rattle.pl_world.specs.declared.world.World as lent
-use Rattle.pl_world.specs.Worlds.{owned_world, world_of}
+use Rattle.pl_world.specs.Worlds.{owned_world}
 use Rattle.pl_cli.specs.Texts.{text_of, part_text, text_of_part, span_for}
 use Rattle.pl_cli.specs.Commands.{loaded_part}
 
@@ -90,10 +88,6 @@ module _ (days : List ℤ) (p : Pipeline) (plan : Planned) (h : IsPlanOf days p 
       (sym (get_or_from_slice_get days last y (pos 0) at_last) ∙ ap (λ k. get_or days k (pos 0)) l)
 
 -- ---- the world of what was loaded, lent
-
-pub same-world : (v : lent.World) (o : OwnedWorld) → v.sessions.now ≡ o.sessions → v.assets.now ≡ o.assets → v.labels.now ≡ o.labels → v.bars.now ≡ o.bars
-    → v.adjustments.now ≡ o.adjustments → v.numbers.now ≡ o.numbers → world_of v ≡ owned_world o
-same-world v o d a l b x n = rw (d, a, l, b, x, n) refl
 
 pub lent-part : {E : Type 0} (part : WorldPart) (v w : World) (s t : Span) (r : Result (Vec ℕ Global) E) → v ≡ w → s ≡ t
     → IfOk r (λ x. x.items ≡ text_of_part part (cut v s)) → IfOk r (λ x. x.items ≡ text_of_part part (cut w t))

@@ -8,7 +8,8 @@ ghost use Rattle.pl_load.specs.Loads.{IsReadyRun};
 ghost use Rattle.pl_load.specs.Views.{unchanged, shelf_change, keeper_change};
 ghost use Rattle.pl_parts.specs.Spans.{span_of};
 ghost use Rattle.pl_cut.specs.Cuts.{cut};
-ghost use Rattle.pl_world.specs.Worlds.{world_of, IsMade};
+ghost use Rattle.pl_world.specs.Worlds.{owned_world};
+ghost use Rattle.pl_parts.specs.Parts.{world_of, IsMade};
 ghost use Rattle.pl_cli.specs.Texts.{span_for, text_of_part};
 ghost use Rattle.pl_cli.specs.Commands.{IsAnswered, sink_change, loaded_part};
 
@@ -17,12 +18,12 @@ use pl_fixed::Memory;
 use pl_load::{Fault, Loaded, load};
 use pl_outside::{AdjustKeeper, Shelf, Sink};
 use pl_parts::{
-    Span, assets_text, bars_text, labels_text, numbers_text, ratios_text, revisions_text,
+    Parts, Span, assets_text, bars_text, labels_text, numbers_text, ratios_text, revisions_text,
     sessions_text,
 };
 use pl_spec::AdjustmentKind;
 use pl_words::{CutRequest, WorldPart};
-use pl_world::World;
+use pl_world::laws::parts_make_a_world;
 use std::alloc::Global;
 
 /// Reads and judges what the request names, as a run does, and writes the part that is asked for of what its
@@ -51,25 +52,44 @@ fn loaded_text(alloc: Global, loaded: &Loaded, part: WorldPart) -> Result<Vec<u8
     requires ready { IsReadyRun loaded.now }
     ensures { IfOk result (λ v. v.items ≡ loaded_part loaded.now part) }
 {
-    let world = loaded.world.world();
+    let parts = lent(loaded);
     let span = span_of(loaded);
-    text_of(alloc, &world, span, part)
+    text_of(alloc, &parts, span, part)
 }
 
-fn text_of(alloc: Global, world: &World<'_>, span: Span, part: WorldPart) -> Result<Vec<u8>, Memory>
-    requires made { IsMade world.now }
-    ensures { IfOk result (λ v. v.items ≡ text_of_part part (cut (world_of world.now) (span_of span))) }
+// The parts of the world of what was loaded.
+fn lent(loaded: &Loaded) -> Parts<'_>
+    requires ready { IsReadyRun loaded.now }
+    ensures made { IsMade result }
+    ensures world { world_of result ≡ owned_world loaded.now.world }
+{
+    let world = loaded.world.world();
+    // they stand in their orders
+    parts_make_a_world(&world);
+    Parts {
+        sessions: world.sessions,
+        assets: world.assets,
+        labels: world.labels,
+        bars: world.bars,
+        adjustments: world.adjustments,
+        numbers: world.numbers,
+    }
+}
+
+fn text_of(alloc: Global, parts: &Parts<'_>, span: Span, part: WorldPart) -> Result<Vec<u8>, Memory>
+    requires made { IsMade parts.now }
+    ensures { IfOk result (λ v. v.items ≡ text_of_part part (cut (world_of parts.now) (span_of span))) }
 {
     match part {
-        WorldPart::Sessions => sessions_text(alloc, world, span),
-        WorldPart::Assets => assets_text(alloc, world, span),
-        WorldPart::Bars => bars_text(alloc, world, span),
-        WorldPart::Labels => labels_text(alloc, world, span),
-        WorldPart::Numbers => numbers_text(alloc, world, span),
-        WorldPart::Splits => ratios_text(alloc, world, span, AdjustmentKind::Split),
-        WorldPart::Mergers => ratios_text(alloc, world, span, AdjustmentKind::Merger),
-        WorldPart::Dividends => ratios_text(alloc, world, span, AdjustmentKind::Dividend),
-        WorldPart::Revisions => revisions_text(alloc, world, span),
+        WorldPart::Sessions => sessions_text(alloc, parts, span),
+        WorldPart::Assets => assets_text(alloc, parts, span),
+        WorldPart::Bars => bars_text(alloc, parts, span),
+        WorldPart::Labels => labels_text(alloc, parts, span),
+        WorldPart::Numbers => numbers_text(alloc, parts, span),
+        WorldPart::Splits => ratios_text(alloc, parts, span, AdjustmentKind::Split),
+        WorldPart::Mergers => ratios_text(alloc, parts, span, AdjustmentKind::Merger),
+        WorldPart::Dividends => ratios_text(alloc, parts, span, AdjustmentKind::Dividend),
+        WorldPart::Revisions => revisions_text(alloc, parts, span),
     }
 }
 

@@ -1,21 +1,21 @@
 //! The assets.
 
 ghost use Rattle.std.specs.Prelude.{◌≡◌, ◌++◌, ◌<◌, length, OnOk, IfOk};
-ghost use Rattle.pl_world.specs.Worlds.{world_of};
+ghost use Rattle.pl_parts.specs.Parts.{world_of};
 ghost use Rattle.pl_cut.specs.Cuts.{cut, lives_in};
 ghost use Rattle.pl_parts.specs.Spans.{span_of};
 ghost use Rattle.pl_parts.specs.Kept.{if_kept, text_at};
 ghost use Rattle.pl_parts.specs.Texts.{asset_line, assets_text};
 
+use crate::parts::Parts;
 use crate::put::{put, put_end, put_further_day, put_number};
 use crate::span::{Span, lives_in};
 use pl_assets::{AssetRow, Assets};
 use pl_fixed::Memory;
-use pl_world::World;
 use std::alloc::{AllocError, Global};
 
 /// The assets of a cut, with the header `sid,start,end`. The only error is want of memory.
-pub fn assets_text(alloc: Global, world: &World<'_>, span: Span) -> Result<Vec<u8>, Memory>
+pub fn assets_text(alloc: Global, world: &Parts<'_>, span: Span) -> Result<Vec<u8>, Memory>
     ensures { IfOk result (λ v. v.items ≡ assets_text (cut (world_of world.now) (span_of span))) }
 {
     let mut out = Vec::new(alloc);

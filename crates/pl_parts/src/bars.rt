@@ -4,22 +4,22 @@ ghost use Rattle.std.specs.Prelude.{◌≡◌, ◌++◌, ◌<◌, List, All, len
 ghost use Rattle.pl_spec.specs.declared.AssetRow.{AssetRow};
 ghost use Rattle.pl_spec.specs.Parts.{bar_of};
 ghost use Rattle.pl_spec.specs.Rounding.{IsCell};
-ghost use Rattle.pl_world.specs.Worlds.{world_of, IsMade};
+ghost use Rattle.pl_parts.specs.Parts.{world_of, IsMade};
 ghost use Rattle.pl_cut.specs.Cuts.{cut, is_bar_in};
 ghost use Rattle.pl_parts.specs.Spans.{span_of};
 ghost use Rattle.pl_parts.specs.Kept.{if_kept, keeps_bar, text_at};
 ghost use Rattle.pl_parts.specs.Texts.{bar_line, bars_text, prices_text};
 
+use crate::parts::Parts;
 use crate::put::{put, put_end, put_further_cell, put_further_day, put_number};
 use crate::span::{Span, is_of, sid_of};
 use pl_bars::BarRow;
 use pl_fixed::Memory;
-use pl_world::World;
 use std::alloc::{AllocError, Global};
 
 /// The bars of a cut, with the header `sid,session,open,high,low,close,volume`. The only error is want of
 /// memory.
-pub fn bars_text(alloc: Global, world: &World<'_>, span: Span) -> Result<Vec<u8>, Memory>
+pub fn bars_text(alloc: Global, world: &Parts<'_>, span: Span) -> Result<Vec<u8>, Memory>
     requires made { IsMade world.now }
     ensures { IfOk result (λ v. v.items ≡ bars_text (cut (world_of world.now) (span_of span))) }
 {
@@ -33,7 +33,7 @@ pub fn bars_text(alloc: Global, world: &World<'_>, span: Span) -> Result<Vec<u8>
 
 fn put_kept_bar(
     out: &mut Vec<u8>,
-    world: &World<'_>,
+    world: &Parts<'_>,
     span: Span,
     i: usize,
 ) -> Result<(), AllocError>
@@ -50,8 +50,9 @@ fn put_kept_bar(
     put_bar(out, world, bar)
 }
 
-fn keeps_bar(world: &World<'_>, span: Span, bar: BarRow) -> bool
-    requires { bar.col < length world.now.assets.now }
+fn keeps_bar(world: &Parts<'_>, span: Span, bar: BarRow) -> bool
+    requires made { IsMade world.now }
+    requires col { bar.col < length world.now.assets.now }
     ensures { result ≡ keeps_bar (world_of world.now) (span_of span) (bar_of world.now.assets.now bar) }
 {
     is_of(world, span, bar.col as usize) && is_bar_in(span, bar)
@@ -64,7 +65,7 @@ fn is_bar_in(span: Span, bar: BarRow) -> bool
     span.first <= session && session < span.last
 }
 
-fn put_bar(out: &mut Vec<u8>, world: &World<'_>, bar: BarRow) -> Result<(), AllocError>
+fn put_bar(out: &mut Vec<u8>, world: &Parts<'_>, bar: BarRow) -> Result<(), AllocError>
     requires col { bar.col < length world.now.assets.now }
     requires session { bar.session < length world.now.sessions.now }
     requires cells { All IsCell bar.cells }

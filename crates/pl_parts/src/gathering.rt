@@ -2,15 +2,15 @@
 
 ghost use Rattle.std.specs.Prelude.{◌≡◌, ◌++◌, ◌<◌, [], ◌∷◌, All, length, map, filter, OnOk, IfOk};
 ghost use Rattle.pl_adjust.specs.Events.{PutsCell, event_of};
-ghost use Rattle.pl_world.specs.Worlds.{world_of, IsMade};
+ghost use Rattle.pl_parts.specs.Parts.{world_of, IsMade};
 ghost use Rattle.pl_cut.specs.Cuts.{cut, is_change_in, is_event_in};
 ghost use Rattle.pl_parts.specs.Spans.{span_of};
 ghost use Rattle.pl_parts.specs.Kept.{if_kept, keeps_event, rows_kept, shown, text_at};
 ghost use Rattle.pl_parts.specs.Texts.{is_kind, of_sid, rows_in};
 
+use crate::parts::Parts;
 use crate::span::{Span, lives_in};
 use pl_adjust::{Adjust, Change, Kind};
-use pl_world::World;
 use std::alloc::{AllocError, Global};
 
 /// An adjustment of the asset of a sid.
@@ -23,7 +23,7 @@ pub(crate) struct Row {
 // The adjustments of a kind of a cut, one asset after the other.
 pub(crate) fn rows_in(
     alloc: Global,
-    world: &World<'_>,
+    world: &Parts<'_>,
     span: Span,
     kind: Kind,
 ) -> Result<Vec<Row>, AllocError>
@@ -42,7 +42,7 @@ pub(crate) fn rows_in(
 // Those of the asset in a column, after the others.
 fn add_asset(
     rows: &mut Vec<Row>,
-    world: &World<'_>,
+    world: &Parts<'_>,
     span: Span,
     kind: Kind,
     col: usize,
@@ -54,8 +54,6 @@ fn add_asset(
     ensures cells { All (λ x. PutsCell x.event) (shown rows.old.items)
         → OnOk result (All (λ x. PutsCell x.event) (shown rows.new.items)) }
 {
-    // their sids ascend
-    world.assets.len();
     let asset = world.assets.row(col);
     if !lives_in(span, asset) {
         return Ok(());

@@ -4,21 +4,21 @@ ghost use Rattle.std.specs.Prelude.{◌≡◌, ◌++◌, ◌<◌, length, slice_
 ghost use Rattle.pl_spec.specs.Parts.{number_of};
 ghost use Rattle.pl_spec.specs.Rounding.{IsCell};
 ghost use Rattle.pl_numbers.specs.NumberRowsShown.{shown_at};
-ghost use Rattle.pl_world.specs.Worlds.{world_of, IsMade};
+ghost use Rattle.pl_parts.specs.Parts.{world_of, IsMade};
 ghost use Rattle.pl_cut.specs.Cuts.{cut, is_newest_number, is_number_in};
 ghost use Rattle.pl_parts.specs.Spans.{span_of};
 ghost use Rattle.pl_parts.specs.Kept.{if_kept, keeps_number, text_at};
 ghost use Rattle.pl_parts.specs.Texts.{number_line, numbers_text};
 
+use crate::parts::Parts;
 use crate::put::{put, put_end, put_further_cell, put_further_day, put_further_number};
 use crate::span::{Span, is_of, sid_of};
 use pl_fixed::Memory;
 use pl_numbers::NumberAt;
-use pl_world::World;
 use std::alloc::{AllocError, Global};
 
 /// The numbers of a cut, with the header `name,sid,known,value`. The only error is want of memory.
-pub fn numbers_text(alloc: Global, world: &World<'_>, span: Span) -> Result<Vec<u8>, Memory>
+pub fn numbers_text(alloc: Global, world: &Parts<'_>, span: Span) -> Result<Vec<u8>, Memory>
     requires made { IsMade world.now }
     ensures { IfOk result (λ v. v.items ≡ numbers_text (cut (world_of world.now) (span_of span))) }
 {
@@ -32,7 +32,7 @@ pub fn numbers_text(alloc: Global, world: &World<'_>, span: Span) -> Result<Vec<
 
 fn put_kept_number(
     out: &mut Vec<u8>,
-    world: &World<'_>,
+    world: &Parts<'_>,
     span: Span,
     i: usize,
 ) -> Result<(), AllocError>
@@ -49,7 +49,7 @@ fn put_kept_number(
     put_number(out, world, &row)
 }
 
-fn put_number(out: &mut Vec<u8>, world: &World<'_>, row: &NumberAt<'_>) -> Result<(), AllocError>
+fn put_number(out: &mut Vec<u8>, world: &Parts<'_>, row: &NumberAt<'_>) -> Result<(), AllocError>
     requires col { row.now.col < length world.now.assets.now }
     requires cell { IsCell row.now.value }
     ensures { OnOk result (out.new.items ≡ out.old.items
@@ -62,7 +62,7 @@ fn put_number(out: &mut Vec<u8>, world: &World<'_>, row: &NumberAt<'_>) -> Resul
     put_end(out)
 }
 
-fn keeps_number(world: &World<'_>, span: Span, i: usize, row: &NumberAt<'_>) -> bool
+fn keeps_number(world: &Parts<'_>, span: Span, i: usize, row: &NumberAt<'_>) -> bool
     requires made { IsMade world.now }
     requires row { slice_get world.now.numbers.now.rows i ≡ Some (shown_at row.now) }
     requires col { row.now.col < length world.now.assets.now }
@@ -72,7 +72,7 @@ fn keeps_number(world: &World<'_>, span: Span, i: usize, row: &NumberAt<'_>) -> 
     is_of(world, span, row.col as usize) && is_number_in(world, span, i, row)
 }
 
-fn is_number_in(world: &World<'_>, span: Span, i: usize, row: &NumberAt<'_>) -> bool
+fn is_number_in(world: &Parts<'_>, span: Span, i: usize, row: &NumberAt<'_>) -> bool
     requires made { IsMade world.now }
     requires row { slice_get world.now.numbers.now.rows i ≡ Some (shown_at row.now) }
     requires col { row.now.col < length world.now.assets.now }
@@ -83,14 +83,12 @@ fn is_number_in(world: &World<'_>, span: Span, i: usize, row: &NumberAt<'_>) -> 
         && (span.first_day < row.known || is_newest_number(world, i, row, span.first_day))
 }
 
-fn is_newest_number(world: &World<'_>, i: usize, row: &NumberAt<'_>, day: i32) -> bool
+fn is_newest_number(world: &Parts<'_>, i: usize, row: &NumberAt<'_>, day: i32) -> bool
     requires made { IsMade world.now }
     requires row { slice_get world.now.numbers.now.rows i ≡ Some (shown_at row.now) }
     requires col { row.now.col < length world.now.assets.now }
     ensures { result ≡ is_newest_number (world_of world.now).numbers day
         (number_of world.now.assets.now (shown_at row.now)) }
 {
-    // their sids ascend
-    world.assets.len();
     world.numbers.is_newest(i, day)
 }

@@ -1,22 +1,22 @@
 //! The sessions.
 
 ghost use Rattle.std.specs.Prelude.{◌≡◌, ◌++◌, ◌<◌, length, OnOk, IfOk};
-ghost use Rattle.pl_world.specs.Worlds.{world_of};
+ghost use Rattle.pl_parts.specs.Parts.{world_of};
 ghost use Rattle.pl_cut.specs.Cuts.{cut};
 ghost use Rattle.pl_parts.specs.Spans.{span_of};
 ghost use Rattle.pl_parts.specs.Kept.{text_at};
 ghost use Rattle.pl_parts.specs.Texts.{session_line, sessions_text};
 
+use crate::parts::Parts;
 use crate::put::{put_day, put_end};
 use crate::span::Span;
 use pl_calendar::Sessions;
 use pl_fixed::Memory;
-use pl_world::World;
 use std::alloc::{AllocError, Global};
 
 /// The sessions of a cut, which are all: a date in each line, and no header. The only error is want of
 /// memory.
-pub fn sessions_text(alloc: Global, world: &World<'_>, _span: Span) -> Result<Vec<u8>, Memory>
+pub fn sessions_text(alloc: Global, world: &Parts<'_>, _span: Span) -> Result<Vec<u8>, Memory>
     ensures { IfOk result (λ v. v.items ≡ sessions_text (cut (world_of world.now) (span_of _span))) }
 {
     let mut out = Vec::new(alloc);

@@ -4,12 +4,13 @@ ghost use Rattle.std.specs.Prelude.{◌≡◌, ◌++◌, ◌+◌, ◌<◌, lengt
 ghost use Rattle.pl_spec.specs.declared.AdjustmentKind.TheVariants.{Revision};
 ghost use Rattle.pl_spec.specs.Names.{column_name};
 ghost use Rattle.pl_adjust.specs.Events.{PutsCell, event_of};
-ghost use Rattle.pl_world.specs.Worlds.{world_of, IsMade};
+ghost use Rattle.pl_parts.specs.Parts.{world_of, IsMade};
 ghost use Rattle.pl_cut.specs.Cuts.{cut};
 ghost use Rattle.pl_parts.specs.Spans.{span_of};
 ghost use Rattle.pl_parts.specs.Texts.{of_sid, ratio_line, ratio_text, ratios_text, revised_text, revision_line, revisions_text};
 
 use crate::gathering::{Row, rows_in};
+use crate::parts::Parts;
 use crate::put::{
     put, put_end, put_further, put_further_cell, put_further_day, put_further_number,
     put_further_signed, put_number,
@@ -17,7 +18,6 @@ use crate::put::{
 use crate::span::Span;
 use pl_adjust::{Adjust, Change, Kind};
 use pl_fixed::{Column, Memory};
-use pl_world::World;
 use std::alloc::{AllocError, Global};
 
 /// The splits, mergers or dividends of a cut as a table, with the header `id,effective_date,num,den,sid`: the
@@ -25,7 +25,7 @@ use std::alloc::{AllocError, Global};
 /// only error is want of memory.
 pub fn ratios_text(
     alloc: Global,
-    world: &World<'_>,
+    world: &Parts<'_>,
     span: Span,
     kind: Kind,
 ) -> Result<Vec<u8>, Memory>
@@ -68,7 +68,7 @@ fn put_parts(out: &mut Vec<u8>, adjust: &Adjust) -> Result<(), AllocError>
 
 /// The revisions of a cut, with the header `sid,session,column,value,known`. The only error is want of
 /// memory.
-pub fn revisions_text(alloc: Global, world: &World<'_>, span: Span) -> Result<Vec<u8>, Memory>
+pub fn revisions_text(alloc: Global, world: &Parts<'_>, span: Span) -> Result<Vec<u8>, Memory>
     requires made { IsMade world.now }
     ensures { IfOk result (λ v. v.items ≡ revisions_text (cut (world_of world.now) (span_of span))) }
 {

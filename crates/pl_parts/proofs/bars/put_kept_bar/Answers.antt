@@ -1,14 +1,14 @@
 use Rattle.std.proofs.Common.{◌≡◌, ◌<◌, ◌∙◌, length, sym}
 use Rattle.pl_spec.specs.Parts.{bar_of}
-use Rattle.pl_world.specs.Worlds.{world_of}
+use Rattle.pl_parts.specs.Parts.{world_of}
 use Rattle.pl_parts.specs.Spans.{span_of}
 use Rattle.pl_parts.specs.Kept.{keeps_bar}
 use Rattle.pl_parts.specs.Texts.{bar_line}
 use Rattle.pl_parts.proofs.KeptRows.{nothing-more, on-ok-more, at-kept, at-left, all-there}
 use Rattle.pl_parts.proofs.bars.put_kept_bar.Goals as goal
 
-pub keeps_bar-requires : goal.keeps_bar-requires
-keeps_bar-requires c = all-there (λ b. b.col < length c.args.world.now.assets.now) c.args.world.now.bars.now c.args.i c.row-bar.result c.requires.made.bars_in c.row-bar.ensures.bar
+pub keeps_bar-requires-clause-col : goal.keeps_bar-requires-clause-col
+keeps_bar-requires-clause-col c = all-there (λ b. b.col < length c.args.world.now.assets.now) c.args.world.now.bars.now c.args.i c.row-bar.result c.requires.made.bars_in c.row-bar.ensures.bar
 
 pub put_bar-requires-clause-col : goal.put_bar-requires-clause-col
 put_bar-requires-clause-col c = all-there (λ b. b.col < length c.args.world.now.assets.now) c.args.world.now.bars.now c.args.i c.row-bar.result c.requires.made.bars_in c.row-bar.ensures.bar

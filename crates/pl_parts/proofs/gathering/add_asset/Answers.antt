@@ -3,7 +3,7 @@ use Rattle.pl_adjust.specs.Columns.{events_at}
 use Rattle.pl_adjust.specs.Events.{event_of}
 use Rattle.pl_adjust.proofs.Sids.{column_events}
 use Rattle.pl_cut.specs.Cuts.{is_of, lives_in, cut}
-use Rattle.pl_world.specs.Worlds.{world_of}
+use Rattle.pl_parts.specs.Parts.{world_of}
 use Rattle.pl_parts.specs.Spans.{span_of}
 use Rattle.pl_parts.specs.Kept.{keeps_event, rows_kept, shown}
 use Rattle.pl_parts.specs.Texts.{of_sid, rows_of}
@@ -26,8 +26,8 @@ returns-clause-rows c =
     let a = c.row-asset.result in
     let at = c.row-asset.ensures in
     let lives : lives_in (span_of c.args.span) c.row-asset.result ≡ true = sym c.lives_in.ensures ∙ c.if-not-lives_in.false in
-    let of : is_of (world_of c.args.world.now) (span_of c.args.span) c.row-asset.result.sid ≡ true = of-col w span c.len.ensures.assets.ascend c.args.col a at ∙ lives in
-    let events = column_events v.sessions.now v.assets.now v.labels.now.rows v.labels.now.texts v.bars.now v.adjustments.now v.numbers.now.rows c.len.ensures.assets.ascend c.requires.made.adjustments_in c.args.col a at in
+    let of : is_of (world_of c.args.world.now) (span_of c.args.span) c.row-asset.result.sid ≡ true = of-col w span c.requires.made.sids_ascend c.args.col a at ∙ lives in
+    let events = column_events v.sessions.now v.assets.now v.labels.now.rows v.labels.now.texts v.bars.now v.adjustments.now v.numbers.now.rows c.requires.made.sids_ascend c.requires.made.adjustments_in c.args.col a at in
     on-ok-more c.add_rows.result _ _ _ _ c.add_rows.ensures
     (ap (λ es. map (of_sid a.sid) (filter (keeps_event c.args.kind span) es)) (c.of_col.ensures.events ∙ sym events)
     ∙ sym (rows-at c.args.kind w span a.sid of)

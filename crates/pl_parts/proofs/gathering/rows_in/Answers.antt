@@ -1,6 +1,6 @@
 use Rattle.std.proofs.Common.{◌≡◌, ◌≤◌, [], length, ap, arith}
 use Rattle.pl_cut.specs.Cuts.{lives_in, cut}
-use Rattle.pl_world.specs.Worlds.{world_of}
+use Rattle.pl_parts.specs.Parts.{world_of}
 use Rattle.pl_parts.specs.Spans.{span_of}
 use Rattle.pl_parts.specs.Kept.{rows_kept, shown}
 use Rattle.pl_parts.specs.Texts.{rows_of}

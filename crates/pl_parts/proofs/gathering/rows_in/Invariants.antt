@@ -1,7 +1,7 @@
 use Rattle.std.proofs.Common.{◌≡◌, take, All}
 use Rattle.std.specs.Prelude.{flat_map}
 use Rattle.pl_adjust.specs.Events.{PutsCell}
-use Rattle.pl_world.specs.Worlds.{world_of}
+use Rattle.pl_parts.specs.Parts.{world_of}
 use Rattle.pl_parts.specs.Spans.{span_of}
 use Rattle.pl_parts.specs.Kept.{rows_kept, shown}
 use Rattle.pl_parts.proofs.gathering.rows_in.Given as goal

@@ -10,4 +10,4 @@ returns c =
     let r = shown_at c.args.row.now in
     let newest : option_map (is_newest_in w.labels.now.rows c.args.day) (Some r) ≡ Some c.is_newest.result = sym (ap (option_map (is_newest_in w.labels.now.rows c.args.day)) c.requires.row) ∙ (rw (to_z-of_z w32 c.args.day c.ranges.day) at c.is_newest.ensures) in
     sym (newest-is (is_newest_in w.labels.now.rows c.args.day r) c.is_newest.result newest)
-    ∙ sym (newest-label w.assets.now c.len.ensures.assets.ascend w.labels.now.rows c.requires.made.labels_in c.args.day r c.requires.col)
+    ∙ sym (newest-label w.assets.now c.requires.made.sids_ascend w.labels.now.rows c.requires.made.labels_in c.args.day r c.requires.col)

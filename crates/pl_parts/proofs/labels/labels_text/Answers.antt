@@ -1,6 +1,6 @@
 use Rattle.std.proofs.Common.{◌≡◌, ◌≤◌, ◌++◌, [], length, arith}
 use Rattle.pl_spec.specs.Parts.{label_of}
-use Rattle.pl_world.specs.Worlds.{world_of}
+use Rattle.pl_parts.specs.Parts.{world_of}
 use Rattle.pl_parts.specs.Spans.{span_of}
 use Rattle.pl_parts.specs.Kept.{if_kept, keeps_label}
 use Rattle.pl_parts.specs.Texts.{label_line, labels_header, labels_text}

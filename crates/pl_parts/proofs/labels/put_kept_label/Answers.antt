@@ -1,7 +1,7 @@
 use Rattle.std.proofs.Common.{◌≡◌, ◌<◌, ◌∙◌, length, sym}
 use Rattle.pl_spec.specs.Parts.{label_of}
 use Rattle.pl_assets.specs.LabelRowsShown.{shown_at}
-use Rattle.pl_world.specs.Worlds.{world_of}
+use Rattle.pl_parts.specs.Parts.{world_of}
 use Rattle.pl_parts.specs.Spans.{span_of}
 use Rattle.pl_parts.specs.Kept.{keeps_label}
 use Rattle.pl_parts.specs.Texts.{label_line}

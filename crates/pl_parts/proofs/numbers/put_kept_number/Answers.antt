@@ -1,7 +1,7 @@
 use Rattle.std.proofs.Common.{◌≡◌, ◌<◌, ◌∙◌, length, sym}
 use Rattle.pl_spec.specs.Parts.{number_of}
 use Rattle.pl_numbers.specs.NumberRowsShown.{shown_at}
-use Rattle.pl_world.specs.Worlds.{world_of}
+use Rattle.pl_parts.specs.Parts.{world_of}
 use Rattle.pl_parts.specs.Spans.{span_of}
 use Rattle.pl_parts.specs.Kept.{keeps_number}
 use Rattle.pl_parts.specs.Texts.{number_line}

@@ -1,6 +1,6 @@
 use Rattle.std.proofs.Common.{◌∙◌, sym, ap}
 use Rattle.pl_cut.specs.Cuts.{is_of}
-use Rattle.pl_world.specs.Worlds.{world_of}
+use Rattle.pl_parts.specs.Parts.{world_of}
 use Rattle.pl_parts.specs.Spans.{span_of}
 use Rattle.pl_parts.proofs.ByColumn.{of-col, sid-of}
 use Rattle.pl_parts.proofs.span.is_of.Goals as goal
@@ -11,4 +11,4 @@ returns c =
     let span = span_of c.args.span in
     let assets = c.args.world.now.assets.now in
     c.lives_in.ensures
-    ∙ sym (ap (is_of w span) (sid-of assets c.args.col c.row.result c.row.ensures) ∙ of-col w span c.len.ensures.assets.ascend c.args.col c.row.result c.row.ensures)
+    ∙ sym (ap (is_of w span) (sid-of assets c.args.col c.row.result c.row.ensures) ∙ of-col w span c.requires.made.sids_ascend c.args.col c.row.result c.row.ensures)
