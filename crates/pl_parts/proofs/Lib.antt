@@ -2,3 +2,4 @@ pub mod KeptRows
 pub mod ByColumn
 pub mod Cells
 pub mod Dates
+pub mod Fields

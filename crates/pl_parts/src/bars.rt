@@ -1,14 +1,14 @@
 //! The bars.
 
-ghost use Rattle.std.specs.Prelude.{◌≡◌, ◌++◌, ◌<◌, List, All, length, OnOk, IfOk};
+ghost use Rattle.std.specs.Prelude.{◌≡◌, ◌++◌, ◌<◌, pos, List, All, decimal, length, slice_index_or, OnOk, IfOk};
 ghost use Rattle.pl_spec.specs.declared.AssetRow.{AssetRow};
-ghost use Rattle.pl_spec.specs.Parts.{bar_of};
+ghost use Rattle.pl_spec.specs.Parts.{bar_of, sid_at};
 ghost use Rattle.pl_spec.specs.Rounding.{IsCell};
 ghost use Rattle.pl_parts.specs.Parts.{world_of, IsMade};
 ghost use Rattle.pl_cut.specs.Cuts.{cut, is_bar_in};
 ghost use Rattle.pl_parts.specs.Spans.{span_of};
 ghost use Rattle.pl_parts.specs.Kept.{if_kept, keeps_bar, text_at};
-ghost use Rattle.pl_parts.specs.Texts.{bar_line, bars_text, prices_text};
+ghost use Rattle.pl_parts.specs.Texts.{bar_line, bars_text, behind_comma, day_text, prices_text};
 
 use crate::parts::Parts;
 use crate::put::{put, put_end, put_further_cell, put_further_day, put_number};
@@ -72,11 +72,28 @@ fn put_bar(out: &mut Vec<u8>, world: &Parts<'_>, bar: BarRow) -> Result<(), Allo
     ensures { OnOk result (out.new.items ≡ out.old.items
         ++ bar_line world.now.sessions.now (bar_of world.now.assets.now bar)) }
 {
-    put_number(out, u64::from(sid_of(world, bar.col as usize)))?;
-    put_further_day(out, world.sessions.day(bar.session as usize))?;
+    put_front(out, world, bar)?;
     put_prices(out, bar)?;
     put_further_cell(out, bar.cells[4])?;
     put_end(out)
+}
+
+// The sid and the day of the session.
+fn put_front(out: &mut Vec<u8>, world: &Parts<'_>, bar: BarRow) -> Result<(), AllocError>
+    requires col { bar.col < length world.now.assets.now }
+    requires session { bar.session < length world.now.sessions.now }
+    ensures { OnOk result (out.new.items ≡ out.old.items ++ (decimal (sid_at world.now.assets.now bar.col)
+        ++ behind_comma (day_text (slice_index_or world.now.sessions.now bar.session (pos 0))))) }
+{
+    put_number(out, u64::from(sid_of(world, bar.col as usize)))?;
+    put_further_day(out, day_of(world, bar.session as usize))
+}
+
+fn day_of(world: &Parts<'_>, session: usize) -> i32
+    requires { session < length world.now.sessions.now }
+    ensures { result ≡ slice_index_or world.now.sessions.now session (pos 0) }
+{
+    world.sessions.day(session)
 }
 
 fn put_prices(out: &mut Vec<u8>, bar: BarRow) -> Result<(), AllocError>

@@ -1,14 +1,14 @@
 //! The numbers.
 
-ghost use Rattle.std.specs.Prelude.{◌≡◌, ◌++◌, ◌<◌, length, slice_get, Some, OnOk, IfOk};
-ghost use Rattle.pl_spec.specs.Parts.{number_of};
+ghost use Rattle.std.specs.Prelude.{◌≡◌, ◌++◌, ◌<◌, decimal, length, slice_get, Some, OnOk, IfOk};
+ghost use Rattle.pl_spec.specs.Parts.{number_of, sid_at};
 ghost use Rattle.pl_spec.specs.Rounding.{IsCell};
 ghost use Rattle.pl_numbers.specs.NumberRowsShown.{shown_at};
 ghost use Rattle.pl_parts.specs.Parts.{world_of, IsMade};
 ghost use Rattle.pl_cut.specs.Cuts.{cut, is_newest_number, is_number_in};
 ghost use Rattle.pl_parts.specs.Spans.{span_of};
 ghost use Rattle.pl_parts.specs.Kept.{if_kept, keeps_number, text_at};
-ghost use Rattle.pl_parts.specs.Texts.{number_line, numbers_text};
+ghost use Rattle.pl_parts.specs.Texts.{behind_comma, day_text, number_line, numbers_text};
 
 use crate::parts::Parts;
 use crate::put::{put, put_end, put_further_cell, put_further_day, put_further_number};
@@ -55,11 +55,21 @@ fn put_number(out: &mut Vec<u8>, world: &Parts<'_>, row: &NumberAt<'_>) -> Resul
     ensures { OnOk result (out.new.items ≡ out.old.items
         ++ number_line (number_of world.now.assets.now (shown_at row.now))) }
 {
-    put(out, row.name)?;
-    put_further_number(out, u64::from(sid_of(world, row.col as usize)))?;
-    put_further_day(out, row.known)?;
+    put_front(out, world, row)?;
     put_further_cell(out, row.value)?;
     put_end(out)
+}
+
+// The name, the sid and the day from which on it is known.
+fn put_front(out: &mut Vec<u8>, world: &Parts<'_>, row: &NumberAt<'_>) -> Result<(), AllocError>
+    requires { row.now.col < length world.now.assets.now }
+    ensures { OnOk result (out.new.items ≡ out.old.items
+        ++ (row.now.name.now ++ behind_comma (decimal (sid_at world.now.assets.now row.now.col))
+        ++ behind_comma (day_text row.now.known))) }
+{
+    put(out, row.name)?;
+    put_further_number(out, u64::from(sid_of(world, row.col as usize)))?;
+    put_further_day(out, row.known)
 }
 
 fn keeps_number(world: &Parts<'_>, span: Span, i: usize, row: &NumberAt<'_>) -> bool

@@ -1,13 +1,14 @@
 //! The tables of splits, mergers and dividends, and the revisions.
 
-ghost use Rattle.std.specs.Prelude.{◌≡◌, ◌++◌, ◌+◌, ◌<◌, length, OnOk, IfOk};
+ghost use Rattle.std.specs.Prelude.{◌≡◌, ◌++◌, ◌+◌, ◌<◌, pos, ◌*ℤ◌, decimal, length, OnOk, IfOk};
+ghost use Rattle.std.specs.Fmt.{signed_decimal};
 ghost use Rattle.pl_spec.specs.declared.AdjustmentKind.TheVariants.{Revision};
 ghost use Rattle.pl_spec.specs.Names.{column_name};
 ghost use Rattle.pl_adjust.specs.Events.{PutsCell, event_of};
 ghost use Rattle.pl_parts.specs.Parts.{world_of, IsMade};
 ghost use Rattle.pl_cut.specs.Cuts.{cut};
 ghost use Rattle.pl_parts.specs.Spans.{span_of};
-ghost use Rattle.pl_parts.specs.Texts.{of_sid, ratio_line, ratio_text, ratios_text, revised_text, revision_line, revisions_text};
+ghost use Rattle.pl_parts.specs.Texts.{behind_comma, of_sid, ratio_line, ratio_text, ratios_text, revised_text, revision_line, revisions_text};
 
 use crate::gathering::{Row, rows_in};
 use crate::parts::Parts;
@@ -47,11 +48,25 @@ fn put_ratio(out: &mut Vec<u8>, number: u64, row: &Row) -> Result<(), AllocError
     ensures { OnOk result (out.new.items ≡ out.old.items
         ++ ratio_line number (of_sid row.now.sid (event_of row.now.adjust))) }
 {
-    put_number(out, number)?;
-    put_further_signed(out, row.adjust.day as i64 * SECONDS_A_DAY)?;
+    put_front(out, number, row.adjust.day)?;
     put_parts(out, &row.adjust)?;
     put_further_number(out, u64::from(row.sid))?;
     put_end(out)
+}
+
+// The number, and the seconds from 1970-01-01 to the day.
+fn put_front(out: &mut Vec<u8>, number: u64, day: i32) -> Result<(), AllocError>
+    ensures { OnOk result (out.new.items ≡ out.old.items
+        ++ (decimal number ++ behind_comma (signed_decimal (day *ℤ pos 86400)))) }
+{
+    put_number(out, number)?;
+    put_further_signed(out, seconds_of(day))
+}
+
+fn seconds_of(day: i32) -> i64
+    ensures { result ≡ day *ℤ pos 86400 }
+{
+    day as i64 * SECONDS_A_DAY
 }
 
 fn put_parts(out: &mut Vec<u8>, adjust: &Adjust) -> Result<(), AllocError>

@@ -7,7 +7,7 @@ use Rattle.pl_parts.proofs.KeptRows.{begun, more, kept-end}
 use Rattle.pl_parts.proofs.assets.assets_text.Goals as goal
 
 pub loop-col-init : goal.loop-col-init
-loop-col-init c = begun (if_kept (lives_in (span_of c.args.span)) asset_line) (c.args.world.now.assets.now) assets_header _ _ c.new.ensures.items c.in_ok-put.ensures
+loop-col-init c = begun (if_kept (lives_in (span_of c.args.span)) asset_line) (c.args.world.now.assets.now) assets_header _ _ c.new-out.ensures.items c.in_ok-put.ensures
 
 pub loop-col-preserved : goal.loop-col-preserved
 loop-col-preserved c = more (if_kept (lives_in (span_of c.args.span)) asset_line) (c.args.world.now.assets.now) c.loop-col.col assets_header _ _ c.loop-col.invariant c.in_ok-put_kept_asset.ensures

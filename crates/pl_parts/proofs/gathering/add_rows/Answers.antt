@@ -1,4 +1,4 @@
-use Rattle.std.proofs.Common.{◌≡◌, ◌≤◌, ◌++◌, ◌∷◌, [], ◌∙◌, Some, length, map, filter, slice_get, rules, sym, ap, arith}
+use Rattle.std.proofs.Common.{◌≡◌, ◌≤◌, ◌++◌, ◌∷◌, [], ◌∙◌, Some, length, map, filter, get_or, slice_get, sym, ap, arith}
 use Rattle.std.proofs.lemmas.List.{append-nil}
 use Rattle.std.proofs.lemmas.List.Concat.{flat_map_single}
 use Rattle.std.proofs.lemmas.Option.{slice_get-get_or}
@@ -15,9 +15,9 @@ loop-i-init c = sym (append-nil (shown c.args.rows.now.items))
 pub loop-i-preserved : goal.loop-i-preserved
 loop-i-preserved c =
     let xs = c.args.adjusts.now in
-    let f = (λ a. if_kept (keeps_event c.args.kind (span_of c.args.span)) (λ e. of_sid c.args.sid e ∷ []) (event_of a)) in
-    let x = c.index.result.now in
-    let at : slice_get c.args.adjusts.now c.loop-i.i ≡ Some c.index.result.now = slice_get-get_or c.args.adjusts.now c.loop-i.i c.index.result.now (omega arith) ∙ ap (λ x. Some x) (sym c.index.ensures) in
+    let blank = c.index-adjusts-i.result in
+    let x = get_or c.args.adjusts.now c.loop-i.i blank in
+    let at : slice_get c.args.adjusts.now c.loop-i.i ≡ Some (get_or c.args.adjusts.now c.loop-i.i c.index-adjusts-i.result) = slice_get-get_or c.args.adjusts.now c.loop-i.i blank (omega (arith, c.loop-i-test.true)) in
     more (λ a. if_kept (keeps_event c.args.kind (span_of c.args.span)) (λ e. of_sid c.args.sid e ∷ []) (event_of a)) xs c.loop-i.i _ _ _ c.loop-i.invariant
     (row-more _ _ _ _ c.in_ok-add_kept.ensures (at-place (λ a. if_kept (keeps_event c.args.kind (span_of c.args.span)) (λ e. of_sid c.args.sid e ∷ []) (event_of a)) xs c.loop-i.i x at))
 

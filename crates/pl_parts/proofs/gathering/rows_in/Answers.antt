@@ -9,8 +9,8 @@ use Rattle.pl_parts.proofs.gathering.rows_in.Goals as goal
 
 pub loop-col-init : goal.loop-col-init
 loop-col-init c = record {
-  gathered = ap shown c.new.ensures.items;
-  cells = rw c.new.ensures.items (λ k d l. absurd (omega arith));
+  gathered = ap shown c.new-rows.ensures.items;
+  cells = rw c.new-rows.ensures.items (λ k d l. absurd (omega arith));
 }
 
 pub loop-col-preserved : goal.loop-col-preserved

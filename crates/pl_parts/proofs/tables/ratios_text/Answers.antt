@@ -8,7 +8,7 @@ use Rattle.pl_parts.proofs.KeptRows.{lines-more, shown-at, shown-long}
 use Rattle.pl_parts.proofs.tables.ratios_text.Goals as goal
 
 pub loop-i-init : goal.loop-i-init
-loop-i-init c = c.in_ok-put.ensures ∙ ap (λ l. l ++ ratios_header) c.new.ensures.items ∙ sym (append-nil ratios_header)
+loop-i-init c = c.in_ok-put.ensures ∙ ap (λ l. l ++ ratios_header) c.new-out.ensures.items ∙ sym (append-nil ratios_header)
 
 pub loop-i-preserved : goal.loop-i-preserved
 loop-i-preserved c =

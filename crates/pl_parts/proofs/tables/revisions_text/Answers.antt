@@ -8,12 +8,12 @@ use Rattle.pl_parts.proofs.KeptRows.{begun, more, all-end, row-more, at-place, s
 use Rattle.pl_parts.proofs.tables.revisions_text.Goals as goal
 
 pub loop-i-init : goal.loop-i-init
-loop-i-init c = begun revision_line (shown c.in_ok-rows.rows.items) revisions_header _ _ c.new.ensures.items c.in_ok-put.ensures
+loop-i-init c = begun revision_line (shown c.in_ok-rows.rows.items) revisions_header _ _ c.new-out.ensures.items c.in_ok-put.ensures
 
 pub put_revision-requires : goal.put_revision-requires
 put_revision-requires c =
     let at : slice_get c.in_ok-rows.rows.items c.loop-i.i ≡ Some c.index.result.now = slice_get-get_or c.in_ok-rows.rows.items c.loop-i.i c.index.result.now (omega arith) ∙ ap (λ x. Some x) (sym c.index.ensures) in
-    shown-puts c.in_ok-rows.rows.items c.loop-i.i c.index.result.now at c.in_ok-rows.ensures.cells
+    record { cell = shown-puts c.in_ok-rows.rows.items c.loop-i.i c.index.result.now at c.in_ok-rows.ensures.cells }
 
 pub loop-i-preserved : goal.loop-i-preserved
 loop-i-preserved c =
