@@ -1,4 +1,4 @@
-use Rattle.std.proofs.Common.{◌≡◌, ◌≤◌, ◌++◌, ◌∷◌, [], ◌∙◌, Some, length, map, filter, get_or, slice_get, sym, ap, arith}
+use Rattle.std.proofs.Common.{◌≡◌, ◌≤◌, ◌++◌, ◌∷◌, [], ◌∙◌, Some, length, map, filter, slice_get, sym, ap, arith}
 use Rattle.std.proofs.lemmas.List.{append-nil}
 use Rattle.std.proofs.lemmas.List.Concat.{flat_map_single}
 use Rattle.std.proofs.lemmas.Option.{slice_get-get_or}
@@ -6,7 +6,7 @@ use Rattle.pl_adjust.specs.Events.{event_of}
 use Rattle.pl_parts.specs.Spans.{span_of}
 use Rattle.pl_parts.specs.Kept.{if_kept, keeps_event, shown}
 use Rattle.pl_parts.specs.Texts.{of_sid}
-use Rattle.pl_parts.proofs.KeptRows.{more, mapped-end, row-more, at-place}
+use Rattle.pl_parts.proofs.KeptRows.{more, mapped-end, at-place}
 use Rattle.pl_parts.proofs.gathering.add_rows.Goals as goal
 
 pub loop-i-init : goal.loop-i-init
@@ -15,11 +15,11 @@ loop-i-init c = sym (append-nil (shown c.args.rows.now.items))
 pub loop-i-preserved : goal.loop-i-preserved
 loop-i-preserved c =
     let xs = c.args.adjusts.now in
-    let blank = c.index-adjusts-i.result in
-    let x = get_or c.args.adjusts.now c.loop-i.i blank in
-    let at : slice_get c.args.adjusts.now c.loop-i.i ≡ Some (get_or c.args.adjusts.now c.loop-i.i c.index-adjusts-i.result) = slice_get-get_or c.args.adjusts.now c.loop-i.i blank (omega (arith, c.loop-i-test.true)) in
-    more (λ a. if_kept (keeps_event c.args.kind (span_of c.args.span)) (λ e. of_sid c.args.sid e ∷ []) (event_of a)) xs c.loop-i.i _ _ _ c.loop-i.invariant
-    (row-more _ _ _ _ c.in_ok-add_kept.ensures (at-place (λ a. if_kept (keeps_event c.args.kind (span_of c.args.span)) (λ e. of_sid c.args.sid e ∷ []) (event_of a)) xs c.loop-i.i x at))
+    let x = c.index-adjusts-i.result in
+    let at : slice_get c.args.adjusts.now c.loop-i.i ≡ Some c.index-adjusts-i.result = slice_get-get_or xs c.loop-i.i x (omega (arith, c.loop-i-test.true)) ∙ ap (λ y. Some y) (sym c.index-adjusts-i.is) in
+    let added : shown c.add_kept.new.rows.items ≡ shown c.loop-i.rows.items ++ if_kept (keeps_event c.args.kind (span_of c.args.span)) (λ e. of_sid c.args.sid e ∷ []) (event_of c.index-adjusts-i.result) = c.in_ok-add_kept.ensures in
+    more (λ a. if_kept (keeps_event c.args.kind (span_of c.args.span)) (λ e. of_sid c.args.sid e ∷ []) (event_of a)) xs c.loop-i.i (shown c.args.rows.now.items) (shown c.loop-i.rows.items) (shown c.add_kept.new.rows.items) c.loop-i.invariant
+    (added ∙ ap (λ l. shown c.loop-i.rows.items ++ l) (at-place (λ a. if_kept (keeps_event c.args.kind (span_of c.args.span)) (λ e. of_sid c.args.sid e ∷ []) (event_of a)) xs c.loop-i.i x at))
 
 pub returns : goal.returns
 returns c =
