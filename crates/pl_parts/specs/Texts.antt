@@ -61,7 +61,7 @@ bar_line days b =
 -- the numerator and the denominator
 abbrev pub ratio_text : Change → List ℕ
 ratio_text (Scale f) = behind_comma (decimal f.num) ++ behind_comma (decimal f.den)
-ratio_text (Overwrite bar_day column value) = behind_comma [] ++ behind_comma []
+ratio_text (Overwrite _ _ _) = behind_comma [] ++ behind_comma []
 
 -- a number, the seconds from 1970-01-01 to the day, the ratio and the sid
 abbrev pub ratio_line : ℕ → Adjustment → List ℕ
