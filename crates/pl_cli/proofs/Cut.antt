@@ -1,5 +1,5 @@
 -- How a part of what a table reads is written.
-use Rattle.std.proofs.Common.{◌≡◌, ℕ, ◌<◌, ◌≤◌, ℤ, pos, ◌≤ℤ◌, List, length, get_or, slice_get, Some, Result, Vec, IfOk, subst₂, refl, sym, ap, ◌∙◌, arith}
+use Rattle.std.proofs.Common.{◌≡◌, ℕ, ◌<◌, ◌≤◌, ℤ, pos, ◌≤ℤ◌, List, length, get_or, slice_get, map, Some, Result, Vec, IfOk, subst₂, refl, sym, ap, ◌∙◌, arith}
 use Rattle.std.specs.declared.alloc.Global.{Global}
 use Rattle.std.specs.Int.RustNames.{unsigned_abs}
 use Rattle.std.specs.Int.Signed.{≤ℤ_refl}
@@ -8,6 +8,8 @@ use Rattle.std.proofs.lemmas.Option.{get_or_from_slice_get}
 use Rattle.pl_cut.specs.Cuts.{Span, cut}
 use Rattle.pl_laws.proofs.Reaches.{below_least}
 use Rattle.pl_pipeline.specs.Lows.{least_reach}
+use Rattle.pl_pipeline.specs.Graph.{reach}
+use Rattle.pl_pipeline.specs.Term.{Graph, term_at}
 use Rattle.pl_planner.specs.Plans.{Planned, IsPlanOf}
 use Rattle.pl_terms.specs.Uses.{outputs}
 use Rattle.pl_load.specs.Planning.{reach_at}
@@ -65,18 +67,22 @@ one-span : (a b : ℕ) (x y : ℤ) (c d : ℕ) (v w : ℤ) → a ≡ c → b ≡
     → (let span : Span = record { first = a; last = b; first_day = x; last_day = y } in let other : Span = record { first = c; last = d; first_day = v; last_day = w } in span ≡ other)
 one-span a b x y c d v w e f g h = rw (e, f, g, h) refl
 
+-- the outputs reach back from a session, never beyond it
+low-least : (days : List ℤ) (g : Graph) (outs : List ℕ) (d : ℤ) → least_reach days g outs d ≤ℤ d
+low-least days g outs d =
+    (below_least (least_reach days g outs d) d (map (λ t. reach days (term_at g t) d) outs) (≤ℤ_refl (least_reach days g outs d))).0
+
 module _ (days : List ℤ) (p : Pipeline) (plan : Planned) (h : IsPlanOf days p plan) where
   -- it begins with a session
   pub first-inside : unsigned_abs plan.reach < length days
   first-inside =
-      let least = least_reach days p.graph (outputs p) (pos plan.from) in
-      let low : least_reach days p.graph (outputs p) (pos plan.from) ≤ℤ pos plan.from = (below_least least (pos plan.from) _ (≤ℤ_refl least)).0 in
+      let low : least_reach days p.graph (outputs p) (pos plan.from) ≤ℤ pos plan.from = low-least days p.graph (outputs p) (pos plan.from) in
       let same : plan.reach ≡ least_reach days p.graph (outputs p) (pos plan.from) = h.least in
       let early : pos 0 ≤ℤ plan.reach = h.early in
-      let reach : plan.reach ≤ℤ pos plan.from = rw same low in
+      let back : plan.reach ≤ℤ pos plan.from = rw same low in
       let order : plan.from ≤ plan.to = h.order in
       let within : plan.to < length days = h.within in
-      omega (arith, ints, reach, early, order, within)
+      omega (arith, ints, back, early, order, within)
 
   pub plan-span : (first last : ℕ) (x y : ℤ) → first ≡ unsigned_abs plan.reach → last ≡ plan.to → slice_get days first ≡ Some x → slice_get days last ≡ Some y
       → (let span : Span = record { first = first; last = last; first_day = x; last_day = y } in span ≡ span_for days p plan.from plan.to)
