@@ -1,4 +1,4 @@
-use Rattle.std.proofs.Common.{◌≡◌, ◌∙◌, rules, w64, FitsSigned, to_z-of_z}
+use Rattle.std.proofs.Common.{rules, w64, FitsSigned, to_z-of_z}
 use Rattle.pl_terms.specs.Checked.{pipeline_of}
 use Rattle.pl_cli.proofs.Cut.{first-inside, plan-span}
 use Rattle.pl_cli.proofs.parts.span_of.Goals as goal
