@@ -7,14 +7,18 @@ _tohmeril_offer() {
 }
 _tohmeril() {
     local word=${COMP_WORDS[COMP_CWORD]} before=${COMP_WORDS[COMP_CWORD - 1]} command=${COMP_WORDS[1]-} options=
+    local parts="sessions assets bars labels numbers splits mergers dividends revisions"
     COMPREPLY=()
     if [ "$COMP_CWORD" -eq 1 ]; then
-        _tohmeril_offer < <(compgen -W "run daily plan check fmt payouts explain verify bench" -- "$word")
+        _tohmeril_offer < <(compgen -W "run daily cut plan check fmt payouts explain verify bench" -- "$word")
         return
     fi
     # bash takes the = of --format=csv for a word of its own, and zsh does not
     if [[ $word == --format=* ]]; then
         _tohmeril_offer < <(compgen -W "--format=csv --format=fixed" -- "$word")
+        return
+    elif [[ $word == --part=* ]]; then
+        _tohmeril_offer < <(compgen -P --part= -W "$parts" -- "${word#--part=}")
         return
     elif [ "$word" = = ]; then
         word=
@@ -26,12 +30,17 @@ _tohmeril() {
             _tohmeril_offer < <(compgen -W "csv fixed" -- "$word")
             return
             ;;
+        --part)
+            _tohmeril_offer < <(compgen -W "$parts" -- "$word")
+            return
+            ;;
         --chunk | --asof) return ;;
     esac
     if [[ $word == -* ]]; then
         case $command in
             run) options="--labels --numbers --adjustments --revisions --chunk --format --stats --asof" ;;
             daily) options="--labels --numbers --adjustments --revisions --format" ;;
+            cut) options="--labels --numbers --adjustments --revisions --part" ;;
             explain | verify) options="--labels --numbers --adjustments --revisions" ;;
             bench) options="--chunk" ;;
         esac

@@ -19,6 +19,7 @@ from tohmeril.pipeline.classifiers import Label
 from tohmeril.pipeline.data import Column, DataSet, EquityPricing
 from tohmeril.pipeline.factors import Returns, SimpleMovingAverage
 from tohmeril.pipeline.filters import All
+from tohmeril.plans import as_script, ask_program
 
 DAYS = [str(date(2024, 1, 1) + timedelta(n)) for n in range(40)]
 SIDS = range(1, 7)
@@ -75,11 +76,11 @@ def drawn(draw: random.Random) -> dict[str, list[tuple]]:
     return rows
 
 
-def written(rows: dict[str, list[tuple]], folder) -> Data:
+def written(rows: dict[str, list[tuple]], folder, end: str = "\r\n") -> Data:
     folder.mkdir()
     for part in rows.keys() - set(TABLES):
         with open(folder / f"{part}.csv", "w", newline="") as file:
-            csv.writer(file).writerows([*([HEADERS[part]] if part in HEADERS else []), *rows[part]])
+            csv.writer(file, lineterminator=end).writerows([*([HEADERS[part]] if part in HEADERS else []), *rows[part]])
     store = sqlite3.connect(folder / "adjustments.db")
     with store:
         for table in TABLES:
@@ -213,3 +214,48 @@ def test_pieces_of_random_data_give_the_whole(seed, tmp_path):
     lives = any(start < day <= end for _, start, end in rows["assets"] for day, in rows["sessions"][8:])
     assert (whole.count(b"\n") > 1) == lives
     assert all(run_text(reading(), first, last, data, pieces=pieces, cut=True) == whole for pieces in (1, 4))
+
+
+def in_its_form(rows: dict[str, list[tuple]]) -> dict[str, list[tuple]]:
+    """The rows in the order and with the decimals in which the program writes them."""
+
+    def cell(value) -> str:
+        return "" if value == "" else f"{value:.6f}"
+
+    return {
+        **rows,
+        "assets": sorted(rows["assets"]),
+        "labels": [(*row, label and 'a, "' + label) for *row, label in rows["labels"]],
+        "numbers": [(*row, cell(value)) for *row, value in sorted(rows["numbers"], key=lambda row: row[:3])],
+        "bars": [(sid, day, *map(cell, cells)) for sid, day, *cells in sorted(rows["bars"])],
+        "revisions": [
+            (sid, day, column, cell(value), known)
+            for sid, day, column, value, known in sorted(rows["revisions"], key=lambda row: (row[0], row[4]))
+        ],
+    }
+
+
+def table_text(rows: list[tuple], sids: set[int]) -> str:
+    """The rows of these assets, by asset and day, with ids from 1, from midnight on."""
+    ordered = sorted((row for row in rows if row[4] in sids), key=lambda row: (row[4], row[1] // SECONDS, row[0]))
+    lines = [
+        ",".join(map(str, (at, seconds // SECONDS * SECONDS, *rest)))
+        for at, (_, seconds, *rest) in enumerate(ordered, 1)
+    ]
+    return "\n".join(["id,effective_date,num,den,sid", *lines, ""])
+
+
+@pytest.mark.parametrize("seed", range(12))
+def test_the_command_cut_writes_the_same_bytes(seed, tmp_path):
+    rows, script = in_its_form(drawn(random.Random(seed))), as_script(reading())
+    data, (first, last) = written(rows, tmp_path / "whole", "\n"), (rows["sessions"][8][0], rows["sessions"][-1][0])
+    (tmp_path / "pieces").mkdir()
+    (piece,) = cuts.cut_files(script, data, [(first, last)], tmp_path / "pieces")
+    sids = {int(line.split(",")[0]) for line in piece.files["assets"].read_text().splitlines()[1:]}
+    wanted = {part: path.read_text() for part, path in piece.files.items() if part != "adjustments"}
+    wanted.update({table: table_text(read(piece)[table], sids) for table in TABLES})
+    got = {
+        part: ask_program("cut", script, *data.names, first, last, f"--part={part}", *data.options, data=data)
+        for part in wanted
+    }
+    assert got == wanted

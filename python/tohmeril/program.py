@@ -22,6 +22,7 @@ ANSWERS = {  # what the answer to a command has in it, by which a foreign progra
     "explain": rb"^(seen|value) ",
     "verify": rb"^(yes|no \d+)\n$",
     "payouts": rb"^record,",
+    "cut": rb"^(\d{4}-\d\d-\d\d\n|sid,|name,|id,)",
 }
 
 

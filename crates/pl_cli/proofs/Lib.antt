@@ -11,3 +11,4 @@ pub mod Verified
 pub mod Explained
 pub mod Days
 pub mod Causes
+pub mod Cut

@@ -22,7 +22,8 @@ use Rattle.pl_runner.specs.Runs.{run_steps}
 use Rattle.pl_runner.specs.Feeds.{daily_steps}
 use Rattle.pl_cli.specs.declared.commands.Stats.{Stats}
 use Rattle.pl_table.specs.Numbers.{stats_line}
-use Rattle.pl_cli.specs.Texts.{text_of, table_stats, present_in, TakesSteps, IsNumbersLine}
+use Rattle.pl_words.specs.declared.request.WorldPart.{WorldPart}
+use Rattle.pl_cli.specs.Texts.{text_of, part_text, table_stats, present_in, TakesSteps, IsNumbersLine}
 use Rattle.pl_cli.specs.Runs.{Observed, HasRoom}
 
 -- the table of what was loaded, its steps in chunks of so many sessions, and the line of its numbers where it
@@ -35,6 +36,10 @@ loaded_text l format =
 
 abbrev pub loaded_steps : Loaded → ℕ → ℕ
 loaded_steps l chunk = run_steps (owned_world l.world) (pipeline_of l.checked) l.plan chunk
+
+-- a part of what its rows read
+abbrev pub loaded_part : Loaded → WorldPart → List ℕ
+loaded_part l part = part_text part (owned_world l.world) (pipeline_of l.checked) l.plan.from l.plan.to
 
 -- how many numbers beside bars are present on its sessions, where the pipeline uses some
 abbrev pub loaded_present : Loaded → Option ℕ

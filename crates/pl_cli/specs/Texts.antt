@@ -1,7 +1,10 @@
 -- The text of a command over its contents, and the steps that it takes.
-use Rattle.std.specs.Prelude.{◌≡◌, ℕ, ℤ, pos, List, [], ◌∷◌, ◌++◌, length, codes, decimal, if◌then◌else◌, Option, Some, None}
+use Rattle.std.specs.Prelude.{◌≡◌, ℕ, ℤ, pos, List, [], ◌∷◌, ◌++◌, length, codes, decimal, if◌then◌else◌, slice_index_or, Option, Some, None}
 use Rattle.std.specs.Int.RustNames.{unsigned_abs}
 use Rattle.pl_spec.specs.World.{World}
+use Rattle.pl_spec.specs.declared.AdjustmentKind.TheVariants.{Split, Merger, Dividend}
+use Rattle.pl_cut.specs.Cuts.{Span, cut}
+use Rattle.pl_parts.specs.Texts.{sessions_text, assets_text, bars_text, labels_text, numbers_text, ratios_text, revisions_text}
 use Rattle.pl_pipeline.specs.Table.{Pipeline, Row, table, sum_of_cells}
 use Rattle.pl_pipeline.specs.Text.{text}
 use Rattle.pl_pipeline.specs.Graph.{bound}
@@ -19,7 +22,9 @@ use Rattle.pl_runner.specs.Runs.{run_steps}
 use Rattle.pl_runner.specs.Feeds.{daily_steps}
 use Rattle.pl_world.specs.Present.{has_numbers, present_numbers}
 use Rattle.pl_words.specs.declared.request.InputFile.TheVariants.{Pipeline as PipelineFile}
-use Rattle.pl_words.specs.Request.{Request, Run, Fmt, Check, Plan, Bench, Payouts, Explain, Verify, Daily, RunRequest, ExplainRequest}
+use Rattle.pl_words.specs.Request.{Request, Run, Fmt, Check, Plan, Bench, Payouts, Explain, Verify, Daily, Cut, RunRequest, ExplainRequest, CutRequest}
+use Rattle.pl_words.specs.declared.request.WorldPart.{WorldPart}
+use Rattle.pl_words.specs.declared.request.WorldPart.TheVariants as parts
 use Rattle.pl_load.specs.Cells.{term_asked}
 use Rattle.pl_load.specs.Contents.{Contents}
 use Rattle.pl_load.specs.Held.{script_in, pipeline_in, pipeline_held, days_held, assets_held, bars_held, payouts_held, derivation_held, world_held}
@@ -58,9 +63,43 @@ abbrev pub verdict_text : Option ℕ → List ℕ
 verdict_text None = codes "yes" ++ 10 ∷ []
 verdict_text (Some n) = codes "no " ++ decimal n ++ 10 ∷ []
 
+-- the text of a part of a world
+abbrev pub text_of_part : WorldPart → World → List ℕ
+text_of_part parts.Sessions w = sessions_text w
+text_of_part parts.Assets w = assets_text w
+text_of_part parts.Bars w = bars_text w
+text_of_part parts.Labels w = labels_text w
+text_of_part parts.Numbers w = numbers_text w
+text_of_part parts.Splits w = ratios_text Split w
+text_of_part parts.Mergers w = ratios_text Merger w
+text_of_part parts.Dividends w = ratios_text Dividend w
+text_of_part parts.Revisions w = revisions_text w
+
+-- from the least session that the outputs reach back to for session from, up to session to
+abbrev pub span_for : List ℤ → Pipeline → ℕ → ℕ → Span
+span_for days p from to =
+    let first = unsigned_abs (reach_at days p from) in
+    record {
+      first = first;
+      last = to;
+      first_day = slice_index_or days first (pos 0);
+      last_day = slice_index_or days to (pos 0);
+    }
+
+-- the part of what the rows of a range read of a world
+abbrev pub part_text : WorldPart → World → Pipeline → ℕ → ℕ → List ℕ
+part_text part w p from to = text_of_part part (cut w (span_for w.days p from to))
+
+-- of the world of a run
+abbrev pub cut_text : Contents → CutRequest → List ℕ
+cut_text held q =
+    let days = days_held held in
+    part_text q.part (world_known held q.table) (pipeline_held held) (index_of days q.table.from.day)
+    (index_of days q.table.to.day)
+
 -- the table of a run, the canonical text of a script, the counts of a pipeline that keeps the rules, its
 -- plan, the numbers of a run over a stated world, the rows of payouts, the derivation of a cell, the verdict
--- on one, or the table that a run has
+-- on one, the table that a run has, or a part of what a run reads
 unfoldable pub text_of : Contents → Option Request → List ℕ
 text_of held None = []
 text_of held (Some (Run q)) = run_text held q
@@ -74,6 +113,7 @@ text_of held (Some (Payouts q)) = payouts_text (days_held held) (assets_held hel
 text_of held (Some (Explain q)) = derivation_text (world_held held q.world) (pipeline_held held) q
 text_of held (Some (Verify q)) = verdict_text (first_wrong (world_held held q.world) (pipeline_held held) (derivation_held held))
 text_of held (Some (Daily q)) = run_text held q
+text_of held (Some (Cut q)) = cut_text held q
 
 -- a plan of the pipeline over the sessions of a run, for its range
 pub record IsPlanFor (held : Contents) (q : RunRequest) (plan : Planned) : Type 0 where

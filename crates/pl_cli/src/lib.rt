@@ -9,6 +9,7 @@ mod cells;
 mod commands;
 mod daily;
 mod derivations;
+mod parts;
 mod payouts;
 mod present;
 mod stated;

@@ -15,6 +15,7 @@ use crate::cells::explain_command;
 use crate::commands::{Stats, check_command, fmt_command, plan_command, run_command};
 use crate::daily::daily_command;
 use crate::derivations::verify_command;
+use crate::parts::cut_command;
 use crate::payouts::payouts_command;
 use crate::stated::bench_command;
 use pl_fixed::Steps;
@@ -45,6 +46,10 @@ use std::sync::ledger::Ledger;
 ///   derivation are right, or the number of the first that is not;
 /// - `daily PIPELINE SESSIONS ASSETS BARS FROM TO`, with the same options and `--format csv` and
 ///   `--format fixed`, writes the table that `run` has, computed session by session from the first one on;
+/// - `cut PIPELINE SESSIONS ASSETS BARS FROM TO`, with the options `--labels NAME`, `--numbers NAME`,
+///   `--adjustments NAME` and `--revisions NAME`, and with `--part` and one of `sessions`, `assets`, `bars`,
+///   `labels`, `numbers`, `splits`, `mergers`, `dividends` and `revisions`, writes that part of what the rows
+///   of `run` read, in the form of its file;
 /// - `bench NUMBER`, with the option `--chunk N`, runs a pipeline of the program's own over the stated world
 ///   of the number, and writes the numbers of that run.
 ///
@@ -136,6 +141,7 @@ fn answer<S: Shelf, K: AdjustKeeper, O: Sink, L: Ledger>(
         Some(Request::Explain(request)) => explain_command(alloc, request, shelf, keeper, out),
         Some(Request::Verify(request)) => verify_command(alloc, request, shelf, keeper, out),
         Some(Request::Daily(request)) => daily_command(alloc, request, shelf, keeper, out, steps),
+        Some(Request::Cut(request)) => cut_command(alloc, request, shelf, keeper, out),
     }
 }
 

@@ -24,7 +24,7 @@ use Rattle.pl_outside.specs.declared.keeper.Table.{Table}
 use Rattle.pl_outside.specs.declared.keeper.Table.TheVariants.{Splits, Mergers, Dividends}
 use Rattle.pl_words.specs.declared.request.InputFile.{InputFile}
 use Rattle.pl_words.specs.declared.request.InputFile.TheVariants.{Pipeline as PipelineFile, Sessions, Assets, Labels, Numbers, Bars, Revisions, Payouts as PayoutsFile, Derivation}
-use Rattle.pl_words.specs.Request.{Request, Run, Fmt, Check, Plan, Bench, Payouts, Explain, Verify, Daily, RunRequest, PlanRequest, ExplainRequest, VerifyRequest, WorldNames}
+use Rattle.pl_words.specs.Request.{Request, Run, Fmt, Check, Plan, Bench, Payouts, Explain, Verify, Daily, Cut, RunRequest, PlanRequest, ExplainRequest, VerifyRequest, WorldNames}
 use Rattle.pl_spec.specs.Limits.{most_pipeline_bytes, most_file_bytes}
 use Rattle.pl_load.specs.declared.fault.Limit.{Limit}
 use Rattle.pl_load.specs.declared.fault.Limit.TheVariants as limits
@@ -222,7 +222,8 @@ payouts_work held =
     ∷ read_step Bars (bars_rule days assets) (held.file Bars)
     ∷ read_step PayoutsFile (payouts_rule assets) (held.file PayoutsFile) ∷ []
 
--- A stated world is read from nowhere, and a table that is computed session by session is judged as a run.
+-- A stated world is read from nowhere. A table that is computed session by session is judged as a run, and so
+-- is one of whose world a part is asked for.
 unfoldable pub work : Contents → Option Request → List WorkStep
 work held None = rule (Some Usage) ∷ []
 work held (Some (Run q)) = run_work held q
@@ -234,3 +235,4 @@ work held (Some (Payouts q)) = payouts_work held
 work held (Some (Explain q)) = explain_work held q
 work held (Some (Verify q)) = verify_work held q
 work held (Some (Daily q)) = run_work held q
+work held (Some (Cut q)) = run_work held q.table

@@ -12,7 +12,7 @@ use Rattle.pl_pipeline.specs.Kind.{Kind, LabelKind, CrossKind}
 use Rattle.pl_pipeline.specs.Kind.Kind.{Label, Window, Point, LabelTest, Cross, Downsample}
 use Rattle.pl_pipeline.specs.Term.{Term}
 use Rattle.pl_pipeline.specs.Term.Term.{absent, column, node}
-use Rattle.pl_pipeline.specs.Value.{Value, Operands, part_of, value_of_part, passes, eligible, is_window_filter, is_point_filter, is_cross_filter, sort_kind, test_value, kind_value, empty, value, operands_of}
+use Rattle.pl_pipeline.specs.Value.{Value, Operands, part_of, value_of_part, passes, eligible, is_window_filter, is_point_filter, is_cross_filter, sort_kind, test_value, kind_value, empty, value, seen, operands_of}
 use Rattle.pl_pipeline.specs.Value.Value.{Number, Text}
 use Rattle.pl_pipeline.specs.Table.{in_array}
 use Rattle.pl_spec.proofs.Members.{In, contains-in}
@@ -73,7 +73,7 @@ module _ (w : World) (known : HasTexts w) (names : List (List ℕ)) where
   now_kept (node k size x y z m g) a d h = h
 
   pub kept : (x : Term) (a : ℕ) (d : ℤ) → IsKept w.texts (sort_kind x) (value w names x a d)
-  unfolding value kind_value
+  unfolding value seen kind_value
   kept absent a d = refl
   kept (column c) a d = refl
   kept (node (Label n) size x y z m g) a d = label_kept w.texts n _ (labels-coded w known names n size x y z m g a d)

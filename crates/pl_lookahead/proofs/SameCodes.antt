@@ -12,7 +12,7 @@ use Rattle.pl_pipeline.specs.Term.{Term, term_at}
 use Rattle.pl_pipeline.specs.Term.Term.{absent, column, node}
 use Rattle.pl_pipeline.specs.Table.{Pipeline, value_of, in_array}
 use Rattle.pl_pipeline.specs.Text.{kind_at}
-use Rattle.pl_pipeline.specs.Value.{Value, part_of, value_of_part, passes, sort_kind, kind_value, empty, value}
+use Rattle.pl_pipeline.specs.Value.{Value, part_of, value_of_part, passes, sort_kind, kind_value, empty, value, seen}
 use Rattle.pl_pipeline.specs.Value.Value.{Number, Text}
 use Rattle.pl_laws.proofs.AsOf as as_of
 use Rattle.pl_laws.proofs.Law as law
@@ -33,7 +33,7 @@ module _ (w : World) (coded : HasTexts w) (names : List (List ℕ)) where
   gated k n e false v h = inl (ap empty e)
 
   pub label-coded : (x : Term) (n : ℕ) → sort_kind x ≡ Label n → (a : ℕ) (d : ℤ) → IsCoded w.texts (value w names x a d)
-  unfolding value kind_value
+  unfolding value seen kind_value
   label-coded absent n e a d = inl refl
   label-coded (column c) n e a d = inl refl
   label-coded (node (Label m) size x y z k g) n e a d = labels-coded w coded names m size x y z k g a d

@@ -10,7 +10,7 @@ use Rattle.pl_words.specs.declared.commands.CommandName.{CommandName}
 use Rattle.pl_words.specs.declared.commands.CommandName.TheVariants as command
 use Rattle.pl_words.specs.Commands.{command_named, places_of, options_of}
 use Rattle.pl_words.specs.Parts.{Word, parts, names_of, values_of, is_text, one_value}
-use Rattle.pl_words.specs.Request.{Options, RunRequest, BenchRequest, Request, Run, Plan, Bench, Explain, Verify, Daily, Values, name, dated, chunk_or, chunk_by, format_by, stats_by, as_of_by, options_by, world_in, table_in, run_in, plan_in, bench_in, explain_in, verify_in, daily_in, request_in, counted, asked, request, IsChunk, HasChunk}
+use Rattle.pl_words.specs.Request.{Options, RunRequest, BenchRequest, Request, Run, Plan, Bench, Explain, Verify, Daily, Cut, Values, name, dated, chunk_or, chunk_by, format_by, stats_by, as_of_by, options_by, world_in, table_in, run_in, plan_in, bench_in, explain_in, verify_in, daily_in, cut_in, request_in, counted, asked, request, IsChunk, HasChunk}
 
 then : {X Y : Type 0} (P : Y → Type 0) (f : X → Option Y) (o : Option X) → ((x : X) → IfSome (f x) P) → IfSome (option_and_then f o) P
 then P f None h = tt
@@ -80,6 +80,7 @@ of-command command.Payouts names values = tt
 of-command command.Explain names values = any Explain (explain_in names values) (λ q. tt)
 of-command command.Verify names values = any Verify (verify_in names values) (λ q. tt)
 of-command command.Daily names values = any Daily (daily_in names values) (λ q. tt)
+of-command command.Cut names values = any Cut (cut_in names values) (λ q. tt)
 
 in-number : (c : CommandName) (names : List Word) (values : Values) → IfSome (counted c names values) HasChunk
 unfolding counted

@@ -1,5 +1,5 @@
 -- Worked rows of what words ask for.
-use Rattle.std.proofs.Common.{◌≡◌, ℕ, Bool, true, false, pos, refl, codes, List, [], ◌∷◌, ◌++◌, map, Option, Some, None}
+use Rattle.std.proofs.Common.{◌≡◌, ℕ, Bool, true, false, pos, refl, codes, List, [], ◌∷◌, ◌++◌, map, Option, Some, None, option_map}
 use Rattle.jiff_core.specs.Calendar.{days_from_civil, day_count, days_of_years, days_of_months}
 use Rattle.std.specs.Fmt.{digits as decimal_digits}
 use Rattle.pl_spec.specs.Dates.{digits, date_text, day_if, date_in}
@@ -7,7 +7,9 @@ use Rattle.pl_spec.specs.Decimals.{sid_in}
 use Rattle.pl_words.specs.Parts.{Word}
 use Rattle.pl_spec.specs.declared.Format.{Format}
 use Rattle.pl_spec.specs.declared.Format.TheVariants.{Csv, Fixed}
-use Rattle.pl_words.specs.Request.{request, counted, RunRequest, WorldNames, Request, Run, Fmt, Check, Plan, Bench, Payouts, Explain, Verify, Daily}
+use Rattle.pl_words.specs.Request.{request, counted, RunRequest, WorldNames, Request, Run, Fmt, Check, Plan, Bench, Payouts, Explain, Verify, Daily, Cut}
+use Rattle.pl_words.specs.declared.request.WorldPart.{WorldPart}
+use Rattle.pl_words.specs.declared.request.WorldPart.TheVariants as piece
 
 abbrev names : List Word
 names = codes "p.pl" ∷ codes "sessions.csv" ∷ codes "assets.csv" ∷ codes "bars.csv" ∷ []
@@ -168,3 +170,17 @@ refused_runs : map (λ (options : List Word). request (codes "run" ∷ (options 
     ∷ None ∷ None ∷ None ∷ []
 unfolding request counted sid_in date_in day_if decimal_digits digits
 refused_runs = refl
+
+abbrev of_part : Option WorldNames → WorldPart → Option Request
+of_part world part = option_map (λ w. Cut (record { table = table w 126 Csv false; part = part })) world
+
+parts_asked : map (λ (options : List Word). request (codes "cut" ∷ (options ++ (names ++ dates)))) (
+    (codes "--part=sessions" ∷ [])
+    ∷ (codes "--part" ∷ codes "splits" ∷ codes "--adjustments=a.db" ∷ [])
+    ∷ []
+    ∷ (codes "--part=split" ∷ [])
+    ∷ (codes "--part=bars" ∷ codes "--part=bars" ∷ [])
+    ∷ (codes "--part=bars" ∷ codes "--format=csv" ∷ []) ∷ [])
+    ≡ of_part (Some (over None None None None)) piece.Sessions ∷ of_part (Some (over None None (Some (codes "a.db")) None)) piece.Splits ∷ None ∷ None ∷ None ∷ None ∷ []
+unfolding request counted date_in day_if days_from_civil day_count days_of_years days_of_months decimal_digits digits date_text
+parts_asked = refl

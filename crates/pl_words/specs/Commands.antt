@@ -1,13 +1,13 @@
 -- The commands, as data.
 use Rattle.std.specs.Prelude.{ℕ, List, [], ◌∷◌, Option, find, bytes_eq, codes}
 use Rattle.pl_words.specs.declared.commands.OptionName.{OptionName}
-use Rattle.pl_words.specs.declared.commands.OptionName.TheVariants.{Labels, Numbers, Adjustments, Revisions, Chunk, Format, Stats, AsOf}
+use Rattle.pl_words.specs.declared.commands.OptionName.TheVariants.{Labels, Numbers, Adjustments, Revisions, Chunk, Format, Stats, AsOf, Part}
 use Rattle.pl_words.specs.declared.commands.CommandName.{CommandName}
-use Rattle.pl_words.specs.declared.commands.CommandName.TheVariants.{Run, Check, Fmt, Plan, Bench, Payouts, Explain, Verify, Daily}
+use Rattle.pl_words.specs.declared.commands.CommandName.TheVariants.{Run, Check, Fmt, Plan, Bench, Payouts, Explain, Verify, Daily, Cut}
 use Rattle.pl_words.specs.Parts.{Word}
 
 abbrev pub all_commands : List CommandName
-all_commands = Run ∷ Check ∷ Fmt ∷ Plan ∷ Bench ∷ Payouts ∷ Explain ∷ Verify ∷ Daily ∷ []
+all_commands = Run ∷ Check ∷ Fmt ∷ Plan ∷ Bench ∷ Payouts ∷ Explain ∷ Verify ∷ Daily ∷ Cut ∷ []
 
 abbrev pub command_text : CommandName → Word
 command_text Run = codes "run"
@@ -19,6 +19,7 @@ command_text Payouts = codes "payouts"
 command_text Explain = codes "explain"
 command_text Verify = codes "verify"
 command_text Daily = codes "daily"
+command_text Cut = codes "cut"
 
 -- how many names it takes
 abbrev pub places_of : CommandName → ℕ
@@ -31,6 +32,7 @@ places_of Payouts = 4  -- SESSIONS ASSETS BARS PAYOUTS
 places_of Explain = 7  -- PIPELINE SESSIONS ASSETS BARS SID DATE COLUMN
 places_of Verify = 5  -- PIPELINE SESSIONS ASSETS BARS DERIVATION
 places_of Daily = 6  -- PIPELINE SESSIONS ASSETS BARS FROM TO
+places_of Cut = 6  -- PIPELINE SESSIONS ASSETS BARS FROM TO
 
 -- the options that it knows
 abbrev pub options_of : CommandName → List OptionName
@@ -43,6 +45,7 @@ options_of Payouts = []
 options_of Explain = Labels ∷ Numbers ∷ Adjustments ∷ Revisions ∷ []
 options_of Verify = Labels ∷ Numbers ∷ Adjustments ∷ Revisions ∷ []
 options_of Daily = Labels ∷ Numbers ∷ Adjustments ∷ Revisions ∷ Format ∷ []
+options_of Cut = Labels ∷ Numbers ∷ Adjustments ∷ Revisions ∷ Part ∷ []
 
 abbrev pub command_named : Word → Option CommandName
 command_named word = find (λ c. bytes_eq word (command_text c)) all_commands

@@ -3,6 +3,7 @@ use Rattle.std.specs.Prelude.{ℕ, List, [], ◌∷◌, Bool, true, false, not, 
 use Rattle.std.specs.List.{list_any, before_first, after_first}
 use Rattle.pl_words.specs.declared.commands.OptionName.{OptionName}
 use Rattle.pl_words.specs.declared.commands.OptionName.TheVariants.{Labels, Numbers, Adjustments, Revisions, Chunk, Format, Stats, AsOf}
+use Rattle.pl_words.specs.declared.commands.OptionName.TheVariants as option
 
 abbrev pub Word : Type 0
 Word = List ℕ
@@ -17,6 +18,7 @@ text_of Chunk = codes "chunk"
 text_of Format = codes "format"
 text_of Stats = codes "stats"
 text_of AsOf = codes "asof"
+text_of option.Part = codes "part"
 
 -- `--stats` alone has no value
 abbrev pub has_value : OptionName → Bool

@@ -1,5 +1,5 @@
 -- What the words ask for.
-use Rattle.std.specs.Prelude.{ℕ, ◌≤◌, ⊤, ℤ, List, [], ◌∷◌, Bool, false, ◌==◌, ◌&&◌, nat_le, if◌then◌else◌, Option, Some, None, option_map, option_and_then, is_some, length, slice_index_or, bytes_eq, codes}
+use Rattle.std.specs.Prelude.{ℕ, ◌≤◌, ⊤, ℤ, List, [], ◌∷◌, Bool, false, ◌==◌, ◌&&◌, nat_le, if◌then◌else◌, Option, Some, None, option_map, option_and_then, is_some, find, length, slice_index_or, bytes_eq, codes}
 use Rattle.std.specs.List.{list_all}
 use Rattle.pl_spec.specs.Limits.{most_chunk}
 use Rattle.pl_spec.specs.Dates.{date_in}
@@ -9,6 +9,8 @@ use Rattle.pl_spec.specs.declared.Format as form
 use Rattle.pl_spec.specs.declared.Format.TheVariants.{Csv, Fixed}
 use Rattle.pl_words.specs.declared.request.RangeDate.{RangeDate}
 use Rattle.pl_words.specs.declared.request.RangeDate.TheVariants.{From, To, AsOf, At}
+use Rattle.pl_words.specs.declared.request.WorldPart.{WorldPart}
+use Rattle.pl_words.specs.declared.request.WorldPart.TheVariants as piece
 use Rattle.pl_words.specs.declared.request.InputFile.{InputFile}
 use Rattle.pl_words.specs.declared.request.InputFile.TheVariants as file
 use Rattle.pl_words.specs.declared.commands.OptionName.{OptionName}
@@ -64,6 +66,11 @@ pub record VerifyRequest : Type 0 where
   pub world : WorldNames
   pub derivation : List ℕ
 
+-- a part of what a table reads of its world
+pub record CutRequest : Type 0 where
+  pub table : RunRequest
+  pub part : WorldPart
+
 -- the plan of a pipeline over the sessions of that name, from a date to a date
 pub record PlanRequest : Type 0 where
   pub pipeline : List ℕ
@@ -85,7 +92,7 @@ pub record PayoutsRequest : Type 0 where
 
 -- the table of a pipeline, the canonical text of a pipeline file, whether it keeps the rules, a plan, the
 -- numbers of a run over a stated world, the ratios of payouts, the derivation of a cell, whether a derivation
--- is right, or a table that is computed session by session
+-- is right, a table that is computed session by session, or a part of what a table reads
 pub data Request : Type 0 where
   Run : RunRequest → Request
   Fmt : (pipeline : List ℕ) → Request
@@ -96,12 +103,31 @@ pub data Request : Type 0 where
   Explain : ExplainRequest → Request
   Verify : VerifyRequest → Request
   Daily : RunRequest → Request
+  Cut : CutRequest → Request
 
 abbrev pub dated : Word → Option Dated
 dated text = option_map (λ day. record { text = text; day = day }) (date_in text)
 
 abbrev pub name : List Word → ℕ → Word
 name names i = slice_index_or names i []
+
+-- ---- parts
+
+abbrev pub all_parts : List WorldPart
+all_parts =
+    piece.Sessions ∷ piece.Assets ∷ piece.Bars ∷ piece.Labels ∷ piece.Numbers ∷ piece.Splits ∷ piece.Mergers ∷ piece.Dividends
+    ∷ piece.Revisions ∷ []
+
+abbrev pub part_text : WorldPart → Word
+part_text piece.Sessions = codes "sessions"
+part_text piece.Assets = codes "assets"
+part_text piece.Bars = codes "bars"
+part_text piece.Labels = codes "labels"
+part_text piece.Numbers = codes "numbers"
+part_text piece.Splits = codes "splits"
+part_text piece.Mergers = codes "mergers"
+part_text piece.Dividends = codes "dividends"
+part_text piece.Revisions = codes "revisions"
 
 -- the values that each option was given
 abbrev pub Values : Type 0
@@ -192,6 +218,20 @@ run_in names values = option_and_then (table_in names values) (options_by values
 abbrev pub daily_in : List Word → Values → Option RunRequest
 daily_in names values = option_and_then (λ format. table_in names values (usual format)) (format_by values)
 
+-- the part of a name
+abbrev pub part_in : Word → Option WorldPart
+part_in text = find (λ part. bytes_eq text (part_text part)) all_parts
+
+-- it has to be given
+abbrev pub part_by : Values → Option WorldPart
+part_by values = option_and_then (option_and_then part_in) (one_value (values option.Part))
+
+abbrev pub cut_over : WorldPart → RunRequest → CutRequest
+cut_over part table = record { table = table; part = part }
+
+abbrev pub cut_in : List Word → Values → Option CutRequest
+cut_in names values = option_and_then (λ part. option_map (cut_over part) (table_in names values (usual Csv))) (part_by values)
+
 abbrev pub plan_over : List Word → Dated → Dated → PlanRequest
 plan_over names from to = record { pipeline = name names 0; sessions = name names 1; from = from; to = to }
 
@@ -242,6 +282,7 @@ request_in command.Payouts names values = Some (Payouts (payouts_over names))
 request_in command.Explain names values = option_map Explain (explain_in names values)
 request_in command.Verify names values = option_map Verify (verify_in names values)
 request_in command.Daily names values = option_map Daily (daily_in names values)
+request_in command.Cut names values = option_map Cut (cut_in names values)
 
 -- It takes exactly its number of names.
 unfoldable pub counted : CommandName → List Word → Values → Option Request
@@ -278,6 +319,7 @@ pipeline_of (Plan q) = Some q.pipeline
 pipeline_of (Explain q) = Some q.pipeline
 pipeline_of (Verify q) = Some q.pipeline
 pipeline_of (Daily q) = Some q.pipeline
+pipeline_of (Cut q) = Some q.table.pipeline
 pipeline_of q = None
 
 abbrev pub world_of : Request → Option WorldNames
@@ -285,6 +327,7 @@ world_of (Run q) = Some q.world
 world_of (Explain q) = Some q.world
 world_of (Verify q) = Some q.world
 world_of (Daily q) = Some q.world
+world_of (Cut q) = Some q.table.world
 world_of q = None
 
 abbrev pub world_file : WorldNames → InputFile → Option (List ℕ)
@@ -317,6 +360,7 @@ table_date q At = None
 abbrev pub date_named : Request → RangeDate → Option (List ℕ)
 date_named (Run q) date = table_date q date
 date_named (Daily q) date = table_date q date
+date_named (Cut q) date = table_date q.table date
 date_named (Plan q) From = Some q.from.text
 date_named (Plan q) To = Some q.to.text
 date_named (Explain q) At = Some q.date.text

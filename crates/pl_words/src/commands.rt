@@ -16,6 +16,7 @@ pub enum CommandName {
     Explain,
     Verify,
     Daily,
+    Cut,
 }
 
 /// The options, of which a command knows some.
@@ -29,6 +30,7 @@ pub enum OptionName {
     Format,
     Stats,
     AsOf,
+    Part,
 }
 
 pub(crate) fn command_named(word: &str) -> Option<CommandName>
@@ -44,6 +46,7 @@ pub(crate) fn command_named(word: &str) -> Option<CommandName>
         "explain" => Some(CommandName::Explain),
         "verify" => Some(CommandName::Verify),
         "daily" => Some(CommandName::Daily),
+        "cut" => Some(CommandName::Cut),
         _ => None,
     }
 }
@@ -55,7 +58,7 @@ impl CommandName {
     {
         match self {
             CommandName::Explain => 7,
-            CommandName::Run | CommandName::Daily => 6,
+            CommandName::Run | CommandName::Daily | CommandName::Cut => 6,
             CommandName::Verify => 5,
             CommandName::Plan | CommandName::Payouts => 4,
             CommandName::Check | CommandName::Fmt | CommandName::Bench => 1,
@@ -90,6 +93,13 @@ impl CommandName {
                 OptionName::Revisions,
                 OptionName::Format,
             ],
+            CommandName::Cut => &[
+                OptionName::Labels,
+                OptionName::Numbers,
+                OptionName::Adjustments,
+                OptionName::Revisions,
+                OptionName::Part,
+            ],
             CommandName::Bench => &[OptionName::Chunk],
             CommandName::Check | CommandName::Fmt | CommandName::Plan | CommandName::Payouts => &[],
         }
@@ -110,6 +120,7 @@ impl OptionName {
             OptionName::Format => "format",
             OptionName::Stats => "stats",
             OptionName::AsOf => "asof",
+            OptionName::Part => "part",
         }
     }
 

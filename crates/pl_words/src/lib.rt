@@ -14,7 +14,7 @@ mod text;
 
 pub use read::read_words;
 pub use request::{
-    BenchRequest, DateWord, ExplainRequest, InputFile, Options, PayoutsRequest, PlanRequest,
-    RangeDate, Request, RunRequest, VerifyRequest, WorldNames, adjustments_asked, column_asked,
-    date_asked, name_asked,
+    BenchRequest, CutRequest, DateWord, ExplainRequest, InputFile, Options, PayoutsRequest,
+    PlanRequest, RangeDate, Request, RunRequest, VerifyRequest, WorldNames, WorldPart,
+    adjustments_asked, column_asked, date_asked, name_asked,
 };

@@ -2,12 +2,12 @@
 
 ghost use Rattle.std.specs.Prelude.{◌≡◌, ◌≤◌, None, Some, MatchOption, length, map, option_map};
 ghost use Rattle.pl_words.specs.Apps.{values_in};
-ghost use Rattle.pl_words.specs.Request.{as_of_by, dated, chunk_in, chunk_by, format_in, format_by, stats_by, options_by, usual, world_in, column_in};
+ghost use Rattle.pl_words.specs.Request.{as_of_by, dated, chunk_in, chunk_by, format_in, format_by, stats_by, options_by, part_by, part_in, usual, world_in, column_in};
 ghost use Rattle.pl_words.specs.Views.{dated_of, options_of, world_names_of};
 
 use crate::commands::OptionName;
 use crate::cut::value;
-use crate::request::{DateWord, Options, WorldNames};
+use crate::request::{DateWord, Options, WorldNames, WorldPart};
 use clap::ArgMatches;
 use pl_fixed::{is_name, read_day, read_sid};
 use pl_spec::Format;
@@ -85,6 +85,33 @@ pub(crate) fn format(matches: &ArgMatches<'_>) -> Option<Format>
         Err(_) => None,
         Ok(None) => Some(Format::Csv),
         Ok(Some(text)) => format_in(text),
+    }
+}
+
+pub(crate) fn part(matches: &ArgMatches<'_>) -> Option<WorldPart>
+    ensures { result ≡ part_by (values_in matches.now) }
+{
+    match value(matches, OptionName::Part) {
+        Err(_) => None,
+        Ok(None) => None,
+        Ok(Some(text)) => part_in(text),
+    }
+}
+
+fn part_in(text: &str) -> Option<WorldPart>
+    ensures { result ≡ part_in text.now }
+{
+    match text {
+        "sessions" => Some(WorldPart::Sessions),
+        "assets" => Some(WorldPart::Assets),
+        "bars" => Some(WorldPart::Bars),
+        "labels" => Some(WorldPart::Labels),
+        "numbers" => Some(WorldPart::Numbers),
+        "splits" => Some(WorldPart::Splits),
+        "mergers" => Some(WorldPart::Mergers),
+        "dividends" => Some(WorldPart::Dividends),
+        "revisions" => Some(WorldPart::Revisions),
+        _ => None,
     }
 }
 

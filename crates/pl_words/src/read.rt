@@ -11,15 +11,16 @@ ghost use Rattle.pl_words.specs.Views.{Says, options_of, payouts_of, request_of,
 
 use crate::commands::{CommandName, command_named};
 use crate::cut::{cut, values};
-use crate::options::{chunk, column_in, date_in, format, options, usual, world_in};
+use crate::options::{chunk, column_in, date_in, format, options, part, usual, world_in};
 use crate::request::{
-    BenchRequest, ExplainRequest, Options, PayoutsRequest, PlanRequest, Request, RunRequest,
-    VerifyRequest,
+    BenchRequest, CutRequest, ExplainRequest, Options, PayoutsRequest, PlanRequest, Request,
+    RunRequest, VerifyRequest,
 };
 use crate::text::is_text;
 use clap::ArgMatches;
 use pl_fixed::read_sid;
 use pl_outside::Memory;
+use pl_spec::Format;
 use std::alloc::Global;
 
 /// What the words ask for; `None` where they have no command's form, which is status 2. The only error is
@@ -88,6 +89,7 @@ fn request_in<'a>(
         CommandName::Explain => explain_in(names, matches),
         CommandName::Verify => verify_in(names, matches),
         CommandName::Daily => daily_in(names, matches),
+        CommandName::Cut => cut_in(names, matches),
     }
 }
 
@@ -105,6 +107,15 @@ fn daily_in<'a>(names: &[&'a str], matches: &ArgMatches<'a>) -> Option<Request<'
 {
     let options = usual(format(matches)?);
     Some(Request::Daily(table_in(names, matches, options)?))
+}
+
+fn cut_in<'a>(names: &[&'a str], matches: &ArgMatches<'a>) -> Option<Request<'a>>
+    requires { length names.now ≡ 6 }
+    ensures { Says result (request_in commands.Cut (map (λ v. v.now) names.now) (values_in matches.now)) }
+{
+    let part = part(matches)?;
+    let table = table_in(names, matches, usual(Format::Csv))?;
+    Some(Request::Cut(CutRequest { table, part }))
 }
 
 fn table_in<'a>(

@@ -1,6 +1,6 @@
 //! What a command is asked for, and what it names.
 
-ghost use Rattle.std.specs.Prelude.{◌≡◌, [], option_map, unwrap_or};
+ghost use Rattle.std.specs.Prelude.{◌≡◌, [], option_map, option_and_then, unwrap_or};
 ghost use Rattle.pl_words.specs.Request.{adjustments_of, column_asked, column_named, date_asked, date_named, file_named, name_asked, pipeline_of, table_date, world_file, world_of};
 ghost use Rattle.pl_words.specs.Views.{dated_of, request_of, run_of, text_of, world_names_of};
 
@@ -27,6 +27,20 @@ pub enum RangeDate {
     To,
     AsOf,
     At,
+}
+
+/// A part of a world, each with a file or a table of its own.
+#[derive(Clone, Copy, Debug, PartialEq, Eq)]
+pub enum WorldPart {
+    Sessions,
+    Assets,
+    Bars,
+    Labels,
+    Numbers,
+    Splits,
+    Mergers,
+    Dividends,
+    Revisions,
 }
 
 /// A date as it is written, `YYYY-MM-DD`, and its day, counted from 1970-01-01.
@@ -67,6 +81,13 @@ pub struct RunRequest<'a> {
     pub from: DateWord<'a>,
     pub to: DateWord<'a>,
     pub options: Options<'a>,
+}
+
+/// A table, and which part of what it reads of its world is asked for.
+#[derive(Clone, Copy)]
+pub struct CutRequest<'a> {
+    pub table: RunRequest<'a>,
+    pub part: WorldPart,
 }
 
 /// What a plan is asked for: the names of its two files, and two dates.
@@ -135,6 +156,8 @@ pub enum Request<'a> {
     Verify(VerifyRequest<'a>),
     /// The table of a pipeline, computed session by session.
     Daily(RunRequest<'a>),
+    /// A part of what a table reads of its world.
+    Cut(CutRequest<'a>),
 }
 
 /// The name of a file that words ask for; nothing where they ask for none.
@@ -186,6 +209,7 @@ impl<'a> Request<'a> {
     {
         match self {
             Request::Run(table) | Request::Daily(table) => Some(table.pipeline),
+            Request::Cut(cut) => Some(cut.table.pipeline),
             Request::Fmt(name) | Request::Check(name) => Some(name),
             Request::Plan(plan) => Some(plan.pipeline),
             Request::Explain(cell) => Some(cell.pipeline),
@@ -199,6 +223,7 @@ impl<'a> Request<'a> {
     {
         match self {
             Request::Run(table) | Request::Daily(table) => Some(&table.world),
+            Request::Cut(cut) => Some(&cut.table.world),
             Request::Explain(cell) => Some(&cell.world),
             Request::Verify(verify) => Some(&verify.world),
             _ => None,
@@ -217,10 +242,17 @@ impl<'a> Request<'a> {
             (Request::Payouts(payouts), InputFile::Payouts) => Some(payouts.payouts),
             (Request::Verify(verify), InputFile::Derivation) => Some(verify.derivation),
             (_, InputFile::Pipeline) => self.pipeline(),
-            _ => match self.world() {
-                Some(world) => world.file(file),
-                None => None,
-            },
+            _ => self.world_file(file),
+        }
+    }
+
+    // The name of a file of its world, where it is over one.
+    fn world_file(&self, file: InputFile) -> Option<&'a str>
+        ensures { text_of result ≡ option_and_then (λ w. world_file w file) (world_of (request_of self.now)) }
+    {
+        match self.world() {
+            Some(world) => world.file(file),
+            None => None,
         }
     }
 
@@ -230,6 +262,7 @@ impl<'a> Request<'a> {
     {
         match (self, date) {
             (Request::Run(table) | Request::Daily(table), _) => table.date(date),
+            (Request::Cut(cut), _) => cut.table.date(date),
             (Request::Plan(plan), RangeDate::From) => Some(plan.from.text),
             (Request::Plan(plan), RangeDate::To) => Some(plan.to.text),
             (Request::Explain(cell), RangeDate::At) => Some(cell.date.text),

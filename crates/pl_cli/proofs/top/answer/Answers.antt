@@ -61,3 +61,8 @@ pub returns-in-Some-Daily : goal.returns-in-Some-Daily
 returns-in-Some-Daily g c =
     rw (lent c.in-Some-Daily.is (rw c.in-Some-Daily.is at c.in-Some-Daily.field-0-is))
     c.daily_command.ensures
+
+pub returns-in-Some-Cut : goal.returns-in-Some-Cut
+returns-in-Some-Cut g c =
+    rw (lent c.in-Some-Cut.is (rw c.in-Some-Cut.is at c.in-Some-Cut.field-0-is))
+    (c.cut_command.ensures c.args.steps.now)
