@@ -14,8 +14,8 @@ const GRAIN: u128 = 35_184_372_088_832;
 // Above it the exponential is past the limit of cells, and below its negative it is 0, in millionths.
 const MOST: i64 = 26_000_000;
 
-/// The number e to the power of `x`, to the nearest millionth; `MISSING` where it is past the limit of cells.
-/// No lesser number has a greater one.
+/// The number e to the power of `x`, from 110 terms of its series, rounded once to the millionth; `MISSING`
+/// where it is past the limit of cells. No lesser number has a greater one.
 pub fn exp(x: i64) -> i64
     requires { IsCell x }
     ensures value { result ≡ exp x }

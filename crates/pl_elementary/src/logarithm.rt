@@ -19,8 +19,8 @@ const ONE: u64 = 4_611_686_018_427_387_904;
 
 const TWO: u64 = 9_223_372_036_854_775_808;
 
-/// The natural logarithm, to the nearest millionth; `MISSING` unless `x` is above 0. No lesser number has a
-/// greater one.
+/// The natural logarithm, from 60 bits of the binary one, rounded once to the millionth; `MISSING` unless `x`
+/// is above 0. No lesser number has a greater one.
 pub fn log(x: i64) -> i64
     requires { IsCell x }
     ensures value { result ≡ log x }

@@ -28,11 +28,11 @@ pub mod world {
         seen_now,
     };
     pub use pl_adjust_sql::{SqlKeeper, TableError, create_table, create_tables, read_table};
-    pub use pl_assets::{AssetRow, Assets, AssetsError, Labels, LabelsError};
+    pub use pl_assets::{AssetRow, Assets, AssetsError, LabelAt, Labels, LabelsError};
     pub use pl_bars::{BarRow, Bars, BarsError};
     pub use pl_calendar::{CalendarError, Sessions};
     pub use pl_model::{OwnedWorld, World, asof_world, cell_now};
-    pub use pl_numbers::{Numbers, NumbersError};
+    pub use pl_numbers::{NumberAt, Numbers, NumbersError};
 }
 
 /// Pipelines: texts, terms, and the plan of a range.
@@ -53,6 +53,7 @@ pub mod pipelines {
 pub mod engine {
     pub use pl_adjarray::{AdjustedArray, Windows};
     pub use pl_cross::{Cross, RankMethod, RankOrder, cross_into, select_into};
+    pub use pl_elementary::{exp, log, maximum, minimum, sign, sqrt};
     pub use pl_exec::{Chunk, ChunkReport, Rows, execute_chunk};
     pub use pl_factors::formula;
     pub use pl_filters::{label_test, window_filter};
