@@ -15,7 +15,7 @@ _tohmeril() {
     fi
     # bash takes the = of --format=csv for a word of its own, and zsh does not
     if [[ $word == --format=* ]]; then
-        _tohmeril_offer < <(compgen -W "--format=csv --format=fixed" -- "$word")
+        _tohmeril_offer < <(compgen -W "--format=csv --format=fixed --format=cells" -- "$word")
         return
     elif [[ $word == --part=* ]]; then
         _tohmeril_offer < <(compgen -P --part= -W "$parts" -- "${word#--part=}")
@@ -27,7 +27,7 @@ _tohmeril() {
     fi
     case $before in
         --format)
-            _tohmeril_offer < <(compgen -W "csv fixed" -- "$word")
+            _tohmeril_offer < <(compgen -W "csv fixed cells" -- "$word")
             return
             ;;
         --part)

@@ -264,7 +264,7 @@ def compare(seed: int, folder: Path) -> bytes:
     script.write_text(pipeline(draw))
     to = draw.randrange(9, drawer.index + 1)
     first, last = drawer.days[draw.randrange(9, to + 1)], drawer.days[to]
-    form = ["--format", draw.choice(["csv", "fixed"])]
+    form = ["--format", draw.choice(["csv", "fixed", "cells"])]
 
     def table(name: str, data: Path) -> bytes:
         """The table by a command, in chunks of any size, as of a session from the end of the range to the day."""

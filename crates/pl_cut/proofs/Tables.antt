@@ -1,12 +1,10 @@
 -- Worlds that show the same from a session to another have the same tables there, which are written alike.
 use Rattle.std.proofs.Common.{◌≡◌, ℕ, zero, suc, ◌+◌, ◌-◌, ◌<◌, ◌≤◌, ℤ, pos, ◌<ℤ◌, ◌≤ℤ◌, List, [], ◌∷◌, ◌++◌, AllPairs, map, filter, flat_map, option_to_list, unwrap_or, Option, Some, None, refl, ◌∙◌, ap, arith}
 use Rattle.std.proofs.Math.Path.{fun_ext}
-use Rattle.std.specs.Fmt.{decimal}
 use Rattle.std.specs.List.{range_with_len}
 use Rattle.std.proofs.lemmas.Int.{ints}
 use Rattle.pl_spec.specs.declared.Format.{Format}
-use Rattle.pl_spec.specs.Dates.{date_text}
-use Rattle.pl_spec.specs.Lines.{line_text}
+use Rattle.pl_spec.specs.Lines.{day_field, line_text, sid_field}
 use Rattle.pl_spec.specs.World.{World, living_sids}
 use Rattle.pl_spec.proofs.Each.{Each, each_more, each_all, each_in_map, each_in_flat, map_each}
 use Rattle.pl_pipeline.specs.Graph.{reach}
@@ -89,7 +87,7 @@ module _ (w v : World) (rise : AllPairs (λ a b. a <ℤ b) w.days) (first last :
       (each_of_range _ (suc to - from) from (λ d l m. each_in_map _ (table_row v p (pos d)) (kept_sids v p (pos d)) (each_all _ (kept_sids v p (pos d)) (λ a. dated d a (omega (arith, ints))))))
     where
       dated : (d a : ℕ) → pos d ≤ℤ last → row_line w p format (table_row v p (pos d) a) ≡ row_line v p format (table_row v p (pos d) a)
-      dated d a l = ap (λ o. line_text format (date_text (unwrap_or o (pos 0))) (decimal a) (row_fields p format p.columns (table_row v p (pos d) a).values)) (same.days (pos d) l)
+      dated d a l = ap (λ o. line_text format (day_field format (unwrap_or o (pos 0))) (sid_field format a) (row_fields p format p.columns (table_row v p (pos d) a).values)) (same.days (pos d) l)
 
   pub one_table : HaveOneTable w v p from to
   unfolding text

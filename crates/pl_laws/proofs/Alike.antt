@@ -1,6 +1,5 @@
 -- Worlds in which whatever is looked up is the same, or does the same to each cell, have the same tables.
 use Rattle.std.proofs.Common.{◌≡◌, ℕ, suc, ◌-◌, false, ◌==◌, ℤ, pos, negsuc, ◌≤ℤ◌, List, [], ◌++◌, map, filter, flat_map, Option, Some, None, option_map, unwrap_or, refl, sym, ◌∙◌, ap, arith, slice_get}
-use Rattle.std.specs.Fmt.{decimal}
 use Rattle.std.specs.List.{list_any}
 use Rattle.std.proofs.Math.Path.{fun_ext}
 use Rattle.std.proofs.lemmas.Int.{ints}
@@ -14,9 +13,8 @@ use Rattle.pl_pipeline.specs.Term.{Term}
 use Rattle.pl_pipeline.specs.Term.Term.{absent, column, node}
 use Rattle.pl_pipeline.specs.Value.{empty, sort_kind, seen, value}
 use Rattle.pl_pipeline.specs.Table.{Pipeline, Row, is_kept, table_row, session_rows, table}
-use Rattle.pl_spec.specs.Dates.{date_text}
 use Rattle.pl_pipeline.specs.Text.{header, row_fields, row_line, text}
-use Rattle.pl_spec.specs.Lines.{line_text}
+use Rattle.pl_spec.specs.Lines.{day_field, line_text, sid_field}
 use Rattle.pl_laws.specs.PermutedLaws.{AgreeingWorldsAreAlike}
 use Rattle.pl_laws.proofs.Law as law
 use Rattle.pl_laws.proofs.Law.{SeenAlike}
@@ -103,7 +101,7 @@ module _ (w v : World) (ok : IsWorld w) (ok' : IsWorld v) (all : SeenInAll w v) 
 
   line_same : (p : Pipeline) (format : Format) (r : Row) → row_line w p format r ≡ row_line v p format r
   line_same p format r =
-      ap (λ o. line_text format (date_text (unwrap_or o (pos 0))) (decimal r.sid) (row_fields p format p.columns r.values)) (same-day r.session)
+      ap (λ o. line_text format (day_field format (unwrap_or o (pos 0))) (sid_field format r.sid) (row_fields p format p.columns r.values)) (same-day r.session)
 
   pub text_same : (p : Pipeline) (format : Format) (from to : ℕ) → text w p format (table w p from to) ≡ text v p format (table v p from to)
   unfolding text

@@ -1,16 +1,14 @@
 -- What came to be known later doesn't change the text of a table.
 use Rattle.std.proofs.Common.{◌≡◌, ℕ, zero, suc, ◌+◌, ◌-◌, ◌<◌, ◌≤◌, ℤ, pos, ◌≤ℤ◌, List, [], ◌∷◌, ◌++◌, map, flat_map, unwrap_or, refl, sym, ◌∙◌, ap, arith}
-use Rattle.std.specs.Fmt.{decimal}
 use Rattle.std.specs.List.{range_with_len}
 use Rattle.std.proofs.lemmas.Grind.{flat_map-append}
 use Rattle.std.proofs.lemmas.Int.{ints}
 use Rattle.pl_spec.specs.declared.Format.{Format}
-use Rattle.pl_spec.specs.Dates.{date_text}
 use Rattle.pl_spec.specs.World.{World, IsWorld}
 use Rattle.pl_spec.specs.Agree.{Agree}
 use Rattle.pl_pipeline.specs.Table.{Pipeline, Row, kept_sids, table_row, session_rows, table}
 use Rattle.pl_pipeline.specs.Text.{header, row_fields, row_line, text}
-use Rattle.pl_spec.specs.Lines.{line_text}
+use Rattle.pl_spec.specs.Lines.{day_field, line_text, sid_field}
 use Rattle.pl_laws.proofs.Law.{agree-seen}
 use Rattle.pl_laws.proofs.TableLaw.{table_same}
 
@@ -18,7 +16,7 @@ module _ (w v : World) (d day : ℤ) (agree : Agree w v d day) (p : Pipeline) (f
   lines_same : (s : ℤ) → s ≤ℤ d → (sids : List ℕ) → flat_map (row_line w p format) (map (table_row v p s) sids) ≡ flat_map (row_line v p format) (map (table_row v p s) sids)
   lines_same s l [] = refl
   lines_same s l (a ∷ more) =
-      ap (λ o. line_text format (date_text (unwrap_or o (pos 0))) (decimal a) (row_fields p format p.columns (table_row v p s a).values) ++ flat_map (row_line w p format) (map (table_row v p s) more)) (agree.days s l)
+      ap (λ o. line_text format (day_field format (unwrap_or o (pos 0))) (sid_field format a) (row_fields p format p.columns (table_row v p s a).values) ++ flat_map (row_line w p format) (map (table_row v p s) more)) (agree.days s l)
       ∙ ap (λ ls. row_line v p format (table_row v p s a) ++ ls) (lines_same s l more)
 
   abbrev rows_from : ℕ → ℕ → List Row

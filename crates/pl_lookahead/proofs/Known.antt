@@ -12,11 +12,9 @@ use Rattle.pl_spec.specs.Window.{effects_in}
 use Rattle.pl_spec.proofs.Finds.{filter-contains}
 use Rattle.pl_spec.proofs.Numbers.{numbers_look_back}
 use Rattle.std.proofs.Math.Path.{fun_ext}
-use Rattle.std.specs.Fmt.{decimal}
 use Rattle.std.specs.Int.RustNames.{int_le}
 use Rattle.std.specs.Prelude.{unwrap_or}
-use Rattle.pl_spec.specs.Dates.{date_text}
-use Rattle.pl_spec.specs.Lines.{line_text}
+use Rattle.pl_spec.specs.Lines.{day_field, line_text, sid_field}
 use Rattle.pl_spec.proofs.Labels.{labels-of_days}
 use Rattle.pl_pipeline.specs.Table.{Pipeline, Row, table}
 use Rattle.pl_pipeline.specs.Text.{header, row_fields, row_line, text}
@@ -120,4 +118,4 @@ module _ (w v : World) (d : ℕ) (day : ℤ) (ok : HasEachOnce w) (ok' : IsWorld
       lines-of_days = ap (λ f. header p format ++ flat_map f (table dated p from to)) (fun_ext same_line)
         where
           same_line : (r : Row) → row_line dated p format r ≡ row_line v p format r
-          same_line r = ap (λ o. line_text format (date_text (unwrap_or o (pos 0))) (decimal r.sid) (row_fields p format p.columns r.values)) (day_of-days dated v refl r.session)
+          same_line r = ap (λ o. line_text format (day_field format (unwrap_or o (pos 0))) (sid_field format r.sid) (row_fields p format p.columns r.values)) (day_of-days dated v refl r.session)

@@ -12,7 +12,7 @@ ghost use Rattle.pl_runner.specs.Sessions.{IsFedSession, pipeline_in, rows_in_ra
 use crate::session::FedSession;
 use pl_daily::Daily;
 use pl_outside::{Failed, Sink, write_bytes};
-use pl_table::{Asked, Line, put_cell, put_date, put_sid, writing_of};
+use pl_table::{Asked, Line, put_cell, put_date, put_end, put_sid, writing_of};
 
 /// Writes the rows of the session that was fed last, each in one piece, where it is of the plan's range.
 pub(crate) fn write_session<O: Sink>(
@@ -81,7 +81,7 @@ fn write_row<O: Sink>(
     put_date(line, asked.format, asked.world.sessions.day(fed.session));
     put_sid(line, asked.format, asked.world.assets.sid(col));
     put_values(fed, i, line);
-    line.put(b"\n");
+    put_end(line, asked.format);
     write_bytes(out, line.as_slice())
 }
 

@@ -48,12 +48,15 @@ pub enum Frequency {
     WeekStart,
 }
 
-/// The form of a table's text: fields with commas between them, or columns of one width with a space between
-/// them: the date in 10 bytes, the sid in 10, each value in 20. A longer text stays whole.
+/// The form of a table: fields with commas between them; columns of one width with a space between them, the
+/// date in 10 bytes, the sid in 10, each value in 20, where a longer text stays whole; or numbers as a machine
+/// has them, low bytes first, with nothing between them: the day in 4 bytes, the sid in 4, a factor's cell in
+/// 8, a filter's value in 1, a bin in 8, a label's text in 64.
 #[derive(Clone, Copy, Debug, PartialEq, Eq)]
 pub enum Format {
     Csv,
     Fixed,
+    Cells,
 }
 
 /// An asset, which exists on each session whose day is later than `start` and at most `end`, as in Zipline.

@@ -5,8 +5,6 @@ use Rattle.std.proofs.lemmas.Grind.{flat_map-append}
 use Rattle.std.proofs.lemmas.Option.{slice_get-get_or, slice_get_within, get_or_from_slice_get}
 use Rattle.std.proofs.lemmas.List.{get_or-map, take_more, append-nil}
 use Rattle.pl_spec.specs.declared.AssetRow.{AssetRow}
-use Rattle.pl_spec.specs.declared.Format.{Format}
-use Rattle.pl_table.specs.Fields.{field_part}
 use Rattle.pl_spec.specs.Parts.{sid_at}
 use Rattle.pl_spec.specs.World.{World}
 use Rattle.pl_pipeline.specs.Table.{Pipeline, NamedColumn, value_of, in_array}
@@ -45,23 +43,14 @@ pub cell-is : (w : World) (p : Pipeline) (sids : List ℕ) (t i s : ℕ) → cel
 unfolding cell_of
 cell-is w p sids t i s = refl
 
--- the names of one column more
-pub names-more : (format : Format) (cs : List code.NamedColumn) (i : ℕ) (name : List ℕ) → option_map (λ (c : code.NamedColumn). c.name) (slice_get cs i) ≡ Some name
-    → flat_map (λ c. field_part format c.name) (take (i + 1) (columns_of cs)) ≡ flat_map (λ c. field_part format c.name) (take i (columns_of cs)) ++ field_part format name
-names-more format cs i name e = here (slice_get cs i) refl e
-  where
-    here : (o : Option code.NamedColumn) → slice_get cs i ≡ o → option_map (λ (c : code.NamedColumn). c.name) o ≡ Some name
-        → flat_map (λ (c : NamedColumn). field_part format c.name) (take (i + 1) (columns_of cs)) ≡ flat_map (λ (c : NamedColumn). field_part format c.name) (take i (columns_of cs)) ++ field_part format name
-    here None g h = absurd (let bad : None ≡ Some name = h in cc)
-    here (Some c) g h =
-        let own : c.name ≡ name = (let q : Some c.name ≡ Some name = h in cc) in
-        let at = column-there cs i c g in
-        let inside = slice_get_within (columns_of cs) i (column_of c) at in
-        ap (flat_map (λ (x : NamedColumn). field_part format x.name)) (take_more (columns_of cs) i (column_of c) inside)
-        ∙ flat_map-append (λ (x : NamedColumn). field_part format x.name) (take i (columns_of cs)) (get_or (columns_of cs) i (column_of c) ∷ [])
-        ∙ ap (λ (t : List ℕ). flat_map (λ (x : NamedColumn). field_part format x.name) (take i (columns_of cs)) ++ t) (append-nil (field_part format (get_or (columns_of cs) i (column_of c)).name))
-        ∙ ap (λ (x : NamedColumn). flat_map (λ (y : NamedColumn). field_part format y.name) (take i (columns_of cs)) ++ field_part format x.name) (get_or_from_slice_get (columns_of cs) i (column_of c) (column_of c) at)
-        ∙ ap (λ (n : List ℕ). flat_map (λ (y : NamedColumn). field_part format y.name) (take i (columns_of cs)) ++ field_part format n) own
+-- one column more
+pub columns-more : (part : NamedColumn → List ℕ) (cs : List NamedColumn) (i : ℕ) (c : NamedColumn) → slice_get cs i ≡ Some c
+    → flat_map part (take (i + 1) cs) ≡ flat_map part (take i cs) ++ part c
+columns-more part cs i c at =
+    ap (flat_map part) (take_more cs i c (slice_get_within cs i c at))
+    ∙ flat_map-append part (take i cs) (get_or cs i c ∷ [])
+    ∙ ap (λ (t : List ℕ). flat_map part (take i cs) ++ t) (append-nil (part (get_or cs i c)))
+    ∙ ap (λ (x : NamedColumn). flat_map part (take i cs) ++ part x) (get_or_from_slice_get cs i c c at)
 
 pub parts-more : (front parts more piece old new : List ℕ) → old ≡ front ++ parts → new ≡ old ++ piece → more ≡ parts ++ piece → new ≡ front ++ more
 parts-more front parts more piece old new a b d = b ∙ ap (λ (t : List ℕ). t ++ piece) a ∙ append_assoc front parts piece ∙ ap (λ (t : List ℕ). front ++ t) (sym d)

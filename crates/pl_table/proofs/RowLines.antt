@@ -1,17 +1,16 @@
 -- The line of a row.
-use Rattle.std.proofs.Common.{◌≡◌, ℕ, ◌+◌, ◌<◌, ℤ, pos, List, [], ◌∷◌, ◌++◌, length, take, get_or, Some, Option, unwrap_or, decimal, refl, sym, ap, ◌∙◌}
+use Rattle.std.proofs.Common.{◌≡◌, ℕ, ◌+◌, ◌<◌, ℤ, pos, List, [], ◌∷◌, ◌++◌, length, take, get_or, Some, Option, unwrap_or, refl, sym, ap, ◌∙◌}
 use Rattle.std.specs.Prelude.{flat_map, slice_get}
 use Rattle.std.proofs.lemmas.List.{take_more}
 use Rattle.std.proofs.lemmas.Grind.{flat_map-append}
 use Rattle.std.proofs.lemmas.List.{append-nil}
 use Rattle.std.proofs.lemmas.Option.{get_or_from_slice_get}
 use Rattle.pl_spec.specs.declared.Format.{Format}
-use Rattle.pl_spec.specs.Dates.{date_text}
 use Rattle.pl_spec.specs.World.{World, day_of}
 use Rattle.pl_pipeline.specs.Table.{Pipeline, NamedColumn, table_row}
-use Rattle.pl_spec.specs.Lines.{line_text}
+use Rattle.pl_spec.specs.Lines.{day_field, line_text, sid_field}
 use Rattle.pl_pipeline.specs.Text.{row_fields, row_line}
-use Rattle.pl_table.specs.Fields.{date_part, sid_part, field_part}
+use Rattle.pl_table.specs.Fields.{date_part, end_part, sid_part, field_part}
 use Rattle.pl_table.specs.Rows.{row_values, value_part, value_fields}
 use Rattle.pl_table.proofs.Lines.{line-is}
 
@@ -22,20 +21,20 @@ fields-are w p format a d [] = refl
 fields-are w p format a d (c ∷ cs) = ap (λ (t : List ℕ). value_part w p format a d c ++ t) (fields-are w p format a d cs)
 
 pub row_line-is : (w : World) (p : Pipeline) (format : Format) (a s : ℕ) (day : ℤ) → day_of w (pos s) ≡ Some day
-    → row_line w p format (table_row w p (pos s) a) ≡ (date_part format (date_text day) ++ sid_part format (decimal a)) ++ value_fields w p format a (pos s) p.columns ++ 10 ∷ []
+    → row_line w p format (table_row w p (pos s) a) ≡ (date_part format (day_field format day) ++ sid_part format (sid_field format a)) ++ value_fields w p format a (pos s) p.columns ++ end_part format
 row_line-is w p format a s day is =
-    ap (λ (o : Option ℤ). line_text format (date_text (unwrap_or o (pos 0))) (decimal a) (row_fields p format p.columns (row_values w p a (pos s) p.columns))) is
-    ∙ line-is format (date_text day) (decimal a) (row_fields p format p.columns (row_values w p a (pos s) p.columns))
-    ∙ ap (λ (t : List ℕ). (date_part format (date_text day) ++ sid_part format (decimal a)) ++ t ++ 10 ∷ []) (fields-are w p format a (pos s) p.columns)
+    ap (λ (o : Option ℤ). line_text format (day_field format (unwrap_or o (pos 0))) (sid_field format a) (row_fields p format p.columns (row_values w p a (pos s) p.columns))) is
+    ∙ line-is format (day_field format day) (sid_field format a) (row_fields p format p.columns (row_values w p a (pos s) p.columns))
+    ∙ ap (λ (t : List ℕ). (date_part format (day_field format day) ++ sid_part format (sid_field format a)) ++ t ++ end_part format) (fields-are w p format a (pos s) p.columns)
 
 -- a line that is put together from its parts
 pub put-together : (w : World) (p : Pipeline) (format : Format) (a s : ℕ) (day : ℤ) (l0 l1 l2 l3 l4 : List ℕ) → day_of w (pos s) ≡ Some day → l0 ≡ []
-    → l1 ≡ l0 ++ date_part format (date_text day) → l2 ≡ l1 ++ sid_part format (decimal a) → l3 ≡ l2 ++ value_fields w p format a (pos s) p.columns → l4 ≡ l3 ++ 10 ∷ []
+    → l1 ≡ l0 ++ date_part format (day_field format day) → l2 ≡ l1 ++ sid_part format (sid_field format a) → l3 ≡ l2 ++ value_fields w p format a (pos s) p.columns → l4 ≡ l3 ++ end_part format
     → l4 ≡ row_line w p format (table_row w p (pos s) a)
 put-together w p format a s day l0 l1 l2 l3 l4 is none date sid values end =
-    let front : l2 ≡ date_part format (date_text day) ++ sid_part format (decimal a) =
-    sid ∙ ap (λ (t : List ℕ). t ++ sid_part format (decimal a)) (date ∙ ap (λ (t : List ℕ). t ++ date_part format (date_text day)) none) in
-    end ∙ ap (λ (t : List ℕ). t ++ 10 ∷ []) (values ∙ ap (λ (t : List ℕ). t ++ value_fields w p format a (pos s) p.columns) front)
+    let front : l2 ≡ date_part format (day_field format day) ++ sid_part format (sid_field format a) =
+    sid ∙ ap (λ (t : List ℕ). t ++ sid_part format (sid_field format a)) (date ∙ ap (λ (t : List ℕ). t ++ date_part format (day_field format day)) none) in
+    end ∙ ap (λ (t : List ℕ). t ++ end_part format) (values ∙ ap (λ (t : List ℕ). t ++ value_fields w p format a (pos s) p.columns) front)
     ∙ sym (row_line-is w p format a s day is)
 
 -- the fields of one column more

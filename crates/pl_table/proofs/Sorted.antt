@@ -12,11 +12,11 @@ use Rattle.pl_pipeline.specs.declared.WindowKind.{WindowKind}
 use Rattle.pl_pipeline.specs.Term as spec
 use Rattle.pl_pipeline.specs.Value.{Value, is_filter, is_window_filter, is_point_filter, is_cross_filter, holds}
 use Rattle.pl_pipeline.specs.Table.{Pipeline, value_of, in_array, is_kept}
-use Rattle.pl_spec.specs.declared.Format.TheVariants.{Csv}
+use Rattle.pl_spec.specs.declared.Format.TheVariants.{Csv, Fixed, Cells}
 use Rattle.pl_cross.specs.Arrays.{sid_in}
 use Rattle.pl_values.specs.Arrays.{cell_of}
 use Rattle.pl_table.proofs.Outputs.{cell-is}
-use Rattle.pl_pipeline.specs.Text.{value_field, kind_at, number_text, is_numbered}
+use Rattle.pl_pipeline.specs.Text.{value_field, kind_at, kind_word, number_bytes, number_field, number_text, is_labelled, is_numbered}
 use Rattle.pl_spec.specs.Lines.{label_text}
 use Rattle.pl_terms.specs.declared.node.Node.{Node}
 use Rattle.pl_terms.specs.Nodes.{graph_of}
@@ -32,7 +32,7 @@ use Rattle.pl_values.proofs.Numbers.{numbered-sort, coded-sort}
 use Rattle.pl_values.proofs.Plain.{placed, coded-code}
 use Rattle.pl_table.specs.declared.writing.Writing.{Writing}
 use Rattle.pl_table.specs.declared.writing.Writing.TheVariants.{Cell, Truth, Whole, Label}
-use Rattle.pl_table.specs.Fields.{cell_field, sort_written}
+use Rattle.pl_table.specs.Fields.{cell_field, number_part, sort_written, word_written}
 
 -- the sort of a term that is there
 pub sort-there : (nodes : List Node) (t : ℕ) (k : Kind) (r : Sort) → t < length nodes → k ≡ kind_at (graph_of nodes) t → sort_of k ≡ r → sort_at (graph_of nodes) t ≡ Some r
@@ -55,6 +55,10 @@ is_filters r = false
 abbrev is_numbers : Sort → Bool
 is_numbers Numbers = true
 is_numbers r = false
+
+abbrev is_labels : Sort → Bool
+is_labels Labels = true
+is_labels r = false
 
 -- whether a kind is a filter or is numbered is what its sort says
 abbrev IsSorted : Bool → Bool → Sort → Type 0
@@ -79,6 +83,39 @@ sorted (kind.Point k) = point-sorted k
 sorted (kind.Cross k) = cross-sorted k
 sorted k = (refl, refl)
 
+window-labelled : (k : WindowKind) → is_labels (window_sort k) ≡ false
+window-labelled window.All = refl
+window-labelled k = refl
+
+point-labelled : (k : PointKind) → is_labels (point_sort k) ≡ false
+point-labelled kind.Add = refl
+point-labelled k = refl
+
+cross-labelled : (k : CrossKind) → is_labels (cross_sort k) ≡ false
+cross-labelled (kind.Top n) = refl
+cross-labelled k = refl
+
+labelled : (k : Kind) → is_labelled k ≡ is_labels (sort_of k)
+unfolding sort_of
+labelled (kind.Window k) = sym (window-labelled k)
+labelled (kind.Point k) = sym (point-labelled k)
+labelled (kind.Cross k) = sym (cross-labelled k)
+labelled k = refl
+
+-- the word for a term's bytes is that of how it is written
+pub word-is : (g : List spec.Node) (t : ℕ) (r : Writing) → sort_at g t ≡ Some (sort_written r) → kind_word (kind_at g t) ≡ word_written r
+word-is g t r s =
+    let m = sorted-there g t (sort_written r) s in
+    let k = kind_at g t in
+    here r ((sorted k).0 ∙ ap is_filters m.2) ((sorted k).1 ∙ ap is_numbers m.2) (labelled k ∙ ap is_labels m.2)
+  where
+    here : (q : Writing) → is_filter (kind_at g t) ≡ is_filters (sort_written q) → is_numbered (kind_at g t) ≡ is_numbers (sort_written q)
+        → is_labelled (kind_at g t) ≡ is_labels (sort_written q) → kind_word (kind_at g t) ≡ word_written q
+    here Cell f n l = rw (l, f, n) refl
+    here Truth f n l = rw (l, f) refl
+    here Whole f n l = rw (l, f, n) refl
+    here Label f n l = rw l refl
+
 -- ---- fields
 
 missing-text : (x : ℤ) (b : Bool) → is_missing x ≡ b → (if is_missing x then [] else cell_text x) ≡ cell_text x
@@ -86,13 +123,19 @@ unfolding cell_text
 missing-text x true e = rw e refl
 missing-text x false e = rw e refl
 
+parts : (format : Format) (k : Kind) (x : ℤ) (text bytes : List ℕ) → number_text k x ≡ text → number_bytes k x ≡ bytes → number_field format k x ≡ number_part format text bytes
+parts Csv k x text bytes a b = a
+parts Fixed k x text bytes a b = a
+parts Cells k x text bytes a b = b
+
 number-field : (format : Format) (texts : List (List ℕ)) (k : Kind) (r : Writing) (x : ℤ) → sort_of k ≡ sort_written r → (sort_written r ≡ Labels → ⊥)
-    → number_text k x ≡ cell_field format texts r x
+    → number_field format k x ≡ cell_field format texts r x
 number-field format texts k Cell x s other =
-    let f = (sorted k).0 ∙ ap is_filters s in let n = (sorted k).1 ∙ ap is_numbers s in rw (f, n) (missing-text x (is_missing x) refl)
-number-field format texts k Truth x s other = let f = (sorted k).0 ∙ ap is_filters s in rw f refl
+    let f = (sorted k).0 ∙ ap is_filters s in let n = (sorted k).1 ∙ ap is_numbers s in
+    parts format k x _ _ (rw (f, n) (missing-text x (is_missing x) refl)) (rw f refl)
+number-field format texts k Truth x s other = let f = (sorted k).0 ∙ ap is_filters s in parts format k x _ _ (rw f refl) (rw f refl)
 number-field format texts k Whole x s other =
-    let f = (sorted k).0 ∙ ap is_filters s in let n = (sorted k).1 ∙ ap is_numbers s in rw (f, n) refl
+    let f = (sorted k).0 ∙ ap is_filters s in let n = (sorted k).1 ∙ ap is_numbers s in parts format k x _ _ (rw (f, n) refl) (rw f refl)
 number-field format texts k Label x s other = absurd (other refl)
 
 coded-field : (format : Format) (texts : List (List ℕ)) (k : Kind) (v : Value) → IsCoded texts v → value_field format k v ≡ cell_field format texts Label (in_array texts v)

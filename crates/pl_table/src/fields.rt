@@ -1,10 +1,11 @@
 //! The fields of a line.
-ghost use Rattle.std.specs.Prelude.{◌≡◌, ◌≤◌, ◌<◌, ◌+◌, ◌++◌, [], length, decimal, slice_index_or};
+ghost use Rattle.std.specs.Prelude.{◌≡◌, ◌≤◌, ◌+◌, ◌++◌, length};
 ghost use Rattle.pl_spec.specs.Rounding.{IsCell};
-ghost use Rattle.pl_spec.specs.Dates.{IsDay, date_text};
-ghost use Rattle.pl_spec.specs.Lines.{label_text};
+ghost use Rattle.pl_spec.specs.Limits.{most_label_bytes};
+ghost use Rattle.pl_spec.specs.Dates.{IsDay};
+ghost use Rattle.pl_spec.specs.Lines.{day_field, eight_bytes, label_text, quote, sid_field};
 ghost use Rattle.pl_values.specs.Families.{IsCode};
-ghost use Rattle.pl_table.specs.Fields.{cell_field, date_part, field_part, sid_part};
+ghost use Rattle.pl_table.specs.Fields.{cell_field, date_part, end_part, field_part, sid_part};
 ghost use Rattle.pl_table.specs.declared.writing.Writing.TheVariants as Writing;
 
 use crate::line::Line;
@@ -14,38 +15,55 @@ use pl_assets::Labels;
 use pl_fixed::{MISSING, write_day, write_decimal};
 use pl_spec::Format;
 
-/// Puts the date `YYYY-MM-DD` of a day, counted from 1970-01-01, as the first field of a line.
+/// Puts a day, counted from 1970-01-01, as the first field of a line: its date `YYYY-MM-DD`, or four bytes.
 pub fn put_date(line: &mut Line, format: Format, day: i32)
     requires date { IsDay day }
     requires room { length line.old + 10 ≤ 8_448 }
-    ensures text { line.new ≡ line.old ++ date_part format (date_text day) }
+    ensures text { line.new ≡ line.old ++ date_part format (day_field format day) }
     ensures within { length line.new ≤ length line.old + 10 }
 {
     let mut date = [0u8; 10];
-    write_day(day, &mut date);
     // a date fills the ten places that the fixed form has for it
     match format {
-        Format::Csv => line.put(&date),
-        Format::Fixed => line.put(&date),
+        Format::Csv | Format::Fixed => {
+            write_day(day, &mut date);
+            line.put(&date);
+        }
+        Format::Cells => line.put(&day.cast_unsigned().to_le_bytes()),
     }
 }
 
-/// Puts a sid after the date: after a comma, or set right in a column of 10 bytes after a space.
+/// Puts a sid after the date: after a comma, set right in a column of 10 bytes after a space, or four bytes.
 pub fn put_sid(line: &mut Line, format: Format, sid: u32)
     requires { length line.old + 11 ≤ 8_448 }
-    ensures text { line.new ≡ line.old ++ sid_part format (decimal sid) }
+    ensures text { line.new ≡ line.old ++ sid_part format (sid_field format sid) }
     ensures within { length line.new ≤ length line.old + 11 }
 {
     let mut buffer = Buffer::new();
-    let text = buffer.format(sid).as_bytes();
     match format {
-        Format::Csv => line.put(b","),
+        Format::Csv => {
+            line.put(b",");
+            line.put(buffer.format(sid).as_bytes());
+        }
         Format::Fixed => {
+            let text = buffer.format(sid).as_bytes();
             line.put(b" ");
             line.put_spaces(10usize.saturating_sub(text.len()));
+            line.put(text);
         }
+        Format::Cells => line.put(&sid.to_le_bytes()),
     }
-    line.put(text);
+}
+
+/// Puts what ends a line: a line end after a text, nothing after bytes.
+pub fn put_end(line: &mut Line, format: Format)
+    requires { length line.old + 1 ≤ 8_448 }
+    ensures { line.new ≡ line.old ++ end_part format }
+{
+    match format {
+        Format::Csv | Format::Fixed => line.put(b"\n"),
+        Format::Cells => {}
+    }
 }
 
 // Puts the text of a further field.
@@ -61,13 +79,24 @@ fn put_text(line: &mut Line, format: Format, text: &[u8])
             line.put(b" ");
             line.put_spaces(20usize.saturating_sub(text.len()));
         }
+        Format::Cells => {}
     }
     line.put(text);
 }
 
+// Puts a cell as eight bytes.
+fn put_bytes(line: &mut Line, cell: i64)
+    requires room { length line.old + 131 ≤ 8_448 }
+    ensures text { line.new ≡ line.old ++ eight_bytes cell }
+    ensures within { length line.new ≤ length line.old + 131 }
+{
+    line.put(&cell.cast_unsigned().to_le_bytes());
+}
+
 /// Puts the field of a cell after the others: in csv a comma, and a number with six decimals, `true` or
 /// `false`, a bin's whole number or a label's text, quoted where it has to be; nothing where it is missing.
-/// In the other form it is set right in a column of 20 bytes, after a space.
+/// In the fixed form it is set right in a column of 20 bytes, after a space. As bytes it is a cell or a bin in
+/// eight of them, a truth value in one, a label's text in 64 with zeros after it.
 pub fn put_cell(line: &mut Line, format: Format, writing: Writing, cell: i64, labels: &Labels)
     requires cell { IsCell cell }
     requires code { writing ≡ Writing.Label → IsCode labels.now.texts cell }
@@ -98,6 +127,7 @@ fn put_number(line: &mut Line, format: Format, labels: &Labels, cell: i64)
             let len = write_decimal(cell, &mut text);
             put_text(line, format, &text[..len]);
         }
+        Format::Cells => put_bytes(line, cell),
     }
 }
 
@@ -107,7 +137,9 @@ fn put_truth(line: &mut Line, format: Format, labels: &Labels, cell: i64)
         (cell_field format labels.now.texts Writing.Truth cell) }
     ensures within { length line.new ≤ length line.old + 131 }
 {
-    if cell == MISSING {
+    if format == Format::Cells {
+        line.put(&[u8::from(cell == 1)]);
+    } else if cell == MISSING {
         put_text(line, format, b"");
     } else if cell == 1 {
         put_text(line, format, b"true");
@@ -122,7 +154,9 @@ fn put_whole(line: &mut Line, format: Format, labels: &Labels, cell: i64)
         (cell_field format labels.now.texts Writing.Whole cell) }
     ensures within { length line.new ≤ length line.old + 131 }
 {
-    if cell == MISSING {
+    if format == Format::Cells {
+        put_bytes(line, cell);
+    } else if cell == MISSING {
         put_text(line, format, b"");
     } else {
         let mut buffer = Buffer::new();
@@ -140,25 +174,27 @@ fn put_label(line: &mut Line, format: Format, labels: &Labels, code: i64)
     // there are few labels, so that codes are numbers of 32 bits
     let _rows = labels.len();
     if code == MISSING {
-        put_text(line, format, b"");
+        put_label_text(line, format, b"", b"");
     } else {
-        put_text(
-            line,
-            format,
-            label_text(labels, format, code.unsigned_abs() as u32),
-        );
+        let code = code.unsigned_abs() as u32;
+        put_label_text(line, format, labels.text(code), labels.csv_text(code));
     }
 }
 
-// A label in quotes has at most twice its bytes and two more.
-fn label_text<'a>(labels: &'a Labels, format: Format, code: u32) -> &'a [u8]
-    requires { code < length labels.now.texts }
-    ensures text { result.now ≡ label_text format (slice_index_or labels.now.texts code []) }
-    ensures short { length result.now ≤ 130 }
+// Puts the text of a label, of which the one for csv is given, too.
+fn put_label_text(line: &mut Line, format: Format, text: &[u8], quoted: &[u8])
+    requires short { length text.now ≤ most_label_bytes }
+    requires quoted { quoted.now ≡ quote text.now }
+    requires room { length line.old + 131 ≤ 8_448 }
+    ensures text { line.new ≡ line.old ++ field_part format (label_text format text.now) }
+    ensures within { length line.new ≤ length line.old + 131 }
 {
-    let text = labels.text(code);
     match format {
-        Format::Csv => labels.csv_text(code),
-        Format::Fixed => text,
+        Format::Csv => put_text(line, format, quoted),
+        Format::Fixed => put_text(line, format, text),
+        Format::Cells => {
+            line.put(text);
+            line.put_zeros(64usize.saturating_sub(text.len()));
+        }
     }
 }

@@ -18,7 +18,7 @@ mod writing;
 
 pub use asked::{Asked, is_asked};
 pub use error::RunError;
-pub use fields::{put_cell, put_date, put_sid};
+pub use fields::{put_cell, put_date, put_end, put_sid};
 pub use header::make_header;
 pub use line::Line;
 pub use numbers::{Numbers, write_numbers, write_stats};

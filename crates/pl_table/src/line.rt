@@ -1,5 +1,6 @@
 //! A line of the table.
 ghost use Rattle.std.specs.Prelude.{◌≡◌, ◌≤◌, ◌+◌, ◌++◌, [], ◌∷◌, length, replicate, IfOk};
+ghost use Rattle.pl_spec.specs.Limits.{most_label_bytes};
 ghost use Rattle.pl_spec.specs.Rounding.{IsCell};
 ghost use Rattle.pl_spec.specs.Decimals.{cell_text};
 
@@ -62,6 +63,16 @@ impl Line {
     {
         let spaces = [b' '; 20];
         self.put(&spaces[..count]);
+    }
+
+    /// Puts at most 64 zeros at the end.
+    pub(crate) fn put_zeros(&mut self, count: usize)
+        requires few { count ≤ most_label_bytes }
+        requires room { length self.old + count ≤ 8_448 }
+        ensures { self.new ≡ self.old ++ replicate count 0 }
+    {
+        let zeros = [0; 64];
+        self.put(&zeros[..count]);
     }
 
     /// Puts a comma and the decimal text of a cell, which is written where it is to stand.

@@ -12,7 +12,7 @@ ghost use Rattle.pl_table.specs.Rows.{IsPut, has_row, row_values, value_fields};
 ghost use Rattle.pl_table.specs.Sums.{rows_sum, values_sum};
 ghost use Rattle.pl_table.specs.Tiles.{HasRows, first_in, height, tile_len};
 
-use crate::fields::{put_cell, put_date, put_sid};
+use crate::fields::{put_cell, put_date, put_end, put_sid};
 use crate::line::Line;
 use crate::outcome::{Outcome, sid_of};
 use crate::tile::{fill_at_first, row_at};
@@ -158,7 +158,7 @@ fn write_row<O: Sink>(
     put_date(line, format, outcome.asked.world.sessions.day(session));
     put_sid(line, format, sid_of(outcome, place));
     let sum = put_values(&cells, line);
-    line.put(b"\n");
+    put_end(line, format);
     totals.count_row(sum);
     write_bytes(out, line.as_slice())
 }

@@ -6,7 +6,7 @@ use Rattle.pl_spec.specs.Dates.{date_in}
 use Rattle.pl_spec.specs.Decimals.{sid_in}
 use Rattle.pl_spec.specs.Names.{is_name}
 use Rattle.pl_spec.specs.declared.Format as form
-use Rattle.pl_spec.specs.declared.Format.TheVariants.{Csv, Fixed}
+use Rattle.pl_spec.specs.declared.Format.TheVariants.{Csv, Fixed, Cells}
 use Rattle.pl_words.specs.declared.request.RangeDate.{RangeDate}
 use Rattle.pl_words.specs.declared.request.RangeDate.TheVariants.{From, To, AsOf, At}
 use Rattle.pl_words.specs.declared.request.WorldPart.{WorldPart}
@@ -149,7 +149,9 @@ chunk_by values = option_and_then chunk_or (one_value (values option.Chunk))
 
 abbrev pub format_in : Word → Option form.Format
 format_in text =
-    if bytes_eq text (codes "csv") then Some Csv else (if bytes_eq text (codes "fixed") then Some Fixed else None)
+    if bytes_eq text (codes "csv") then Some Csv
+    else if bytes_eq text (codes "fixed") then Some Fixed
+    else if bytes_eq text (codes "cells") then Some Cells else None
 
 -- csv where no format is given
 abbrev pub format_or : Option Word → Option form.Format

@@ -141,6 +141,7 @@ fn format_in(text: &str) -> Option<Format>
     match text {
         "csv" => Some(Format::Csv),
         "fixed" => Some(Format::Fixed),
+        "cells" => Some(Format::Cells),
         _ => None,
     }
 }
