@@ -71,7 +71,7 @@ module _ (days : List ℤ) (assets : List AssetRow) where
       header rules.BadHeader first records others m rows e
 
   -- no two of them are of one cell and known from one day on
-  abbrev Apart : List Revision → Type 0
+  abbrev pub Apart : List Revision → Type 0
   Apart rows = AllPairs (λ x y. is_same y x ≡ false) rows
 
   apart-more : (before : List Revision) (r : Record) (x : Revision) → Apart before → revision_or_rule days assets before r ≡ Ok x → Apart (before ++ x ∷ [])
@@ -81,7 +81,7 @@ module _ (days : List ℤ) (assets : List AssetRow) where
       let at : revision_in r ≡ Some x = ok_or-Ok (revision_in r) rules.BadField x k.1 in
       all_pairs_push (λ x y. is_same y x ≡ false) before x h (none-at (is_same x) before (rw at at k.0.1.1.1.1.1.1.0))
 
-  rows-apart : (records : List Record) (rows : List Revision) → revisions_of days assets records ≡ Ok rows → Apart rows
+  pub rows-apart : (records : List Record) (rows : List Revision) → revisions_of days assets records ≡ Ok rows → Apart rows
   unfolding revisions_of
   rows-apart records rows e =
       rows-keep Apart 2 (revision_or_rule days assets) apart-more _ [] rows (λ i j d h l. absurd (omega arith))

@@ -62,7 +62,7 @@ end-complete o held asked f h s k r = stop-complete o held asked f h s k
 
 -- ---- which faults have the statuses 0 and 9
 
-not-zero : (f : Fault) → status_of f ≡ 0 → ⊥
+pub not-zero : (f : Fault) → status_of f ≡ 0 → ⊥
 not-zero Unwritten e = omega arith
 not-zero f e = omega arith
 

@@ -50,7 +50,7 @@ name_of_code texts t h =
     let same : t ≡ get_or texts (position_or_len (bytes_eq t) texts) [] = (bytes_eq-Decides t _).0 passes in
     rw (is_place (bytes_eq t) texts h, unwrap_or-slice_get texts (position_or_len (bytes_eq t) texts) []) (ap Text (sym same))
 
-abbrev IsKept : List (List ℕ) → Kind → Value → Type 0
+abbrev pub IsKept : List (List ℕ) → Kind → Value → Type 0
 IsKept texts k v = value_from texts k (in_array texts v) ≡ v
 
 kept_if : (texts : List (List ℕ)) (k : Kind) (b : Bool) (v u : Value) → IsKept texts k v → IsKept texts k u → IsKept texts k (if b then v else u)
@@ -88,7 +88,7 @@ module _ (w : World) (known : HasTexts w) (names : List (List ℕ)) where
   now_kept (node k size x y z m g) a d h = h
 
   -- the code of a term's value stands for that value
-  kept : (x : Term) (a : ℕ) (d : ℤ) → IsKept w.texts (sort_kind x) (value w names x a d)
+  pub kept : (x : Term) (a : ℕ) (d : ℤ) → IsKept w.texts (sort_kind x) (value w names x a d)
   unfolding value seen kind_value
   kept absent a d = refl
   kept (column c) a d = refl

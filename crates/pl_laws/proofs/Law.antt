@@ -186,7 +186,7 @@ module _ (w v : World) (d day : ℤ) (ok : IsWorld w) (ok' : IsWorld v) (agree :
   day_before : (s x : ℤ) → s ≤ℤ d → day_of w s ≡ Some x → x ≤ℤ day
   day_before s x h e = day_by w ok s d x day h e agree.is_day
 
-  between_same : (a : ℕ) (c : Column) (low high : Option ℤ) → ((x : ℤ) → high ≡ Some x → x ≤ℤ day) → effects_from c low high (events_of w a) ≡ effects_from c low high (events_of v a)
+  pub between_same : (a : ℕ) (c : Column) (low high : Option ℤ) → ((x : ℤ) → high ≡ Some x → x ≤ℤ day) → effects_from c low high (events_of w a) ≡ effects_from c low high (events_of v a)
   between_same a c None None h = refl
   between_same a c None (Some y) h = refl
   between_same a c (Some x) None h = refl

@@ -1,13 +1,7 @@
 -- Adjustments by place, as the readers make them of tables and revisions.
-use Rattle.std.proofs.Common.{◌≡◌, ℕ, ◌<◌, ◌==◌, false, ℤ, pos, List, [], ◌∷◌, ◌++◌, map, filter, length, get_or, All, AllPairs, Some, Ok, sym, ◌∙◌, ap, arith}
-use Rattle.std.specs.Option.{ok_or}
+use Rattle.std.proofs.Common.{◌≡◌, ℕ, ◌<◌, ◌==◌, ℤ, pos, List, [], ◌++◌, map, filter, length, get_or, All, AllPairs, sym, ◌∙◌, ap, arith}
 use Rattle.std.proofs.lemmas.List.{map-append}
 use Rattle.std.proofs.lemmas.List.Elements.{All-map}
-use Rattle.std.proofs.lemmas.List.Quantifiers.{all_pairs_push}
-use Rattle.pl_records.specs.Reading.{Record}
-use Rattle.pl_records.proofs.Readings.{rows-keep, under_ok}
-use Rattle.pl_records.proofs.RuleTables.{told_ok, ok_or-Ok}
-use Rattle.pl_records.proofs.Sorts.{none-at}
 use Rattle.pl_spec.specs.declared.AssetRow.{AssetRow}
 use Rattle.pl_spec.specs.declared.BarRow.{BarRow}
 use Rattle.pl_spec.specs.Order.{by_day}
@@ -16,30 +10,10 @@ use Rattle.pl_spec.specs.World.{Adjustment, events_of}
 use Rattle.pl_adjust.specs.declared.revisions.Revision.{Revision}
 use Rattle.pl_adjust.specs.Columns.{AreByDay, by_place, in_column}
 use Rattle.pl_adjust.specs.Revised.{revised, revised_by}
-use Rattle.pl_adjust.specs.Revisions.{breaks, header, is_same, revision_in, revision_or_rule, revisions_of}
-use Rattle.pl_adjust.specs.Revisions as rules
 use Rattle.pl_adjust.proofs.ByPlace.{by_place-kept}
 use Rattle.pl_adjust.proofs.Made.{place_known}
 use Rattle.pl_adjust.proofs.RevisedColumns.{cols_with, days_with}
 use Rattle.pl_adjust.proofs.Sids.{Known, by_sid, parts_events}
-
--- no two revisions of a file are of one cell and known from one day on
-module _ (days : List ℤ) (assets : List AssetRow) where
-  abbrev pub Apart : List Revision → Type 0
-  Apart rows = AllPairs (λ x y. is_same y x ≡ false) rows
-
-  apart-more : (before : List Revision) (r : Record) (x : Revision) → Apart before → revision_or_rule days assets before r ≡ Ok x → Apart (before ++ x ∷ [])
-  unfolding revision_or_rule
-  apart-more before r x h e =
-      let k = told_ok rules.rules (breaks days assets before r) (ok_or (revision_in r) rules.BadField) x e in
-      let at : revision_in r ≡ Some x = ok_or-Ok (revision_in r) rules.BadField x k.1 in
-      all_pairs_push (λ x y. is_same y x ≡ false) before x h (none-at (is_same x) before (rw at at k.0.1.1.1.1.1.1.0))
-
-  pub rows-apart : (records : List Record) (rows : List Revision) → revisions_of days assets records ≡ Ok rows → Apart rows
-  unfolding revisions_of
-  rows-apart records rows e =
-      rows-keep Apart 2 (revision_or_rule days assets) apart-more _ [] rows (λ i j d h l. absurd (omega arith))
-      (under_ok header rules.BadHeader (revision_or_rule days assets) records rows e).1
 
 module _ (assets : List AssetRow) where
   -- the adjustments in the columns of their assets, by place

@@ -17,7 +17,7 @@ use Rattle.pl_pipeline.specs.Term.Input.{BarColumn, TermInput}
 use Rattle.pl_pipeline.specs.Value.{holds, passes, name_at}
 use Rattle.pl_pipeline.specs.Table.{Pipeline, value_of, in_array}
 use Rattle.pl_laws.proofs.Law as law
-use Rattle.pl_laws.proofs.Law.{SeenAlike, day_by}
+use Rattle.pl_laws.proofs.Law.{SeenAlike, between_same, day_by}
 use Rattle.pl_laws.proofs.Calendars.{reads_at-same}
 use Rattle.pl_laws.proofs.Starts.{start-within}
 use Rattle.pl_cross.specs.Arrays.{HasTexts}
@@ -28,7 +28,7 @@ use Rattle.pl_derivation.specs.Lines.Line.{SeenLine, ValueLine}
 use Rattle.pl_derivation.specs.Right.{after_each, seen_cells}
 use Rattle.pl_derivation.specs.Walks.{is_in, finish, depth_of, facts_for, date_of, line_for, derivation}
 use Rattle.pl_lookahead.specs.Derivations.{recoded}
-use Rattle.pl_lookahead.proofs.Coded.{kept}
+use Rattle.pl_derivation.proofs.Codes.{kept}
 
 -- ---- facts of sessions up to one
 
@@ -172,19 +172,13 @@ module _ (w v : World) (d day : ℤ) (ok : IsWorld w) (ok' : IsWorld v) (agree :
   date-same : (e : ℤ) → e ≤ℤ d → date_of w e ≡ date_of v e
   date-same e l = ap (λ o. unwrap_or o (pos 0)) (agree.days e l)
 
-  between-same : (a : ℕ) (c : Column) (low high : Option ℤ) → ((x : ℤ) → high ≡ Some x → x ≤ℤ day) → effects_from c low high (events_of w a) ≡ effects_from c low high (events_of v a)
-  between-same a c None None h = refl
-  between-same a c None (Some y) h = refl
-  between-same a c (Some x) None h = refl
-  between-same a c (Some x) (Some y) h = agree.changes a c x x y (h y refl)
-
   cells-same : (a : ℕ) (c : Column) (s e : ℤ) → s <ℤ e → e ≤ℤ d → seen_cells w a c s e ≡ seen_cells v a c s e
   cells-same a c s e before_e by_d =
       let bars : bar_cell w a c s ≡ bar_cell v a c s = agree.bars a c s (omega (arith, ints)) in
       let day_s : day_of w s ≡ day_of v s = agree.days s (omega (arith, ints)) in
       let day_e : day_of w e ≡ day_of v e = agree.days e by_d in
       let rows : effects w a c s e ≡ effects v a c s e =
-      between-same a c (day_of w s) (day_of w e) (λ x at_e. day_by w ok e d x day by_d at_e agree.is_day)
+      between_same w v d day ok ok' agree a c (day_of w s) (day_of w e) (λ x at_e. day_by w ok e d x day by_d at_e agree.is_day)
       ∙ ap (λ o. effects_from c o (day_of w e) (events_of v a)) day_s ∙ ap (λ o. effects_from c (day_of v s) o (events_of v a)) day_e in
       ap (λ x. after_each x (effects w a c s e)) bars ∙ ap (after_each (bar_cell v a c s)) rows
 

@@ -1,13 +1,10 @@
 -- The world of contents that were read: its rows are there once each, and what its adjustments do.
-use Rattle.std.proofs.Common.{◌≡◌, ℕ, ◌<◌, ◌==◌, false, ℤ, List, [], ◌∷◌, ◌++◌, map, filter, length, All, AllPairs, IsPermutation, Option, Some, None, Result, Ok, Err, refl, sym, ◌∙◌, ap, arith}
+use Rattle.std.proofs.Common.{◌≡◌, ℕ, ◌<◌, ◌==◌, false, ℤ, List, [], ◌∷◌, ◌++◌, map, filter, length, All, AllPairs, Option, Some, None, Ok, refl, sym, ◌∙◌, ap, arith}
 use Rattle.std.specs.Option.{ForSome}
 use Rattle.std.proofs.lemmas.List.Elements.{All-append}
-use Rattle.std.proofs.lemmas.List.Sorted.{Contains-permutation, IsPermutation-map, IsPermutation-sym}
-use Rattle.pl_records.specs.Reading.{Record, Fault, ◌>>=◌}
-use Rattle.pl_records.proofs.Sorts.{sorted-permutes}
 use Rattle.pl_spec.specs.declared.AssetRow.{AssetRow}
 use Rattle.pl_spec.specs.declared.RawAdjust.{RawAdjust}
-use Rattle.pl_spec.specs.Numbers.{NumberRow, NumbersOnce}
+use Rattle.pl_spec.specs.Numbers.{NumbersOnce}
 use Rattle.pl_spec.specs.Order.{by_day}
 use Rattle.pl_spec.specs.Parts.{ColumnLabel, ColumnNumber, number_of, world_of}
 use Rattle.pl_spec.specs.World.{World, Adjustment, events_of}
@@ -17,49 +14,30 @@ use Rattle.pl_lifetimes.specs.Assets.{AreAssets}
 use Rattle.pl_lifetimes.proofs.AssetsRead.{AreAssets-read}
 use Rattle.pl_assets.specs.Labels.{LabelTable, is_from, labels_of}
 use Rattle.pl_bars.proofs.BarsRead.{AreBars-read, AreInside-read}
-use Rattle.pl_numbers.specs.Numbers.{Rule, NumberTable, key_in, names_of, number_rows_in, numbers_of, table_of}
-use Rattle.pl_numbers.proofs.NumbersRead as numbers_read
+use Rattle.pl_numbers.specs.Numbers.{numbers_of}
 use Rattle.pl_adjust.specs.Columns.{by_place}
 use Rattle.pl_adjust.specs.Revised.{AreKnown, revised}
 use Rattle.pl_adjust.specs.Revisions.{revisions_of}
 use Rattle.pl_adjust.proofs.FirstFaults.{made_is}
 use Rattle.pl_adjust.proofs.RevisedColumns.{known_from, revised_known}
+use Rattle.pl_adjust.proofs.RevisionsMoved.{Apart, rows-apart}
 use Rattle.pl_adjust.proofs.RevisionsRead.{AreRevisions-read}
 use Rattle.pl_adjust.proofs.Sids.{Known, tables_known}
 use Rattle.pl_outside.specs.declared.keeper.Table.{Table}
 use Rattle.pl_outside.specs.declared.keeper.Table.TheVariants.{Splits, Mergers, Dividends}
 use Rattle.pl_words.specs.declared.request.InputFile.TheVariants.{Sessions, Assets, Labels, Numbers, Bars, Revisions}
 use Rattle.pl_words.specs.Request.{WorldNames}
-use Rattle.pl_world.proofs.Made.{AreParts, bars_once, is_world, labels_once, numbers-once}
+use Rattle.pl_world.proofs.Made.{AreParts, bars_once, is_world, labels_once}
 use Rattle.pl_world.proofs.Moved.{AreRead-labels}
+use Rattle.pl_world.proofs.NumbersMoved.{table-once}
 use Rattle.pl_load.specs.Contents.{Contents}
 use Rattle.pl_load.specs.Held.{adjustments_asked, adjustments_from, adjustments_held, adjustments_of_rows, assets_held, bars_held, days_held, labels_asked, labels_in, numbers_asked, numbers_in, revised_asked, revisions_in, world_held}
 use Rattle.pl_lookahead.specs.Agreement.{of_table_asked, revisions_asked, revisions_held}
-use Rattle.pl_lookahead.proofs.Adjusted.{Apart, placed, placed-by_day, placed-events, placed-in, placed-revised, rows-apart}
+use Rattle.pl_lookahead.proofs.Adjusted.{placed, placed-by_day, placed-events, placed-in, placed-revised}
 use Rattle.pl_lookahead.proofs.Known.{HasEachOnce}
 use Rattle.pl_lookahead.proofs.Readable.{AreRead, records_in}
 
 -- ---- numbers
-
-once-moved : (rows others : List NumberRow) → IsPermutation rows others → NumbersOnce rows → NumbersOnce others
-once-moved rows others moved once r q first second =
-    let back = IsPermutation-sym rows others moved in
-    once r q (Contains-permutation others rows r back first) (Contains-permutation others rows q back second)
-
-table-once : (assets : List AssetRow) → AllPairs (λ a b. a.sid < b.sid) assets → (records : List Record) (table : NumberTable)
-    → numbers_of assets records ≡ Ok table → NumbersOnce (map (number_of assets) table.rows)
-unfolding numbers_of
-table-once assets up records table e = here (number_rows_in assets records) refl e
-  where
-    here : (x : Result (List ColumnNumber) (Fault Rule)) → number_rows_in assets records ≡ x → (x >>= λ rows. Ok (table_of rows)) ≡ Ok table → NumbersOnce (map (number_of assets) table.rows)
-    here (Ok rows) was f =
-        let same : table_of rows ≡ table = cc in
-        let read = numbers_read.AreRead-read assets records rows was in
-        let sorted = (table_of rows).rows in
-        rw (← same)
-        (once-moved (map (number_of assets) rows) (map (number_of assets) sorted)
-        (IsPermutation-map (number_of assets) rows sorted (sorted-permutes (key_in (names_of rows)) rows)) (numbers-once assets rows up read.cols read.once))
-    here (Err fault) was f = absurd (cc)
 
 numbers-held : (assets : List AssetRow) → AllPairs (λ a b. a.sid < b.sid) assets → (name file : Option (List ℕ))
     → ForSome name (λ n. numbers_of assets (records_in file) ≡ Ok (numbers_in assets file)) → NumbersOnce (map (number_of assets) (numbers_asked assets name file))

@@ -8,7 +8,6 @@ pub mod Texts
 pub mod Same
 pub mod OwnDays
 pub mod Records
-pub mod Coded
 pub mod Derivations
 pub mod SameCodes
 pub mod Explained

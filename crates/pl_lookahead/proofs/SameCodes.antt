@@ -22,7 +22,7 @@ use Rattle.pl_cross.proofs.Codes.{IsCoded}
 use Rattle.pl_cross.proofs.LabelCodes.{labels-coded}
 use Rattle.pl_derivation.specs.Facts.{value_from}
 use Rattle.pl_lookahead.specs.Derivations.{HaveSameCodes}
-use Rattle.pl_lookahead.proofs.Coded.{kept}
+use Rattle.pl_derivation.proofs.Codes.{kept}
 
 -- ---- a label is of a record that has started
 

@@ -15,15 +15,15 @@ use Rattle.pl_outside.specs.declared.keeper.Table.TheVariants.{Splits, Mergers, 
 use Rattle.pl_words.specs.declared.request.InputFile.TheVariants.{Pipeline as PipelineFile}
 use Rattle.pl_words.specs.Request.{Request, RunRequest, WorldNames}
 use Rattle.pl_load.specs.declared.fault.Fault.{Fault}
-use Rattle.pl_load.specs.declared.fault.Fault.TheVariants.{Unwritten}
 use Rattle.pl_load.specs.Contents.{Contents}
 use Rattle.pl_load.specs.Ends.{Ends}
-use Rattle.pl_load.specs.Faults.{status_of, judged_status}
+use Rattle.pl_load.specs.Faults.{judged_status}
 use Rattle.pl_load.specs.Held.{days_held, pipeline_held, world_held}
 use Rattle.pl_load.specs.Range.{session_of, index_of, range_steps, dates_steps, plan_steps}
 use Rattle.pl_load.specs.Steps.{WorkStep, first_fault}
 use Rattle.pl_load.specs.Work.{work, run_work, evaluated_steps, data_steps}
 use Rattle.pl_cli.specs.Texts.{text_of, run_text}
+use Rattle.pl_cli.proofs.Finished.{not-zero}
 use Rattle.pl_lookahead.specs.Agreement.{AgreeUpTo, is_of, of_table_held, revisions_held}
 use Rattle.pl_lookahead.specs.Laws.{AsksTable, AskAlike, HasNoFault, LaterDataChangeNoByte}
 use Rattle.pl_lookahead.proofs.Dates.{by_place, one_place}
@@ -138,10 +138,6 @@ texts one other a b q r d day asks asks' alike agree none none' =
 
 -- ---- runs of status 0
 
-not-zero : (f : Fault) → 0 ≡ status_of f → ⊥
-not-zero Unwritten e = omega arith
-not-zero f e = omega arith
-
 pub ended-well : (steps : List WorkStep) (asked : Option Request) (line : List ℕ) → Ends steps asked 0 line → first_fault steps ≡ None
 ended-well steps asked line ends = elim ends [
   | inl told ↦ here (first_fault steps) refl told.0
@@ -156,7 +152,7 @@ ended-well steps asked line ends = elim ends [
   where
     here : (o : Option Fault) → first_fault steps ≡ o → 0 ≡ judged_status o → first_fault steps ≡ None
     here None e h = e
-    here (Some f) e h = absurd (not-zero f h)
+    here (Some f) e h = absurd (not-zero f (sym h))
 
 pub later-data-change-no-byte : LaterDataChangeNoByte
 later-data-change-no-byte = record {

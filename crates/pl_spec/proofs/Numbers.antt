@@ -13,7 +13,7 @@ use Rattle.pl_spec.proofs.Lists.{filter-filter}
 use Rattle.pl_spec.proofs.Finds.{find-one, find-none, contains-filter, filter-contains, all-contains, contains-all}
 use Rattle.pl_spec.proofs.Permuted.{filter-permuted, find-permuted, list_all-permuted}
 
-abbrev is_last : List NumberRow → NumberRow → Bool
+abbrev pub is_last : List NumberRow → NumberRow → Bool
 is_last rows r = list_all (λ q. int_le q.known r.known) rows
 
 number_of : (name : List ℕ) (a : ℕ) (day : ℤ) (r : NumberRow) → is_number_of name a day r ≡ true → (r.name ≡ name) × (r.sid ≡ a)
@@ -28,7 +28,7 @@ number-counts name a day r = (
 )
 
 -- of rows of one name and asset no two are known last
-one_last : (rows : List NumberRow) → NumbersOnce rows → (name : List ℕ) (a : ℕ) (day : ℤ) (x y : NumberRow)
+pub one_last : (rows : List NumberRow) → NumbersOnce rows → (name : List ℕ) (a : ℕ) (day : ℤ) (x y : NumberRow)
     → Contains (filter (is_number_of name a day) rows) x → Contains (filter (is_number_of name a day) rows) y
     → is_last (filter (is_number_of name a day) rows) x ≡ true → is_last (filter (is_number_of name a day) rows) y ≡ true → x ≡ y
 one_last rows once name a day x y in_x in_y last_x last_y =
@@ -66,7 +66,7 @@ number-none rows name a day none =
 
 -- ---- what comes later
 
-known_by : (name : List ℕ) (a : ℕ) (d day : ℤ) → d ≤ℤ day → (r : NumberRow) → is_number_of name a d r ≡ true → int_le r.known day ≡ true
+pub known_by : (name : List ℕ) (a : ℕ) (d day : ℤ) → d ≤ℤ day → (r : NumberRow) → is_number_of name a d r ≡ true → int_le r.known day ≡ true
 known_by name a d day h r p = grind (arith, ints)
 
 number-without : (rows : List NumberRow) (day : ℤ) (name : List ℕ) (a : ℕ) (d : ℤ) → d ≤ℤ day → number_at (numbers_by day rows) name a d ≡ number_at rows name a d

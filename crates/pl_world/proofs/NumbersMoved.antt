@@ -27,7 +27,7 @@ once-moved rows others moved once r q first second =
     once r q (Contains-permutation others rows r back first) (Contains-permutation others rows q back second)
 
 -- the numbers of a table that was read stand once each
-table-once : (assets : List AssetRow) → AllPairs (λ a b. a.sid < b.sid) assets → (records : List Record) (table : NumberTable)
+pub table-once : (assets : List AssetRow) → AllPairs (λ a b. a.sid < b.sid) assets → (records : List Record) (table : NumberTable)
     → numbers_of assets records ≡ Ok table → NumbersOnce (map (number_of assets) table.rows)
 unfolding numbers_of
 table-once assets up records table e = here (number_rows_in assets records) refl e
