@@ -1,14 +1,15 @@
 //! The database files of the disk.
 
-ghost use Rattle.std.specs.Prelude.{◌≡◌, ◌==◌, ◌↔◌, ◌++◌, None, IfOk, IsTrue, OnErr, false, not, slice_index_or, string_bytes};
+ghost use Rattle.std.specs.Prelude.{◌≡◌, ◌==◌, ◌↔◌, ◌++◌, [], List, None, IfOk, IsTrue, OnOk, OnErr, false, not, slice_index_or, string_bytes};
 ghost use Rattle.std.specs.IoError.{error_kind};
 ghost use Rattle.sqlite_disk.specs.Memory.{memory_bytes, memory_is_usable};
 ghost use Rattle.pl_outside.specs.Counts.{count_end, count_plus};
+ghost use Rattle.pl_spec.specs.declared.RawAdjust.{RawAdjust};
 ghost use Rattle.pl_adjust_sql.specs.Beside.{suffix_of};
 
 use crate::read::read_table;
 use crate::refusal::TableError;
-use pl_outside::{AdjustKeeper, KeepError, RawAdjust, Table};
+use pl_outside::{AdjustKeeper, KeepError, LoadedLog, RawAdjust, Table};
 use sqlite::{Connection, Error, ErrorCode, FileStore, Files, Options};
 use sqlite_disk::{Disk, Memory};
 use std::alloc::{AllocError, Global};
@@ -20,15 +21,21 @@ use std::io::{self, ErrorKind};
 #[derive(Drop)]
 pub struct FileKeeper<'a> {
     rt: &'a HostRuntime,
+    log: LoadedLog,
     pub(crate) faults: u64,
 }
 
 impl<'a> FileKeeper<'a> {
     /// No file is opened yet.
     pub fn new(rt: &'a HostRuntime) -> FileKeeper<'a>
-        ensures { result.faults ≡ 0 }
+        ensures log { result.log.tables ≡ [] }
+        ensures faults { result.faults ≡ 0 }
     {
-        FileKeeper { rt, faults: 0 }
+        FileKeeper {
+            rt,
+            log: LoadedLog::new(),
+            faults: 0,
+        }
     }
 }
 
@@ -42,6 +49,8 @@ fn failed(faults: &mut u64) -> KeepError
 
 impl AdjustKeeper for FileKeeper<'_> {
     ghost lists = { λ _. None };
+
+    ghost loaded = { λ s. s.log.tables };
 
     ghost faults = { λ s. s.faults };
 
@@ -57,8 +66,12 @@ impl AdjustKeeper for FileKeeper<'_> {
         table: Table,
         into: &mut Vec<RawAdjust>,
     ) -> Result<(), KeepError> {
+        let before = into.len();
         match read_named(self.rt, alloc, name, table, into) {
-            Ok(()) => Ok(()),
+            Ok(()) => {
+                self.log.loads(name.as_bytes(), &table, &into[before..]);
+                Ok(())
+            }
             Err(TableError::Memory) => Err(KeepError::Memory),
             Err(TableError::Refused) => Err(failed(&mut self.faults)),
         }
@@ -78,7 +91,8 @@ fn read_named(
     table: Table,
     into: &mut Vec<RawAdjust>,
 ) -> Result<(), TableError>
-    ensures { OnErr result (into.new.items ≡ into.old.items) }
+    ensures appended { OnOk result ((rows : List RawAdjust) × (into.new.items ≡ into.old.items ++ rows)) }
+    ensures same { OnErr result (into.new.items ≡ into.old.items) }
 {
     match Connection::open_files(alloc, copied_files(rt, alloc, name)?, Options::new(1)) {
         Ok(connection) => {

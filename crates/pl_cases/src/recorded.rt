@@ -33,6 +33,8 @@ impl AdjustKeeper for RecordedKeeper {
 
     ghost lists = { λ _. None };
 
+    ghost loaded = { λ k. k.keeper.loaded };
+
     ghost faults = { λ k. k.faults };
 
     ghost calls = { λ _. count_end };

@@ -3,29 +3,33 @@
 ghost use Rattle.std.specs.Prelude.{◌≡◌, ◌≤◌, ◌↔◌, None, Some, [], IfOk, IsOk, OnErr, false, length};
 ghost use Rattle.std.specs.Io.KnownBytes.{ReadConsumes};
 ghost use Rattle.pl_outside.specs.Counts.{HasCause, count_end};
+ghost use Rattle.pl_outside.specs.Logs.{names_of};
 
 use crate::faults::failed;
-use pl_outside::{Failed, Shelf};
+use pl_outside::{Failed, GivenLog, Shelf};
 use std::fs::{self, File};
 use std::io::{self, Read};
 
-/// The files of the disk by their paths, of which the one that was begun last is open. Contracts see nothing
-/// of it but its faults.
+/// The files of the disk by their paths, of which the one that was begun last is open. What the disk holds no
+/// contract sees; what it gave, the log has.
 #[derive(Drop)]
 pub struct FileShelf<'a> {
     rt: &'a HostRuntime,
     file: Option<File>,
+    log: GivenLog,
     pub(crate) faults: u64,
 }
 
 impl<'a> FileShelf<'a> {
     /// No file is begun.
     pub fn new(rt: &'a HostRuntime) -> FileShelf<'a>
-        ensures { result.faults ≡ 0 }
+        ensures faults { result.faults ≡ 0 }
+        ensures log { result.log.files ≡ [] }
     {
         FileShelf {
             rt,
             file: None,
+            log: GivenLog::new(),
             faults: 0,
         }
     }
@@ -36,7 +40,9 @@ impl Shelf for FileShelf<'_> {
 
     ghost rest = { λ _. [] };
 
-    ghost begun = { λ _. None };
+    ghost begun = { λ s. Some (names_of s.log.files) };
+
+    ghost gave = { λ s. s.log.files };
 
     ghost faults = { λ s. s.faults };
 
@@ -48,14 +54,18 @@ impl Shelf for FileShelf<'_> {
     ghost sound = { λ _. false };
 
     fn begin(&mut self, name: &str) -> Result<(), Failed> {
+        self.log.begins(name.as_bytes());
         keep_opened(fs::open(self.rt, name), &mut self.file, &mut self.faults)
     }
 
     fn next(&mut self, into: &mut [u8]) -> Result<usize, Failed> {
-        match &mut self.file {
-            Some(file) => read_piece(file, &mut self.faults, into),
-            None => Ok(0),
-        }
+        let count = match &mut self.file {
+            Some(file) => read_piece(file, &mut self.faults, into)?,
+            None => 0,
+        };
+        let ended = count == 0 && !into.is_empty();
+        self.log.gives(&into[..count], ended);
+        Ok(count)
     }
 
     ghost use Rattle.std.proofs.Common.{rules};

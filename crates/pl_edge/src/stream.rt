@@ -1,19 +1,20 @@
 //! Standard output and standard error.
 
-ghost use Rattle.std.specs.Prelude.{◌≡◌, ◌≤◌, ◌<◌, [], None, IfOk, OnOk, length, false};
+ghost use Rattle.std.specs.Prelude.{◌≡◌, ◌≤◌, ◌<◌, ◌++◌, [], Some, IfOk, OnOk, take, length, false};
 ghost use Rattle.std.specs.Io.Buffered.{writer_buffer, writer_contents};
 ghost use Rattle.std.specs.Io.KnownBytes.{Keeps, WriteAppends};
-ghost use Rattle.pl_outside.specs.Counts.{HasCause, count_end};
+ghost use Rattle.pl_outside.specs.Counts.{HasCause, count_end, moved};
 
 use crate::faults::failed;
-use pl_outside::{Failed, Sink};
+use pl_outside::{Failed, Sink, TakenLog};
 use std::io::{BufWriter, Write};
 
-/// A writer of the system as a sink. As a sink contracts see nothing of it but its faults; what its writer
-/// holds, where that is known, grows by exactly the bytes that it takes.
+/// A writer of the system as a sink. It tells the bytes that it took since it was made. What its writer holds,
+/// where that is known, grows by exactly the same.
 #[derive(Drop)]
 pub struct Stream<W: Write + Drop> {
     to: W,
+    log: TakenLog,
     pub(crate) faults: u64,
 }
 
@@ -21,9 +22,14 @@ impl<W: Write + Drop> Stream<W> {
     /// Nothing is written yet.
     pub fn new(to: W) -> Stream<W>
         ensures to { result.to ≡ to }
+        ensures log { result.log.bytes ≡ [] }
         ensures faults { result.faults ≡ 0 }
     {
-        Stream { to, faults: 0 }
+        Stream {
+            to,
+            log: TakenLog::new(),
+            faults: 0,
+        }
     }
 }
 
@@ -33,6 +39,7 @@ impl<W: Write + Drop> Stream<BufWriter<W>> {
         ensures written { OnOk result (writer_buffer self.new.to ≡ []) }
         ensures bytes { Keeps (writer_contents W.contents self.old.to)
             (writer_contents W.contents self.new.to) }
+        ensures log { self.new.log.bytes ≡ self.old.log.bytes }
         ensures cause { HasCause self.old.faults self.new.faults result }
         ensures quiet { OnOk result (self.new.faults ≡ self.old.faults) }
     {
@@ -44,7 +51,7 @@ impl<W: Write + Drop> Stream<BufWriter<W>> {
 }
 
 impl<W: Write + Drop> Sink for Stream<W> {
-    ghost taken = { λ _. None };
+    ghost taken = { λ s. Some s.log.bytes };
 
     ghost faults = { λ s. s.faults };
 
@@ -62,11 +69,15 @@ impl<W: Write + Drop> Sink for Stream<W> {
         ensures within { IfOk result (λ n. n ≤ length bytes.now) }
         ensures some { IfOk result (λ n. 0 < length bytes.now → 0 < n) }
         ensures bytes { WriteAppends (W.contents self.old.to) (W.contents self.new.to) result bytes.now }
+        ensures log { self.new.log.bytes ≡ self.old.log.bytes ++ take (moved result) bytes.now }
         ensures cause { HasCause self.old.faults self.new.faults result }
     {
         match self.to.write(bytes) {
             Ok(0) if !bytes.is_empty() => Err(failed(&mut self.faults)),
-            Ok(count) => Ok(count),
+            Ok(count) => {
+                self.log.takes(&bytes[..count]);
+                Ok(count)
+            }
             Err(_) => Err(failed(&mut self.faults)),
         }
     }

@@ -3,3 +3,4 @@ pub mod Held
 pub mod Keepers
 pub mod Pieces
 pub mod Takes
+pub mod Walks

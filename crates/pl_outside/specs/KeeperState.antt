@@ -5,13 +5,15 @@ use Rattle.pl_outside.specs.declared.keeper.Table.{Table}
 use Rattle.pl_outside.specs.declared.keeper.Table.TheVariants.{Splits, Mergers, Dividends}
 use Rattle.pl_outside.specs.Calls.{Calls}
 use Rattle.pl_outside.specs.Lists.{Lists, IsAscending}
+use Rattle.pl_outside.specs.Logs.{Loaded}
 
--- the name of the rows, the rows of each table in ascending id, and the calls
+-- the name of the rows, the rows of each table in ascending id, what was loaded, and the calls
 pub record KeeperState : Type 0 where
   pub name : List ℕ
   pub splits : List RawAdjust
   pub mergers : List RawAdjust
   pub dividends : List RawAdjust
+  pub loaded : List Loaded
   pub calls : Calls
   pub splits_ascend : IsAscending splits
   pub mergers_ascend : IsAscending mergers

@@ -2,6 +2,7 @@
 pub mod Counts
 pub mod Files
 pub mod Lists
+pub mod Logs
 pub mod Taken
 pub mod Left
 pub mod Reads

@@ -10,6 +10,7 @@ state_of a =
       splits = a.splits.items;
       mergers = a.mergers.items;
       dividends = a.dividends.items;
+      loaded = a.log.tables;
       calls = a.calls;
       splits_ascend = a.splits_ascend;
       mergers_ascend = a.mergers_ascend;

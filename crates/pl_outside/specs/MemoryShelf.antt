@@ -6,7 +6,13 @@ use Rattle.pl_outside.specs.ShelfState.{ShelfState}
 
 abbrev pub state_of : Inside → ShelfState
 state_of a =
-    record { files = map shown a.files.items; rest = rest_at a.files.items a.begun a.read; given = a.given; calls = a.calls }
+    record {
+      files = map shown a.files.items;
+      rest = rest_at a.files.items a.begun a.read;
+      gave = a.log.files;
+      given = a.given;
+      calls = a.calls;
+    }
 
 abbrev pub IsReading : Inside → Type 0
 IsReading a = IsWithin a.files.items a.begun a.read

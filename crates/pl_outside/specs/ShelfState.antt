@@ -2,12 +2,14 @@
 use Rattle.std.specs.Prelude.{ℕ, List, [], ◌∷◌, Some, None, bytes_eq, if◌then◌else◌}
 use Rattle.pl_outside.specs.Calls.{Calls}
 use Rattle.pl_outside.specs.Files.{Files}
+use Rattle.pl_outside.specs.Logs.{Given}
 
--- files as pairs of name and bytes, what is left of the one that was begun last, and counts of bytes given
--- and of calls
+-- files as pairs of name and bytes, what is left of the one that was begun last, what was given, and counts of
+-- bytes given and of calls
 pub record ShelfState : Type 0 where
   pub files : List (List ℕ × List ℕ)
   pub rest : List ℕ
+  pub gave : List Given
   pub given : ℕ
   pub calls : Calls
 

@@ -1,10 +1,11 @@
 //! What keeps the rows of adjustments.
 
-ghost use Rattle.std.specs.Prelude.{◌≡◌, ◌≤◌, ◌++◌, ℕ, Option, List, None, Err, OnOk, OnErr, IsTrue, IsSome, IsErrOf, Bool, false};
+ghost use Rattle.std.specs.Prelude.{◌≡◌, ◌≤◌, ◌++◌, ℕ, [], Option, List, None, Err, OnOk, OnErr, IsTrue, IsSome, IsErrOf, Bool, false};
 ghost use Rattle.std.specs.Option.{ForSome};
 ghost use Rattle.pl_outside.specs.declared.keeper.Table.{Table};
 ghost use Rattle.pl_outside.specs.Counts.{Rose, count_plus};
 ghost use Rattle.pl_outside.specs.Lists.{Lists, IsAscending};
+ghost use Rattle.pl_outside.specs.Logs.{Loaded, Loads};
 
 use crate::faults::Failed;
 use pl_spec::RawAdjust;
@@ -55,6 +56,9 @@ pub trait AdjustKeeper {
     /// The rows of each name and table, where they are known.
     ghost lists: { Self → Option Lists };
 
+    /// What it loaded, whatever it is; the table that was loaded last stands first.
+    ghost loaded: { Self → List Loaded };
+
     /// How many faults it has counted, up to the count's end.
     ghost faults: { Self → ℕ };
 
@@ -76,6 +80,8 @@ pub trait AdjustKeeper {
     ) -> Result<(), KeepError>
         ensures appended { ForSome (lists self.old)
             (λ lists. OnOk result (into.new.items ≡ into.old.items ++ lists name.now table)) }
+        ensures logged { Loads (loaded self.old) (loaded self.new) name.now table
+            into.old.items into.new.items result }
         ensures same { OnErr result (into.new.items ≡ into.old.items) }
         ensures failed { IsErrOf result KeepError.Failed → Rose (faults self.old) (faults self.new) }
         ensures later { faults self.old ≤ faults self.new }
@@ -118,6 +124,8 @@ impl NoKeeper {
 
 impl AdjustKeeper for NoKeeper {
     ghost lists = { λ _. None };
+
+    ghost loaded = { λ _. [] };
 
     ghost faults = { λ count. count };
 

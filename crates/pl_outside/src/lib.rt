@@ -14,6 +14,7 @@ mod call_log;
 mod faults;
 mod files;
 mod keeper;
+mod logs;
 mod memory_keeper;
 mod memory_shelf;
 mod memory_sink;
@@ -25,6 +26,7 @@ mod writing;
 
 pub use faults::{Failed, Memory};
 pub use keeper::{AdjustKeeper, KeepError, NoKeeper, Table};
+pub use logs::{GivenLog, LoadedLog, TakenLog};
 pub use memory_keeper::MemoryKeeper;
 pub use memory_shelf::MemoryShelf;
 pub use memory_sink::MemorySink;

@@ -1,12 +1,14 @@
 //! Rows of adjustments in memory.
 
-ghost use Rattle.std.specs.Prelude.{◌≡◌, ◌++◌, ◌↔◌, Some, IsTrue, IsErrOf, if◌then◌else◌, is_ok, string_bytes};
+ghost use Rattle.std.specs.Prelude.{◌≡◌, ◌++◌, ◌↔◌, [], Some, IsTrue, IsErrOf, if◌then◌else◌, is_ok, string_bytes};
 ghost use Rattle.pl_outside.specs.Calls.{never_fails, next_fails, no_calls, one_more};
 ghost use Rattle.pl_outside.specs.KeeperState.{kept};
 ghost use Rattle.pl_outside.specs.Lists.{IsAscending};
+ghost use Rattle.pl_outside.specs.Logs.{Loads};
 
 use crate::call_log::CallLog;
 use crate::keeper::{AdjustKeeper, KeepError, Table};
+use crate::logs::LoadedLog;
 use pl_spec::RawAdjust;
 use std::alloc::Global;
 use std::marker::Model;
@@ -20,6 +22,7 @@ pub struct MemoryKeeper {
     mergers: Vec<RawAdjust>,
     dividends: Vec<RawAdjust>,
     calls: CallLog,
+    log: LoadedLog,
     ghost splits_ascend: { IsAscending splits.items },
     ghost mergers_ascend: { IsAscending mergers.items },
     ghost dividends_ascend: { IsAscending dividends.items },
@@ -53,6 +56,7 @@ impl MemoryKeeper {
         ensures mergers { result.mergers ≡ mergers.items }
         ensures dividends { result.dividends ≡ dividends.items }
         ensures calls { result.calls ≡ no_calls failing.items }
+        ensures loaded { result.loaded ≡ [] }
     {
         MemoryKeeper {
             name,
@@ -60,6 +64,7 @@ impl MemoryKeeper {
             mergers,
             dividends,
             calls: CallLog::new(failing),
+            log: LoadedLog::new(),
         }
     }
 
@@ -81,6 +86,8 @@ impl MemoryKeeper {
 impl AdjustKeeper for MemoryKeeper {
     ghost lists = { λ keeper. Some (kept keeper) };
 
+    ghost loaded = { λ keeper. keeper.loaded };
+
     ghost faults = { λ keeper. keeper.calls.faults };
 
     ghost calls = { λ keeper. keeper.calls.made };
@@ -97,11 +104,17 @@ impl AdjustKeeper for MemoryKeeper {
         ensures fails { IsErrOf result KeepError.Failed ↔ IsTrue (next_fails self.old.calls) }
         ensures rows { into.new.items
             ≡ (if is_ok result then into.old.items ++ kept self.old name.now table else into.old.items) }
-        ensures after { self.new
-            ≡ record self.old { calls = one_more self.old.calls (next_fails self.old.calls) } }
+        ensures logged { Loads self.old.loaded self.new.loaded name.now table
+            into.old.items into.new.items result }
+        ensures after { self.new ≡ record self.old {
+          loaded = self.new.loaded;
+          calls = one_more self.old.calls (next_fails self.old.calls);
+        } }
     {
         self.calls.take_call()?;
+        let before = into.len();
         into.extend_from_slice(self.rows(name, table))?;
+        self.log.loads(name.as_bytes(), &table, &into[before..]);
         Ok(())
     }
 

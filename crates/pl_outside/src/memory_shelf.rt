@@ -3,11 +3,13 @@
 ghost use Rattle.std.specs.Prelude.{◌≡◌, ◌||◌, ◌++◌, ℕ, [], List, Option, Some, None, length, take, drop, min, OnOk, OnErr, IfOk, if◌then◌else◌, is_err, is_none, unwrap_or, bytes_eq, string_bytes};
 ghost use Rattle.pl_outside.specs.Calls.{never_fails, next_fails, no_calls, one_more};
 ghost use Rattle.pl_outside.specs.Counts.{count_plus, moved};
+ghost use Rattle.pl_outside.specs.Logs.{GivesIn, begins, names_of};
 ghost use Rattle.pl_outside.specs.ShelfState.{held};
 
 use crate::call_log::CallLog;
 use crate::faults::{Failed, Memory};
 use crate::files::{File, place_of, put_file};
+use crate::logs::GivenLog;
 use crate::shelf::Shelf;
 use std::alloc::Global;
 use std::marker::Model;
@@ -21,6 +23,7 @@ pub struct MemoryShelf {
     read: usize,
     given: u64,
     calls: CallLog,
+    log: GivenLog,
 }
 
 impl Model for MemoryShelf {
@@ -39,7 +42,13 @@ impl MemoryShelf {
     /// A shelf without files. `failing` holds the numbers of the calls of `begin` and `next` that are to
     /// fail, counted from 1 over both together.
     pub fn new(alloc: Global, failing: Vec<u64>) -> MemoryShelf
-        ensures { result ≡ record { files = []; rest = []; given = 0; calls = no_calls failing.items } }
+        ensures { result ≡ record {
+          files = [];
+          rest = [];
+          gave = [];
+          given = 0;
+          calls = no_calls failing.items;
+        } }
     {
         MemoryShelf {
             files: Vec::new(alloc),
@@ -47,6 +56,7 @@ impl MemoryShelf {
             read: 0,
             given: 0,
             calls: CallLog::new(failing),
+            log: GivenLog::new(),
         }
     }
 
@@ -69,8 +79,9 @@ impl Shelf for MemoryShelf {
 
     ghost rest = { λ shelf. shelf.rest };
 
-    // it keeps no list of the names
-    ghost begun = { λ _. None };
+    ghost begun = { λ shelf. Some (names_of shelf.gave) };
+
+    ghost gave = { λ shelf. shelf.gave };
 
     ghost faults = { λ shelf. shelf.calls.faults };
 
@@ -85,9 +96,11 @@ impl Shelf for MemoryShelf {
             ≡ (next_fails self.old.calls || is_none (held self.old.files name.now)) }
         ensures after { self.new ≡ record self.old {
           rest = if is_err result then [] else unwrap_or (held self.old.files name.now) [];
+          gave = begins self.old.gave name.now;
           calls = one_more self.old.calls (is_err result);
         } }
     {
+        self.log.begins(name.as_bytes());
         self.begun = None;
         self.read = 0;
         self.calls.take_call()?;
@@ -103,14 +116,17 @@ impl Shelf for MemoryShelf {
         ensures fails { is_err result ≡ next_fails self.old.calls }
         ensures count { IfOk result (λ n. n ≡ min (length self.old.rest) (length into.old)) }
         ensures into { into.new ≡ take (moved result) self.old.rest ++ drop (moved result) into.old }
+        ensures logged { GivesIn self.old.gave self.new.gave into.new result }
         ensures after { self.new ≡ record self.old {
           rest = drop (moved result) self.old.rest;
+          gave = self.new.gave;
           given = count_plus self.old.given (moved result);
           calls = one_more self.old.calls (is_err result);
         } }
     {
         self.calls.take_call()?;
         let Some(place) = self.begun else {
+            self.log.gives(&[], !into.is_empty());
             return Ok(0);
         };
         let left = &self.files[place].bytes[self.read..];
@@ -118,6 +134,8 @@ impl Shelf for MemoryShelf {
         into[..count].copy_from_slice(&left[..count]);
         self.read += count;
         self.given = self.given.saturating_add(count as u64);
+        let ended = count == 0 && !into.is_empty();
+        self.log.gives(&into[..count], ended);
         Ok(count)
     }
 

@@ -1,10 +1,11 @@
 //! A file as a whole.
 
-ghost use Rattle.std.specs.Prelude.{◌≡◌, ◌≤◌, ◌<◌, ◌+◌, ◌^◌, ◌∷◌, ◌↔◌, [], Some, None, length, IfOk, IsTrue, IsSome, IsSomeAnd, IsErrOf};
+ghost use Rattle.std.specs.Prelude.{◌≡◌, ◌≤◌, ◌<◌, ◌+◌, ◌^◌, ◌∷◌, ◌↔◌, ℕ, List, [], Some, None, length, IfOk, IsTrue, IsSome, IsSomeAnd, IsErrOf};
 ghost use Rattle.std.specs.Option.{ForSome};
 ghost use Rattle.pl_outside.specs.Counts.{Rose, count_plus};
 ghost use Rattle.pl_outside.specs.Files.{BeginsAll};
-ghost use Rattle.pl_outside.specs.Reads.{IsReadWhole};
+ghost use Rattle.pl_outside.specs.Logs.{Given, begins};
+ghost use Rattle.pl_outside.specs.Reads.{IsGiven, IsReadWhole};
 
 use crate::faults::Failed;
 use crate::shelf::Shelf;
@@ -81,6 +82,9 @@ pub fn read_file<S: Shelf>(
     ensures quiet { IsTrue (S.sound shelf.old) → ForSome (S.holds shelf.old) (λ files. IsSome (files name.now)
         → S.faults shelf.new ≡ S.faults shelf.old) }
 
+    // whatever the shelf is, the bytes are those that it gave of this name, from its beginning to its end
+    ensures given { IsGiven cap (S.gave shelf.old) (S.gave shelf.new) name.now result }
+
     // with any answer the name was begun, once, and no other
     ensures named { BeginsAll (S.begun shelf.old) (S.begun shelf.new) (name.now ∷ []) }
     ensures keeps { S.holds shelf.new ≡ S.holds shelf.old }
@@ -105,6 +109,8 @@ fn read_rest<S: Shelf>(alloc: Global, shelf: &mut S, cap: usize) -> Result<Vec<u
         (λ files. IsErrOf result ReadError.TooLong → cap < length (S.rest shelf.old)) }
     ensures blameless { IsTrue (S.sound shelf.old)
         → ¬ IsErrOf result ReadError.Failed × (S.faults shelf.new ≡ S.faults shelf.old) }
+    ensures given { (files : List Given) (name : List ℕ) → S.gave shelf.old ≡ begins files name
+        → IsGiven cap files (S.gave shelf.new) name result }
     ensures named { S.begun shelf.new ≡ S.begun shelf.old }
     ensures keeps { S.holds shelf.new ≡ S.holds shelf.old }
     ensures stays { S.sound shelf.new ≡ S.sound shelf.old }

@@ -4,6 +4,7 @@ ghost use Rattle.std.specs.Prelude.{◌≡◌, ◌≤◌, ◌<◌, ◌++◌, ◌
 ghost use Rattle.std.specs.Option.{ForSome};
 ghost use Rattle.pl_outside.specs.Counts.{HasCause, count_plus, moved};
 ghost use Rattle.pl_outside.specs.Files.{Files, Begins, BeginsAll};
+ghost use Rattle.pl_outside.specs.Logs.{Given, GivesIn, begins};
 
 use crate::faults::Failed;
 
@@ -22,6 +23,9 @@ pub trait Shelf {
     /// The names that were begun, in their order and as often as they were begun, as long as they are known.
     ghost begun: { Self → Option (List (List ℕ)) };
 
+    /// What it gave, file by file, whatever it is; the file that was begun last stands first.
+    ghost gave: { Self → List Given };
+
     /// How many faults it has counted, up to the count's end.
     ghost faults: { Self → ℕ };
 
@@ -38,6 +42,7 @@ pub trait Shelf {
     fn begin(&mut self, name: &str) -> Result<(), Failed>
         ensures begins { ForSome (holds self.old) (λ files. Begins (files name.now) (rest self.new) result) }
         ensures named { BeginsAll (begun self.old) (begun self.new) (name.now ∷ []) }
+        ensures logged { gave self.new ≡ begins (gave self.old) name.now }
         ensures cause { HasCause (faults self.old) (faults self.new) result }
         ensures misses { IsTrue (sound self.old)
             → ForSome (holds self.old) (λ files. IsErr result ↔ (files name.now ≡ None)) }
@@ -56,6 +61,7 @@ pub trait Shelf {
         ensures piece { ForSome (holds self.old)
             (λ files. rest self.old ≡ take (moved result) into.new ++ rest self.new) }
         ensures named { begun self.new ≡ begun self.old }
+        ensures logged { GivesIn (gave self.old) (gave self.new) into.new result }
         ensures ends { ForSome (holds self.old)
             (λ files. IfOk result (λ n. n ≡ 0 → 0 < length into.old → rest self.old ≡ [])) }
         ensures cause { HasCause (faults self.old) (faults self.new) result }

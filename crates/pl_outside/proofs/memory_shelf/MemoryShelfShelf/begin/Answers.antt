@@ -26,4 +26,4 @@ returns-clause-after c =
     let place = position_in files _ c.args.name.now _ c.deref.ensures.value c.place_of-self-inside.ensures in
     let rest : rest_at files c.place_of-self-inside.result 0 ≡ unwrap_or (held (map shown files) c.args.name.now) [] =
     rw (← place) (rest_at-held files c.args.name.now) in
-    rw (← c.self.view_is, rest, c.take_call.ensures.after, goes)
+    rw (← c.self.view_is, rest, c.take_call.ensures.after, goes, c.begins.ensures, c.as_bytes.ensures.value)
