@@ -40,6 +40,7 @@ pub fn flushed<W: Write + Drop, E: Sink>(
     ensures written { result ≡ 0 → writer_buffer out.new.to ≡ [] }
     ensures tried { ¬ (Rose out.old.faults out.new.faults) → writer_buffer out.new.to ≡ [] }
     ensures bytes { Keeps (writer_contents W.contents out.old.to) (writer_contents W.contents out.new.to) }
+    ensures log { out.new.log.bytes ≡ out.old.log.bytes }
 
     // A line is written exactly where the status changed.
     ensures told { ¬ (result ≡ status)
