@@ -11,6 +11,7 @@ import os
 from bisect import bisect_left
 from dataclasses import dataclass
 from typing import Iterable, Iterator, Mapping, NamedTuple, Optional
+from weakref import WeakSet
 
 from .data import Data
 from .faults import PipelineError, RangeFault
@@ -20,6 +21,7 @@ from .pipeline.term import CALL, Factor, NonWindowSafeInput, Term
 from .plans import Plan, ask_program
 
 PARTS = ("numbers", "labels")
+_steady: WeakSet[Custom] = WeakSet()  # what was found to be right
 
 
 class Need(NamedTuple):
@@ -153,7 +155,8 @@ def _plan(script: Script, first: str, last: str, data: Data) -> Plan:
 
 def _needed(plan: Plan, begin: int) -> dict[Custom, int]:
     """From which session on a plan needs what is computed, where its range begins at this one."""
-    numbers, found = plan.script.numbers(), {}
+    numbers = plan.script.numbers()
+    found: dict[Custom, int] = {}
     for leaf in plan.script.computed:
         custom, term = custom_of(leaf), plan.terms.get(numbers[leaf])
         at = begin - (term.extra if term is not None else 0)
@@ -166,7 +169,7 @@ def require_steady(custom: Custom) -> None:
 
     The program says which: it has a window over `demean` of what keeps its values, and over no other.
     """
-    for part in parts_of(custom):
+    for part in parts_of(custom) if custom not in _steady else ():
         if isinstance(part, Factor):
             probe = script_of([Factor(CALL, "WindowSum", part.demean(), 2)])
             try:
@@ -178,3 +181,4 @@ def require_steady(custom: Custom) -> None:
                     f"{custom!r} can't have a window over {part!r}, which depends on adjustments that come between: give "
                     "its rank() or zscore(), or the columns of bars that it is of, and compute it from their windows"
                 ) from None
+    _steady.add(custom)

@@ -13,7 +13,7 @@ from bisect import bisect_left, bisect_right
 from contextlib import ExitStack, contextmanager, suppress
 from pathlib import Path
 from tempfile import TemporaryDirectory
-from typing import IO, TYPE_CHECKING, Any, Callable, ContextManager, Iterator, Mapping, NamedTuple, Sequence
+from typing import IO, TYPE_CHECKING, Any, Callable, ContextManager, Iterator, Mapping, NamedTuple, Optional, Sequence
 
 import numpy as np
 import pandas as pd
@@ -98,7 +98,9 @@ def _parts(script: Script, names: Mapping[Term, str], data: Data, ends: Ends) ->
     """A range in so many parts that the numbers computed for each are no more than a run reads, as far as that is known
     before.
     """
-    days, leaves = data.days(*ends), [leaf for leaf in names if leaf.sort == "factor" and custom_of(leaf).sort == "factor"]
+    days, leaves = data.days(*ends), [
+        leaf for leaf in names if leaf.sort == "factor" and custom_of(leaf).sort == "factor"
+    ]
     assets = len(_sids(data))
     if len(days) * len(leaves) * assets <= MOST["numbers"] or len(days) < 2:
         return [ends]
@@ -114,7 +116,8 @@ def _existing(data: Data, ends: Ends) -> int:
     low, high = bisect_left(data.sessions, ends[0]), bisect_right(data.sessions, ends[1])
     lives = [row[1:] for row in list(records(data.files["assets"]))[1:]]
     spans = [
-        (max(bisect_right(data.sessions, start), low), min(bisect_right(data.sessions, end), high)) for start, end in lives
+        (max(bisect_right(data.sessions, start), low), min(bisect_right(data.sessions, end), high))
+        for start, end in lives
     ]
     return sum(max(end - start, 0) for start, end in spans)
 
@@ -166,7 +169,8 @@ def _of_user(users: Mapping[str, Path], made: Mapping[str, Path]) -> Iterator[No
 def _sids(data: Data) -> Array:
     """The sids of the assets, ascending; of a file that can't be read none, which the program then says."""
     with suppress(OSError, ValueError):
-        return np.unique(np.array([int(row[0]) for row in list(records(data.files["assets"]))[1:]], "i8"))
+        sids: Array = np.unique(np.array([int(row[0]) for row in list(records(data.files["assets"]))[1:]], "i8"))
+        return sids
     return np.zeros(0, "i8")
 
 
@@ -276,22 +280,23 @@ def requested(needs: Sequence[Need]) -> list[Request]:
 
 def missing_of(term: Term) -> Any:
     """What stands for a missing value of a term, where it is given to `compute`."""
-    if not isinstance(term, Whole) and not _is_whole(term):
+    if not is_whole(term):
         return EMPTY[term.sort]
     while not isinstance(term, Custom):
         term = term.terms[0]
     return term.missing_value
 
 
-def _is_whole(term: Term) -> bool:
-    return isinstance(term, Custom) and term.sort == "label" and term.dtype.kind == "i"
+def is_whole(term: Optional[Term]) -> bool:
+    """Whether a term is a classifier of whole numbers, which the program has as labels."""
+    return isinstance(term, Whole) or isinstance(term, Custom) and term.sort == "label" and term.dtype.kind == "i"
 
 
 def _of_labels(cells: pd.Series, term: Term) -> Array:
     """Labels as texts with None for none, or as whole numbers."""
     texts = list(cells.cat.categories)
     missing = missing_of(term)
-    if isinstance(term, Whole) or _is_whole(term):
+    if is_whole(term):
         numbers: Array = np.array([*map(int, texts), missing], "i8")[cells.cat.codes.to_numpy()]
         return numbers
     labels: Array = np.array([*texts, None], object)[cells.cat.codes.to_numpy()]
@@ -400,6 +405,8 @@ class _Work:
 
     def warn(self) -> None:
         """Warn of results that were too great."""
+        from .runs import outside
+
         if self.great:
             warnings.warn(
                 f"{self.custom!r}: {self.great} results beyond 100,000,000,000 are missing, the first on {self.since}: "
@@ -413,8 +420,10 @@ def whole_columns(script: Script) -> dict[int, int]:
     found = {}
     for at, given in enumerate(script.source[0].values(), 2):
         term = without_alias(given)
-        if isinstance(term, Whole) or term.form == COMPUTED and custom_of(term).dtype.kind == "i":
-            found[at] = custom_of(term).missing_value if term.form == COMPUTED else missing_of(term)
+        if is_whole(term):
+            found[at] = missing_of(term)
+        elif term.form == COMPUTED and custom_of(term).dtype.kind == "i":
+            found[at] = custom_of(term).missing_value
     return found
 
 
@@ -429,7 +438,9 @@ def call(custom: Custom, day: str, sids: Array, out: Any, given: Sequence[Array]
     with told(custom, day):
         answer = compute(pd.Timestamp(day), pd.Index(sids), out, *given, **custom.params)
         if answer is not None and answer is not out:
-            raise TypeError(f"compute returned {type(answer).__name__}: it has to write its results into out, as out[:] = ..")
+            raise TypeError(
+                f"compute returned {type(answer).__name__}: it has to write its results into out, as out[:] = .."
+            )
 
 
 @contextmanager

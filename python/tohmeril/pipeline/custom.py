@@ -144,6 +144,12 @@ class Custom(Term):
     def _leaves(self) -> tuple[Term, ...]:
         return (self,)
 
+    @property
+    def piece(self) -> str:
+        """The term without what it is of."""
+        params = [f"{name}={value!r}" for name, value in self.params.items()]
+        return f"{type(self).__name__}({', '.join([str(self.window_length), *params])})"
+
     def __setattr__(self, name: str, value: object) -> None:
         if name == "window_safe":
             raise AttributeError(
@@ -306,7 +312,7 @@ class CustomClassifier(Custom, Classifier):
 
     @property
     def _kind(self) -> Any:
-        return Whole if self.dtype.kind == "i" else Text
+        return Whole if np.dtype(self.dtype).kind == "i" else Text
 
     def eq(self, other: Any, sign: str = "==") -> Filter:
         """True where the label is this one."""
@@ -352,6 +358,11 @@ class Output(Factor):
     def window_safe(self) -> bool:
         """Whether a window may be over it."""
         return bool(self.custom.window_safe)
+
+    @property
+    def piece(self) -> str:
+        """The output without what it is of."""
+        return f"{self.custom.piece}.{self.output}" if self.output else self.custom.piece
 
     @property
     def _kind(self) -> Any:
@@ -419,7 +430,9 @@ def _inputs(cls: type[Custom], given: Any) -> tuple[Term, ...]:
     """The inputs as terms: columns of bars, and the newest values of numbers and labels."""
     listed = [given] if isinstance(given, (Term, LabelColumn)) else given
     if not isinstance(listed, (list, tuple)):
-        raise TypeError(f"{cls.__name__}: inputs are a list of columns and terms, as [EquityPricing.close], not {given!r}")
+        raise TypeError(
+            f"{cls.__name__}: inputs are a list of columns and terms, as [EquityPricing.close], not {given!r}"
+        )
     found = []
     for part in listed:
         term = part.latest if isinstance(part, (NumberColumn, LabelColumn)) else part
@@ -451,10 +464,12 @@ def _outputs(cls: type[Custom], given: Any) -> tuple[str, ...]:
 
 def _length(cls: type[Custom], given: Any) -> int:
     if given is None:
-        raise TypeError(f"{cls.__name__}: window_length is missing: write it into the class, or {cls.__name__}(window_length=20)")
+        raise TypeError(
+            f"{cls.__name__}: window_length is missing: write it into the class, or {cls.__name__}(window_length=20)"
+        )
     if isinstance(given, bool) or not isinstance(given, Integral):
         raise TypeError(f"{cls.__name__}: window_length is a whole number of sessions, and not {given!r}")
-    if not 1 <= given <= MOST:
+    if not 1 <= int(given) <= MOST:
         raise ValueError(f"{cls.__name__}: window_length is from 1 to {MOST:,} sessions, and not {given}")
     return int(given)
 
@@ -471,11 +486,17 @@ def _type(cls: type[Custom], dtype: Any, missing: Any) -> dict[str, Any]:
         kind = np.dtype(object) if dtype in ("category", str) else np.dtype(dtype)
     except TypeError:
         kind = np.dtype("V")
-    allowed = {CustomFactor: ("fi", "float64 or int64"), CustomFilter: ("b", "bool"), CustomClassifier: ("iO", "int64 or object")}
+    allowed = {
+        CustomFactor: ("fi", "float64 or int64"),
+        CustomFilter: ("b", "bool"),
+        CustomClassifier: ("iO", "int64 or object"),
+    }
     base = next(base for base in allowed if issubclass(cls, base))
     kinds, names = allowed[base]
     if kind.kind not in kinds or kind.kind in "fi" and kind.itemsize != 8:
-        Absent(f"dtype {dtype!r} of {cls.__name__}", f"{names}; a day can be a whole number, as of days since 1970-01-01")()
+        Absent(
+            f"dtype {dtype!r} of {cls.__name__}", f"{names}; a day can be a whole number, as of days since 1970-01-01"
+        )()
     if missing is _NONE and kind.kind == "i" and base is CustomFactor:
         raise TypeError(f"{cls.__name__}: missing_value is missing: write a whole number that is no result, as -1")
     defaults: dict[str, Any] = {"f": np.nan, "i": -1, "b": False, "O": None}
@@ -485,7 +506,9 @@ def _type(cls: type[Custom], dtype: Any, missing: Any) -> dict[str, Any]:
     if kind.kind == "i" and int(missing) != missing:
         raise TypeError(f"{cls.__name__}: missing_value is a whole number, as its results are, and not {missing!r}")
     if kind.kind == "b" and missing is not False:
-        raise TypeError(f"{cls.__name__}: missing_value is False, since a filter is false where it has no value; not {missing!r}")
+        raise TypeError(
+            f"{cls.__name__}: missing_value is False, since a filter is false where it has no value; not {missing!r}"
+        )
     return {"dtype": kind, "missing_value": missing}
 
 

@@ -206,7 +206,7 @@ class Term:
         """
         return self._kind(MEMBER, "downsample", self, frequency)
 
-    def __setattr__(self, name: str, value: object) -> NoReturn:
+    def __setattr__(self, name: str, value: object) -> None:
         if name == "window_safe":
             raise AttributeError(
                 "terms do not change, nor does what may be in a window: a window can be over Returns, ranks, "

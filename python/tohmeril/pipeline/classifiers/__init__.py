@@ -4,7 +4,7 @@ from __future__ import annotations
 
 from typing import Sequence
 
-from ..custom import CustomClassifier  # noqa: F401
+from ..custom import CustomClassifier as CustomClassifier
 from ..data import LabelColumn, Labels
 from ..term import Absent, Bins, Classifier, Factor, Mask, Text, as_factor  # noqa: F401
 

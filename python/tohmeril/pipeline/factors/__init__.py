@@ -23,7 +23,7 @@ from typing import Any, Mapping, NamedTuple, Optional, Sequence, Union
 
 import numpy as np
 
-from ..custom import CustomFactor  # noqa: F401
+from ..custom import CustomFactor as CustomFactor
 from ..data import EquityPricing
 from ..term import CALL, Absent, BoundColumn, Classifier, Factor, Filter, Mask, NumberColumn, Term
 

@@ -11,7 +11,7 @@ import typing
 from numbers import Integral
 from typing import Iterable
 
-from ..custom import CustomFilter  # noqa: F401
+from ..custom import CustomFilter as CustomFilter
 from ..factors import windowed
 from ..term import CALL, Absent, Filter, joined_by_or
 
