@@ -356,7 +356,8 @@ class _Work:
             )
             for column in bars_of(self.custom)
         }
-        self.empty = in_millionths(self.custom, np.full(1, self.custom.missing_value, self.custom.dtype))[0][0]
+        none = np.full(1, self.custom.missing_value, self.custom.dtype)
+        self.empty = MISSING if self.custom.sort == "label" else in_millionths(self.custom, none)[0][0]
         self.great, self.since = 0, ""  # how many results were too great, and from which session on
 
     def go(self, at: int, day: str) -> None:
