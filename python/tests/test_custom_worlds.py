@@ -45,7 +45,9 @@ def some(values, function):
     """What a function of numpy gives, NaN where no value is present."""
     with warnings.catch_warnings():
         warnings.simplefilter("ignore", RuntimeWarning)
-        return np.where(np.isnan(values).all(axis=0), np.nan, function(np.where(np.isnan(values).all(axis=0), 0, values)))
+        return np.where(
+            np.isnan(values).all(axis=0), np.nan, function(np.where(np.isnan(values).all(axis=0), 0, values))
+        )
 
 
 class Mean(CustomFactor):
@@ -126,7 +128,9 @@ class Bin(CustomClassifier):
 def pairs(draw):
     """Terms of one's own, each with the program's own of the same values."""
     window, other, long = draw.randint(1, 6), draw.randint(2, 4), draw.randint(2, 7)
-    bars, mask = draw.choice(BARS), draw.choice([None, None, CLOSE.latest > 40, AverageDollarVolume(window_length=3).top(2)])
+    bars, mask = draw.choice(BARS), draw.choice(
+        [None, None, CLOSE.latest > 40, AverageDollarVolume(window_length=3).top(2)]
+    )
     change = Returns(inputs=[bars], window_length=long)
     safe = Change([bars], window_length=long)
     every = [
@@ -135,7 +139,10 @@ def pairs(draw):
         (Change([bars], window_length=long, mask=mask), Returns([bars], window_length=long, mask=mask)),
         (Place([change], mask=mask), change.rank(mask=mask)),
         (Ends(window_length=window).least, WindowMin([LOW], window_length=window)),
-        (Ends(window_length=window, mask=mask).newest.fillna(-1), SimpleMovingAverage([LOW], window_length=1, mask=mask).fillna(-1)),
+        (
+            Ends(window_length=window, mask=mask).newest.fillna(-1),
+            SimpleMovingAverage([LOW], window_length=1, mask=mask).fillna(-1),
+        ),
         (Sum([change], window_length=other, times=2), WindowSum([change * 2], window_length=other)),
         (Sum([safe], window_length=other), WindowSum([change], window_length=other)),
         (WindowSum([safe], window_length=other), WindowSum([change], window_length=other)),
@@ -145,10 +152,16 @@ def pairs(draw):
         (Sum([Numbers.earnings], window_length=other), WindowSum([Numbers.earnings], window_length=other)),
         (Present([bars], window_length=window), AllPresent([bars], window_length=window)),
         (Whole([CLOSE.latest > 50], window_length=window), All([CLOSE.latest > 50], window_length=window)),
-        (All([Present([bars], window_length=1)], window_length=2), All([AllPresent([bars], window_length=1)], window_length=2)),
+        (
+            All([Present([bars], window_length=1)], window_length=2),
+            All([AllPresent([bars], window_length=1)], window_length=2),
+        ),
         (safe.top(2, mask=Present([bars], window_length=2)), change.top(2, mask=AllPresent([bars], window_length=2))),
         (Sector(), Labels.sector.latest),
-        (Sector(mask=mask).isnull(), Labels.sector.latest.isnull() if mask is None else ~(mask & Labels.sector.latest.notnull())),
+        (
+            Sector(mask=mask).isnull(),
+            Labels.sector.latest.isnull() if mask is None else ~(mask & Labels.sector.latest.notnull()),
+        ),
         (Bin([change.quantiles(3, mask=mask)]), change.quantiles(3, mask=mask)),
     ]
     return draw.sample(every, draw.randint(1, 5))
@@ -165,7 +178,9 @@ def drawn(seed, folder):
 
 
 def reference(data):
-    return reference_windows.World(*(data.files[part] for part in ("sessions", "assets", "bars", "adjustments", "revisions")))
+    return reference_windows.World(
+        *(data.files[part] for part in ("sessions", "assets", "bars", "adjustments", "revisions"))
+    )
 
 
 def compare_windows(draw, data, first, last):
@@ -208,7 +223,9 @@ def compare(seed, folder):
         assert (left == right).all(), (seed, name, repr(ours))
     if seed % 5 == 0:
         text = run_text(ours, first, last, data)
-        given = draw.choice([{"pieces": 2}, {"pieces": 3, "cut": True}, {"chunksize": 2}, {"cut": True}, {"asof": last}])
+        given = draw.choice(
+            [{"pieces": 2}, {"pieces": 3, "cut": True}, {"chunksize": 2}, {"cut": True}, {"asof": last}]
+        )
         assert run_text(ours, first, last, data, **given) == text, (seed, given, repr(ours))
     return len(frame)
 
@@ -216,7 +233,7 @@ def compare(seed, folder):
 @pytest.mark.parametrize("group", range(GROUPS))
 def test_what_is_written_anew_is_the_same(group, tmp_path):
     rows = [compare(seed, tmp_path / str(seed)) for seed in range(group, CASES, GROUPS)]
-    assert sum(rows) > len(rows)
+    assert len(rows) < 9 or sum(rows) > 3 * len(rows)  # most have rows
 
 
 @pytest.mark.parametrize("kind", ["processes", "dask"])

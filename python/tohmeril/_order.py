@@ -34,11 +34,12 @@ class Need(NamedTuple):
 @dataclass(frozen=True)
 class Order:
     """What is computed for a range: level by level, since each is of what the levels before it have. `reach` is the number
-    of the first session whose bars are read.
+    of the first session whose bars are read, and `has_bars` says whether the pipeline itself reads any.
     """
 
     levels: tuple[tuple[Need, ...], ...]
     reach: int
+    has_bars: bool
 
 
 def script_of(terms: Iterable[Term], computed: Optional[Mapping[Term, str]] = None) -> Script:
@@ -120,6 +121,7 @@ def order_of(script: Script, first: str, last: str, data: Data) -> Order:
         Where a window would be over a term that must not be in one.
     """
     plan = _plan(script, first, last, data)
+    has_bars = any(isinstance(part, str) for term in plan.terms.values() for part in term.inputs)
     reach, needed = plan.reach, _needed(plan, bisect_left(data.sessions, first))
     levels: dict[Custom, int] = {}
     customs = customs_of(script) if script.computed else []
@@ -146,6 +148,7 @@ def order_of(script: Script, first: str, last: str, data: Data) -> Order:
             for level in range(max(levels.values(), default=-1) + 1)
         ),
         reach,
+        has_bars,
     )
 
 

@@ -20,7 +20,7 @@ if TYPE_CHECKING:
 
 PLACES = 6  # behind the point
 MILLION = 10**PLACES
-THREE = np.array([list(f"{number:03}".encode()) for number in range(1000)], "u1")
+FOUR = np.array([list(f"{number:04}".encode()) for number in range(10_000)], "u1").view("u4")[:, 0]  # digits of four
 MISSING = np.iinfo("i8").min
 GREATEST = 1e11
 ROWS = 1 << 17  # records that are written at a time
@@ -78,8 +78,7 @@ class Records:
         self.files: dict[str, Path] = {}
         self.count: dict[str, int] = {}
         self.known: dict[str, Array] = {}  # the newest results by name
-        self.fronts: dict[str, Array] = {}  # the first two fields of each asset's numbers by name
-        self.waiting: list[tuple[Array, Array, Array]] = []  # fronts, days and values of numbers to be written
+        self.waiting: list[tuple[str, str, Array, Array]] = []  # names, days, columns and values that are to be written
         self.rows = 0
         self.folder, self.users = folder, users
 
@@ -92,10 +91,7 @@ class Records:
             return
         known[columns] = values
         self._counted("numbers", len(columns))
-        if name not in self.fronts:
-            self.fronts[name] = _as_bytes([f"{name},{sid}," for sid in self.sids.tolist()])
-        date = np.broadcast_to(np.frombuffer(f"{day},".encode(), "u1"), (len(columns), len(day) + 1))
-        self.waiting.append((self.fronts[name][columns], date, values))
+        self.waiting.append((name, day, columns, values))
         self.rows += len(columns)
         if self.rows >= ROWS:
             self.flush()
@@ -112,15 +108,33 @@ class Records:
             rows.writerows((name, sid, day, label or "") for sid, label in zip(self.sids[columns].tolist(), labels))
 
     def flush(self) -> None:
-        """Write all numbers that wait."""
-        for front in {front.shape[1] for front, _, _ in self.waiting}:  # those of one name are alike
-            some = [each for each in self.waiting if each[0].shape[1] == front]
-            values = np.concatenate([values for _, _, values in some])
-            fronts, days = (np.concatenate([each[at] for each in some]) for at in (0, 1))
-            lines = np.hstack([fronts, days, _written(values), np.full((len(values), 1), ord("\n"), "u1")])
-            with open(self.files["numbers"], "ab") as file:
-                file.write(lines[lines != 0].tobytes())
+        """Write all numbers that wait. Their order is free, so that those of equal length are written at once."""
+        if not self.waiting:
+            return
+        with open(self.files["numbers"], "ab") as file:
+            for name in dict.fromkeys(name for name, *_ in self.waiting):
+                some = [(day, columns, values) for each, day, columns, values in self.waiting if each == name]
+                days = np.repeat(np.arange(len(some)), [len(columns) for _, columns, _ in some])
+                columns, values = (np.concatenate([each[at] for each in some]) for at in (1, 2))
+                dates = _as_bytes([f",{day}," for day, _, _ in some])
+                digits = _written(values)
+                for first, end in self._widths():
+                    sids = _as_bytes([f"{name},{sid}" for sid in self.sids[first:end].tolist()])
+                    here = (columns >= first) & (columns < end)
+                    for rows, ends in (
+                        (here & (values != MISSING), digits),
+                        (here & (values == MISSING), digits[:, :0]),
+                    ):
+                        at = np.flatnonzero(rows)
+                        line = np.full((len(at), 1), ord("\n"), "u1")
+                        file.write(memoryview(np.hstack([sids[columns[at] - first], dates[days[at]], ends[at], line])))
         self.waiting, self.rows = [], 0
+
+    def _widths(self) -> list[tuple[int, int]]:
+        """The columns whose sids have equally many digits, which are beside each other."""
+        digits = [len(str(sid)) for sid in self.sids.tolist()]
+        bounds = [at for at in range(1, len(digits)) if digits[at] != digits[at - 1]]
+        return list(zip([0, *bounds], [*bounds, len(digits)]))
 
     def _counted(self, part: str, count: int) -> None:
         """Count records, behind those of the user's file, which is copied before the first."""
@@ -144,33 +158,28 @@ def _copy(user: Optional[Path], path: Path, part: str) -> int:
 
 
 def _as_bytes(texts: list[str]) -> Array:
-    """Texts as rows of bytes, filled with zeros."""
-    encoded = np.array([text.encode() for text in texts])
-    rows: Array = encoded.view("u1").reshape(len(texts), encoded.dtype.itemsize)
+    """Texts of one length as rows of bytes."""
+    rows: Array = np.frombuffer("".join(texts).encode(), "u1").reshape(len(texts), -1)
     return rows
 
 
 def _written(values: Array) -> Array:
-    """Millionths as decimals in rows of bytes, with zeros in place of what is not written.
+    """Millionths as decimals of one width, with zeros in front.
 
-    >>> [row[row != 0].tobytes() for row in _written(np.array([-1500000, 12, MISSING]))]
-    [b'-1.500000', b'0.000012', b'']
+    >>> [row.tobytes() for row in _written(np.array([-1500000, 12, 123456789]))]
+    [b'-00001.500000', b'000000.000012', b'000123.456789']
     """
-    missing = values == MISSING
-    left: Array = np.abs(np.where(missing, 0, values))
-    groups = max(-(-len(str(int(left.max(initial=0)))) // 3), 3)
-    digits = np.empty((len(values), groups, 3), "u1")
+    left: Array = np.abs(np.where(values == MISSING, 0, values))
+    groups = max(-(-(len(str(int(left.max(initial=0)))) + 1) // 4), 3)
+    digits = np.empty((len(values), groups), "u4")
     for group in range(groups - 1, -1, -1):
-        higher = left // 1000
-        digits[:, group] = THREE[left - higher * 1000]
+        higher = left // 10_000
+        digits[:, group] = FOUR[left - higher * 10_000]
         left = higher
-    digits = digits.reshape(len(values), 3 * groups)
-    before = digits[:, : -PLACES - 1]  # the digits in front of the last one before the point
-    before[np.logical_and.accumulate(before == ord("0"), axis=1)] = 0
-    sign = np.where(values < 0, ord("-"), 0).astype("u1")[:, None]
-    point = np.full((len(values), 1), ord("."), "u1")
-    rows = np.hstack([sign, digits[:, :-PLACES], point, digits[:, -PLACES:]])
-    rows[missing] = 0
+    places = digits.view("u1").reshape(len(values), 4 * groups)
+    rows = np.empty((len(values), 4 * groups + 1), "u1")
+    rows[:, :-7], rows[:, -7], rows[:, -6:] = places[:, :-6], ord("."), places[:, -6:]
+    rows[values < 0, 0] = ord("-")
     return rows
 
 

@@ -16,10 +16,15 @@ if TYPE_CHECKING:
     Array = np.ndarray[Any, Any]
 
 HEADER = b"session,sid,count,cells\n"
-BLOCK = 4 << 20  # bytes of lines at a time
-COMMA, NEWLINE, BETWEEN, POINT, ZERO = (ord(sign) for sign in ",\n;.0")
+BLOCK = 1 << 20  # bytes of lines at a time
+COMMA, NEWLINE, BETWEEN, POINT, MINUS, ZERO = (ord(sign) for sign in ",\n;.-0")
 PLACES = 6  # behind the point
-DIGITS = 20  # of a cell with its point, at most
+ZEROS = np.uint64(0x3030303030303030)
+STEPS = [  # that add up the digits of eight bytes: how far, times what, and what of the sum counts
+    (np.uint64(8), np.uint64(10), np.uint64(0x00FF00FF00FF00FF)),
+    (np.uint64(16), np.uint64(100), np.uint64(0x0000FFFF0000FFFF)),
+    (np.uint64(32), np.uint64(10000), np.uint64(0x00000000FFFFFFFF)),
+]
 
 
 class Lines(NamedTuple):
@@ -55,17 +60,17 @@ def _parsed(text: Array) -> Iterator[Lines]:
     if len(commas) != 3 * len(ends) or (commas[::3] - starts != 10).any():
         raise Unreadable(bytes(text[: ends[0] + 1]))
     second, third = commas[1::3], commas[2::3]
-    sids, counts = _whole(text, starts + 11, second), _whole(text, second + 1, third)
-    if (counts == 1).all():
-        first, last = third + 1, ends
-    else:
+    read = _Places(text)
+    sids, counts = read.whole(starts + 11, second), read.whole(second + 1, third)
+    first, last = third + 1, ends
+    if not (counts == 1).all():
         last = np.flatnonzero((text == NEWLINE) | (text == BETWEEN))
         first = np.append(0, last[:-1] + 1)
         first[np.append(0, np.cumsum(counts[:-1]))] = third + 1
     if len(last) != counts.sum():
         raise Unreadable(bytes(text[: ends[0] + 1]))
-    cells = _decimals(text, first, last)
-    days = text[starts[:, None] + np.arange(2, 10)].view("u8")[:, 0]
+    cells = read.decimals(first, last)
+    days = read.eight(starts + 10)  # without the century
     begins = np.flatnonzero(np.append(True, days[1:] != days[:-1]))
     bounds = np.append(0, np.cumsum(counts))
     for low, high in zip(begins, np.append(begins[1:], len(days))):
@@ -73,35 +78,57 @@ def _parsed(text: Array) -> Iterator[Lines]:
         yield Lines(day, sids[low:high], counts[low:high], cells[bounds[low] : bounds[high]])
 
 
-def _whole(text: Array, starts: Array, ends: Array) -> Array:
-    """The whole numbers between these places, of at most ten digits."""
-    numbers = np.zeros(len(starts), "i8")
-    for at in range(int((ends - starts).max(initial=0))):
-        place = starts + at
-        inside = place < ends
-        numbers = np.where(inside, numbers * 10 + text[np.minimum(place, ends)] - ZERO, numbers)
-    return numbers
+class _Places:
+    """Reads the numbers between places of a text, all at once.
 
+    Eight bytes that end at a place are one number of 64 bits, whose digits are added up in pairs, then pairs of pairs.
 
-def _decimals(text: Array, starts: Array, ends: Array) -> Array:
-    """The cells between these places, each with six decimals or empty, as floats with NaN for an empty one."""
-    widths = ends - starts
-    missing = widths == 0
-    minus = ~missing & (text[np.minimum(starts, ends)] == ord("-"))
-    whole = np.maximum(widths - PLACES - 1 - minus, 0)  # digits before the point
-    if (~missing & (text[ends - PLACES - 1] != POINT)).any():
-        raise Unreadable(bytes(text[starts[0] : starts[0] + 60]))
-    values = np.zeros(len(starts), "i8")
-    for at in range(PLACES):
-        values = values * 10 + text[ends - PLACES + at] - ZERO
-    power, places = 10**PLACES, ends - PLACES - 2
-    for at in range(int(whole.max(initial=0))):
-        values += np.where(at < whole, (text[places - at].astype("i8") - ZERO) * power, 0)
-        power *= 10
-    floats: Array = values / 10**PLACES
-    floats[minus] *= -1
-    floats[missing] = np.nan
-    return floats
+    >>> read = _Places(np.frombuffer(b"12;-0.500000;1234567890.123456;", "u1"))
+    >>> read.whole(np.array([0]), np.array([2])), read.decimals(np.array([3, 13, 31]), np.array([12, 30, 31]))
+    (array([12]), array([-5.00000000e-01,  1.23456789e+09,             nan]))
+    """
+
+    def __init__(self, text: Array):
+        padded = np.concatenate([np.full(8, ZERO, "u1"), text, np.full(8, ZERO, "u1")])
+        self.bytes = padded
+        self.words: Array = np.ndarray((len(padded) - 7,), "u8", padded.data, 0, (1,))  # that begin at each byte
+
+    def eight(self, ends: Array) -> Array:
+        """The eight bytes before each place."""
+        words: Array = self.words[ends]
+        return words
+
+    def digits(self, ends: Array, counts: Array) -> Array:
+        """The numbers of at most eight digits before each place."""
+        keep = (np.minimum(counts, 8) * 8).astype("u8")
+        words: Array = (self.eight(ends) ^ ZEROS) >> (64 - np.maximum(keep, 1)) << (64 - np.maximum(keep, 1))
+        words[counts <= 0] = 0
+        for shift, factor, mask in STEPS:
+            words = (words * factor + (words >> shift)) & mask
+        numbers: Array = words.astype("i8")
+        return numbers
+
+    def whole(self, starts: Array, ends: Array) -> Array:
+        """The whole numbers between places; without a digit 0."""
+        counts = ends - starts
+        numbers = self.digits(ends, counts)
+        if (counts > 8).any():
+            numbers += self.digits(ends - 8, counts - 8) * 10**8
+        return numbers
+
+    def decimals(self, starts: Array, ends: Array) -> Array:
+        """The cells between places, each with six decimals or empty, as floats with NaN for an empty one."""
+        missing = ends == starts
+        point = np.where(missing, ends, ends - PLACES - 1)
+        minus = ~missing & (self.bytes[starts + 8] == MINUS)
+        if (self.bytes[point + 8][~missing] != POINT).any():
+            raise Unreadable(bytes(self.bytes[8:68]))
+        six = np.where(missing, 0, PLACES)
+        values = self.whole(np.where(missing, point, starts + minus), point) * 10**PLACES + self.digits(ends, six)
+        floats: Array = values / 10**PLACES
+        floats[minus] *= -1
+        floats[missing] = np.nan
+        return floats
 
 
 class Windows:

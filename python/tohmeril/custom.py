@@ -22,7 +22,7 @@ from . import program, table
 from ._order import Need, order_of, script_of
 from ._results import MISSING, MOST, Records, TooMany, as_labels, to_millionths
 from ._windows import Windows
-from .data import Data, records
+from .data import HEADERS, Data, records
 from .faults import ComputeFault, DataFault, LimitFault
 from .pipeline.custom import Custom, Whole, bars_of, custom_of, new_out, output_of, parts_of
 from .pipeline.script import Script, without_alias
@@ -151,7 +151,16 @@ def computed(
                     count += 1
                     tick(count / every)
                 found.flush()
+            if not order.has_bars and any(bars_of(need.custom) for level in order.levels for need in level):
+                whole.files["bars"] = _no_bars(Path(folder))
             yield whole
+
+
+def _no_bars(folder: Path) -> Path:
+    """A file without bars, for a pipeline that reads none: the windows' file was judged, and need not be read again."""
+    path = folder / "bars.csv"
+    path.write_text(",".join(HEADERS["bars"]) + "\n")
+    return path
 
 
 @contextmanager
