@@ -14,6 +14,7 @@ from typing import TYPE_CHECKING, Any, Mapping, Optional
 import numpy as np
 
 from .data import HEADERS
+from .faults import LimitFault, ReadFault
 
 if TYPE_CHECKING:
     Array = np.ndarray[Any, Any]
@@ -127,7 +128,8 @@ class Records:
                     ):
                         at = np.flatnonzero(rows)
                         line = np.full((len(at), 1), ord("\n"), "u1")
-                        file.write(memoryview(np.hstack([sids[columns[at] - first], dates[days[at]], ends[at], line])))
+                        lines: Array = np.hstack([sids[columns[at] - first], dates[days[at]], ends[at], line])
+                        file.write(memoryview(lines))
         self.waiting, self.rows = [], 0
 
     def _widths(self) -> list[tuple[int, int]]:
@@ -152,9 +154,22 @@ class Records:
 
 def _copy(user: Optional[Path], path: Path, part: str) -> int:
     """Begin a file with the user's records, or with the header alone, and count them."""
-    text = user.read_bytes() if user is not None else f"{','.join(HEADERS[part])}\n".encode()
-    path.write_bytes(text if text.endswith(b"\n") else text + b"\n")
-    return text.count(b"\n") - 1
+    if user is None:
+        path.write_text(f"{','.join(HEADERS[part])}\n")
+        return 0
+    count, block = 0, b""
+    try:
+        with open(user, "rb") as source, open(path, "wb") as file:
+            while more := source.read(1 << 22):
+                block = more
+                count += block.count(b"\n")
+                file.write(block)
+            file.write(b"" if block.endswith(b"\n") else b"\n")
+    except OSError:
+        raise ReadFault(f"read: {user}") from None
+    if count > MOST[part] + 1:
+        raise LimitFault(f"limit: {part}")
+    return max(count - block.endswith(b"\n"), 0)
 
 
 def _as_bytes(texts: list[str]) -> Array:
