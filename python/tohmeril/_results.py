@@ -129,7 +129,7 @@ class Records:
                         at = np.flatnonzero(rows)
                         line = np.full((len(at), 1), ord("\n"), "u1")
                         lines: Array = np.hstack([sids[columns[at] - first], dates[days[at]], ends[at], line])
-                        file.write(memoryview(lines))
+                        file.write(lines.data)
         self.waiting, self.rows = [], 0
 
     def _widths(self) -> list[tuple[int, int]]:

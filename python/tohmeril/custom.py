@@ -421,7 +421,7 @@ class _Work:
             warnings.warn(
                 f"{self.custom!r}: {self.great} results beyond 100,000,000,000 are missing, the first on {self.since}: "
                 "give them in thousands or millions",
-                stacklevel=2,
+                stacklevel=outside(),
             )
 
 
