@@ -1,5 +1,6 @@
 """The recipes in Python run as they are."""
 
+import importlib.util
 import os
 import subprocess
 import sys
@@ -10,13 +11,13 @@ from conftest import CHECKOUT
 from tohmeril import Data
 
 
-def recipe(name, *words):
+def recipe(name, *words, folder="recipes", also=""):
     """The output of a recipe, with the package of this checkout."""
     done = subprocess.run(
-        [sys.executable, CHECKOUT / "examples/recipes" / name, *map(str, words)],
+        [sys.executable, CHECKOUT / "examples" / folder / name, *map(str, words)],
         stdout=subprocess.PIPE,
         check=True,
-        env={**os.environ, "PYTHONPATH": str(CHECKOUT / "python")},
+        env={**os.environ, "PYTHONPATH": f"{CHECKOUT / 'python'}:{also}"},
     )
     return done.stdout.decode()
 
@@ -39,3 +40,35 @@ def test_picture(market, tmp_path):
     pytest.importorskip("matplotlib")
     recipe("picture.py", market, "2023-10-02", "2023-11-30", 5, tmp_path)
     assert sorted(path.name for path in tmp_path.iterdir()) == ["factor.png", "fifths.png", "turnover.png"]
+
+
+NEIGHBORS = """
+import numpy as np
+
+class KNeighborsRegressor:
+    def __init__(self, count):
+        self.count = count
+    def fit(self, points, values):
+        self.points, self.values = points, values
+    def predict(self, points):
+        apart = ((points[:, None] - self.points[None]) ** 2).sum(axis=2)
+        return self.values[np.argsort(apart, axis=1, kind="stable")[:, : self.count]].mean(axis=1)
+"""
+
+
+@pytest.mark.parametrize(
+    "name, columns",
+    [
+        ("residual_momentum", "momentum  place"),
+        ("reversal", "reversal     score"),
+        ("skew", "middle      skew  side  place"),
+        ("neighbours", "week  place"),
+    ],
+)
+def test_custom(name, columns, market, tmp_path):
+    """Where there is no scikit-learn, a model of its form is in its place."""
+    if importlib.util.find_spec("sklearn") is None:
+        (tmp_path / "sklearn").mkdir()
+        (tmp_path / "sklearn/neighbors.py").write_text(NEIGHBORS)
+    shown = recipe(f"{name}.py", market, "2023-12-18", "2023-12-20", folder="custom", also=tmp_path)
+    assert columns in shown and "2023-12-18 1" in shown

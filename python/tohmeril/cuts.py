@@ -20,10 +20,10 @@ from typing import TYPE_CHECKING, Any, Callable, Container, Iterator, NamedTuple
 import numpy as np
 import pandas as pd
 
+from ._order import order_of
 from .data import CREATE, FILES, HEADERS, SECONDS, TABLES, Data, readable, records
 from .faults import DataFault, ReadFault, StoreFault
 from .pipeline.script import Script
-from .plans import plan
 
 if TYPE_CHECKING:
     Array = np.ndarray[Any, Any]
@@ -60,7 +60,7 @@ def cut_files(script: Script, data: Data, ranges: Sequence[tuple[str, str]], fol
     assets = tables["assets"]
     spans = []
     for at, (start, end) in enumerate(ranges):
-        first = data.sessions[plan(script, start, end, data).reach]
+        first = data.sessions[order_of(script, start, end, data).reach]
         spans.append(
             Span(folder / str(at), first, end, frozenset(assets.sid[(assets.start < end) & (assets.end >= first)]))
         )

@@ -321,6 +321,19 @@ class MemoryFault(Fault, status=10):
     """Memory ran out."""
 
 
+class ComputeFault(Fault, status=0):
+    """Code of one's own, the `compute` of a custom term, has raised; `__cause__` is what it has raised, here.
+
+    Attributes
+    ----------
+    term, session : str
+        The term that was computed, as it is written, and the day.
+    """
+
+    term = ""
+    session = ""
+
+
 def fault(status: int, line: str, note: str = "") -> Fault:
     """The exception of a status.
 

@@ -12,10 +12,11 @@ import numpy as np
 import pandas as pd
 
 from . import program
+from ._order import names_in
 from .data import SECONDS, TABLES, Data, readable
 from .faults import LimitFault, StoreFault
 from .pipeline.script import BARS
-from .plans import Piped, Source, as_data, as_script, named_in
+from .plans import Piped, Source, as_data, as_script
 
 if TYPE_CHECKING:
     Array = np.ndarray[Any, Any]
@@ -344,7 +345,7 @@ def _acting(data: Data, assets: pd.DataFrame, adjustments: pd.DataFrame) -> Iter
 
 def _dated(data: Data, pipelines: Sequence[Piped], part: str) -> Iterator[str]:
     """Labels or numbers that no pipeline names, names without any, and days that are none of publication."""
-    named = {name for pipeline in pipelines for name in named_in(as_script(pipeline).text, part)}
+    named = {name for pipeline in pipelines for name in names_in(as_script(pipeline), part)}
     rows = pd.DataFrame({"name": [], SINCE[part]: []}, dtype=str)
     if part in data.files:
         blocks = pd.read_csv(

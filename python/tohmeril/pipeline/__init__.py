@@ -4,11 +4,9 @@ from __future__ import annotations
 
 from typing import TYPE_CHECKING, Mapping, Optional
 
-from .classifiers import CustomClassifier
-from .factors import CustomFactor
-from .filters import CustomFilter
+from .custom import CustomClassifier, CustomFactor, CustomFilter, require_one
 from .script import Script, make_script
-from .term import BoundColumn, Classifier, Factor, Filter, Inexpressible, Term
+from .term import BoundColumn, Classifier, Factor, Filter, Inexpressible, NonWindowSafeInput, Term
 
 if TYPE_CHECKING:
     from ..plans import Graph
@@ -21,6 +19,7 @@ __all__ = [
     "Classifier",
     "BoundColumn",
     "Inexpressible",
+    "NonWindowSafeInput",
     "CustomFactor",
     "CustomFilter",
     "CustomClassifier",
@@ -92,6 +91,7 @@ class Pipeline:
                 f"column {name!r} is {term!r} and no factor, filter or classifier; .latest is the newest value of a "
                 "column"
             )
+        require_one(term)
         if name in self._columns and not overwrite:
             raise KeyError(f"Column {name!r} already exists.")
         self._columns[name] = term

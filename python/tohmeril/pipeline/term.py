@@ -29,7 +29,7 @@ from weakref import WeakValueDictionary
 
 import numpy as np
 
-CALL, MEMBER, PROPERTY, INFIX, PREFIX, WORD, TEXT, ALIAS = (
+CALL, MEMBER, PROPERTY, INFIX, PREFIX, WORD, TEXT, ALIAS, COMPUTED = (
     "call",
     "member",
     "property",
@@ -38,6 +38,7 @@ CALL, MEMBER, PROPERTY, INFIX, PREFIX, WORD, TEXT, ALIAS = (
     "word",
     "text",
     "alias",
+    "computed",
 )
 OPERATORS: Mapping[str, Callable[..., Any]] = {  # Python's operators by numpy's names
     "add": operator.add,
@@ -78,12 +79,16 @@ class Inexpressible(NotImplementedError):
     """The language has no such thing; the message names the nearest one that it has."""
 
 
+class NonWindowSafeInput(ValueError):
+    """A window over a factor whose values must not be in one, as that of Zipline's errors."""
+
+
 class Absent:
     """A name of Zipline's that the language cannot say. Whoever calls it, or subclasses it, learns what comes nearest.
 
-    >>> Absent("CustomFactor", "WindowSum and arithmetic")()
+    >>> Absent("MaxDrawdown", "WindowMax and arithmetic")()
     Traceback (most recent call last):
-    tohmeril.pipeline.term.Inexpressible: the language has no CustomFactor; nearest: WindowSum and arithmetic
+    tohmeril.pipeline.term.Inexpressible: the language has no MaxDrawdown; nearest: WindowMax and arithmetic
     """
 
     def __init__(self, name: str, nearest: str):
@@ -156,6 +161,7 @@ class Term:
     args: tuple[Union[Term, Decimal, str], ...]
     options: tuple[tuple[str, Union[Term, str]], ...]
     sort = ""
+    is_computed = False  # whether code of one's own computes it (tohmeril.pipeline.custom)
     _known: WeakValueDictionary[tuple[object, ...], Any] = WeakValueDictionary()
 
     def __new__(
@@ -167,6 +173,8 @@ class Term:
             if not isinstance(value, wanted):
                 column = f": write {value!r}.latest" if getattr(value, "holds", "") == "labels" else ""
                 raise TypeError(f"{key} of {name} has to be a {wanted.__name__.lower()}, and is {value!r}{column}")
+        for arg in args if form == CALL else ():
+            require_window_safe(name, arg)
         parts = form, name, tuple(arg if isinstance(arg, (Term, str)) else as_decimal(arg) for arg in args), given
         known: Optional[Same] = Term._known.get((cls, *parts))
         if known is not None:
@@ -182,18 +190,23 @@ class Term:
         """The terms that this one is of, from left to right."""
         return [part for part in (*self.args, *(value for _, value in self.options)) if isinstance(part, Term)]
 
+    @property
+    def _kind(self: Same) -> type[Same]:
+        """The class of what is made of it by `alias` and `downsample`."""
+        return type(self)
+
     def alias(self: Same, name: str) -> Same:
         """The same term, under this name in the text of the pipeline."""
-        return type(self)(ALIAS, name, self)
+        return self._kind(ALIAS, name, self)
 
     def downsample(self: Same, frequency: str) -> Same:
         """Value on the first session of the year, quarter, month or week, kept through all of it, as it was seen then.
 
         `frequency` is "year_start", "quarter_start", "month_start" or "week_start"; weeks begin on Monday. Exact.
         """
-        return type(self)(MEMBER, "downsample", self, frequency)
+        return self._kind(MEMBER, "downsample", self, frequency)
 
-    def __setattr__(self, name: str, value: object) -> NoReturn:
+    def __setattr__(self, name: str, value: object) -> None:
         if name == "window_safe":
             raise AttributeError(
                 "terms do not change, nor does what may be in a window: a window can be over Returns, ranks, "
@@ -596,6 +609,35 @@ class Bins(Classifier):
     def element_of(self, choices: Iterable[int]) -> Filter:
         """True where the bin is one of `choices`."""
         return joined_by_or(lambda one: self.eq(one[0]), choices, 1)
+
+
+KEEPING = {"rank", "zscore", "peer_count", "sign"}  # what keeps its values in a window, whatever it is of
+
+
+def unsafe_part(term: Term) -> Optional[Term]:
+    """The computed factor without `window_safe` by which a term must not be in a window, where there is one."""
+    waiting, seen = [term], {term}
+    while waiting:
+        part = waiting.pop()
+        if not isinstance(part, Factor) or part.form == CALL or part.form == MEMBER and part.name in KEEPING:
+            continue
+        if part.is_computed and not getattr(part, "window_safe", False):
+            return part
+        new = [each for each in part.terms if each not in seen]
+        seen.update(new)
+        waiting += new
+    return None
+
+
+def require_window_safe(name: str, term: object) -> None:
+    """Refuse a window over a computed factor that is not said to be safe in one."""
+    unsafe = unsafe_part(term) if isinstance(term, Factor) else None
+    if unsafe is not None:
+        raise NonWindowSafeInput(
+            f"{name} can't have a window over {term!r}, since {unsafe!r} is not window-safe: a value of it may depend on "
+            "adjustments that come between. Give its rank() or zscore(), or let its class say window_safe = True where "
+            "no split or dividend changes it, as with a ratio of two prices of its window"
+        )
 
 
 def joined_by_or(make: Callable[[list[Item]], Filter], items: Iterable[Item], size: int) -> Filter:

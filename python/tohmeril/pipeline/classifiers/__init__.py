@@ -4,6 +4,7 @@ from __future__ import annotations
 
 from typing import Sequence
 
+from ..custom import CustomClassifier as CustomClassifier
 from ..data import LabelColumn, Labels
 from ..term import Absent, Bins, Classifier, Factor, Mask, Text, as_factor  # noqa: F401
 
@@ -34,5 +35,4 @@ def Everything() -> Bins:
     return as_factor(1).quantiles(2)
 
 
-CustomClassifier = Absent("CustomClassifier", "quantiles of a factor, or labels of the labels file")
 Relabel = Absent("Relabel", "labels of another name in the labels file")

@@ -23,6 +23,7 @@ from typing import Any, Mapping, NamedTuple, Optional, Sequence, Union
 
 import numpy as np
 
+from ..custom import CustomFactor as CustomFactor
 from ..data import EquityPricing
 from ..term import CALL, Absent, BoundColumn, Classifier, Factor, Filter, Mask, NumberColumn, Term
 
@@ -53,7 +54,10 @@ class Windowed:
         if Windowed in cls.__bases__:
             cls.function = cls.__name__
         if "compute" in cls.__dict__:
-            CustomFactor()
+            Absent(
+                f"compute below {cls.__mro__[1].__name__}",
+                f"class {cls.__name__}(CustomFactor), with inputs and window_length of its own",
+            )()
 
     def __new__(
         cls,
@@ -379,9 +383,6 @@ def RollingLinearRegression(dependent: Factor, independent: Factor, regression_l
 
 _ONE_ASSET = (
     "RegressionSlope or Correlation with a factor that has a value for every asset, as a number of the numbers file"
-)
-CustomFactor = Absent(
-    "CustomFactor", "WindowSum, WindowMax, WindowMin, WindowStd and arithmetic; or their table, and pandas"
 )
 EWMSTD, ExponentialWeightedMovingStdDev = Absent.each(
     "EWMSTD ExponentialWeightedMovingStdDev", "WindowStd, with equal weights"

@@ -11,6 +11,7 @@ import typing
 from numbers import Integral
 from typing import Iterable
 
+from ..custom import CustomFilter as CustomFilter
 from ..factors import windowed
 from ..term import CALL, Absent, Filter, joined_by_or
 
@@ -52,7 +53,6 @@ def SingleAsset(asset: object) -> Filter:
     return StaticAssets([asset])
 
 
-CustomFilter = Absent("CustomFilter", "comparisons of factors, and & | ~")
 ArrayPredicate, NullFilter, NotNullFilter = Absent.each(
     "ArrayPredicate NullFilter NotNullFilter", "isnull(), notnull(), comparisons"
 )
