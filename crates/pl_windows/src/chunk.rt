@@ -1,0 +1,62 @@
+//! Some sessions in a row, over one buffer of bars.
+
+ghost use Rattle.std.specs.Prelude.{◌≡◌, ◌+◌, ◌-◌, ◌<◌, ◌≤◌};
+ghost use Rattle.pl_outside.specs.Taken.{Writes};
+ghost use Rattle.pl_windows.specs.Chunks.{AreBuffers, most_sessions};
+ghost use Rattle.pl_windows.specs.Ranges.{IsAsked, asked_lines};
+
+use crate::asked::Asked;
+use crate::buffers::Buffers;
+use crate::session::write_session;
+use pl_adjarray::AdjustedArray;
+use pl_fixed::Steps;
+use pl_outside::{Failed, Sink};
+use std::sync::ledger::Ledger;
+
+/// The greatest number of sessions of a chunk.
+pub(crate) const MOST_SESSIONS: usize = 126;
+
+/// The first and the last session of a chunk.
+#[derive(Clone, Copy)]
+pub(crate) struct Chunk {
+    pub(crate) first: usize,
+    pub(crate) last: usize,
+}
+
+/// Writes the lines of a chunk. The bars of its sessions and of a window before it are put into the buffer,
+/// which is adjusted from session to session.
+pub(crate) fn write_chunk<O: Sink, L: Ledger>(
+    asked: &Asked<'_>,
+    chunk: Chunk,
+    buffers: &mut Buffers,
+    out: &mut O,
+    steps: &mut Steps<L>,
+) -> Result<(), Failed>
+    requires asked { IsAsked asked.now }
+    requires from { asked.now.from ≤ chunk.first }
+    requires order { chunk.first ≤ chunk.last }
+    requires to { chunk.last ≤ asked.now.to }
+    requires few { chunk.last < chunk.first + most_sessions }
+    requires buffers { AreBuffers asked.now buffers.old }
+    ensures writes { Writes O.taken O.faults O.sound O.room out.old out.new
+        (asked_lines asked.now chunk.first (chunk.last + 1 - chunk.first)) result }
+    ensures buffers { AreBuffers asked.now buffers.new }
+{
+    let rows = asked.window + (chunk.last - chunk.first);
+    let array = AdjustedArray::new(
+        asked.world.bars,
+        asked.world.adjustments,
+        asked.world.sessions,
+        asked.column,
+        chunk.first - asked.window,
+        rows,
+        &buffers.cols,
+    );
+    let len = rows * buffers.cols.len();
+    let mut windows = array.traverse(asked.window, &mut buffers.bars[..len]);
+    for session in chunk.first..chunk.last + 1 {
+        windows.advance(steps);
+        write_session(asked, session, &windows, &mut buffers.line, out)?;
+    }
+    Ok(())
+}
