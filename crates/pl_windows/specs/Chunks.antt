@@ -1,10 +1,11 @@
 -- The buffer of a chunk, and where its traversal stands.
-use Rattle.std.specs.Prelude.{◌≡◌, ℕ, ◌+◌, ◌-◌, ◌*◌, ◌≤◌, min, List, length}
+use Rattle.std.specs.Prelude.{◌≡◌, ℕ, ◌+◌, ◌-◌, ◌*◌, ◌<◌, ◌≤◌, min, ℤ, List, length}
 use Rattle.std.specs.List.{range_with_len}
 use Rattle.pl_adjarray.specs.Buffered.{Buffered}
 use Rattle.pl_adjarray.specs.Traversals.{Traversal}
 use Rattle.pl_windows.specs.declared.asked.Asked.{Asked}
 use Rattle.pl_windows.specs.declared.buffers.Buffers.{Buffers}
+use Rattle.pl_windows.specs.declared.chunk.Chunk.{Chunk}
 
 -- the greatest number of sessions of a chunk
 abbrev pub most_sessions : ℕ
@@ -18,10 +19,21 @@ all_cols a = range_with_len 0 (length a.world.assets.now)
 abbrev pub rows_for : Asked → ℕ → ℕ
 rows_for a n = a.window + (n - 1)
 
--- all columns, and room for the largest chunk
+-- there is room for the bars of the largest chunk
+abbrev pub HasRoom : Asked → List ℤ → Type 0
+HasRoom a bars = rows_for a (min most_sessions (a.to + 1 - a.from)) * length a.world.assets.now ≤ length bars
+
+-- all columns, and room
 pub record AreBuffers (a : Asked) (b : Buffers) : Type 0 where
   pub cols : b.cols.items ≡ all_cols a
-  pub room : length b.bars.items ≡ rows_for a (min most_sessions (a.to + 1 - a.from)) * length a.world.assets.now
+  pub room : HasRoom a b.bars.items
+
+-- sessions of the range, not too many
+pub record IsChunk (a : Asked) (c : Chunk) : Type 0 where
+  pub from : a.from ≤ c.first
+  pub order : c.first ≤ c.last
+  pub to : c.last ≤ a.to
+  pub few : c.last < c.first + most_sessions
 
 -- the buffer is of all assets of the world, and is asked for windows of the asked length
 pub record IsBufferOf (a : Asked) (b : Buffered) : Type 0 where
@@ -32,8 +44,8 @@ pub record IsBufferOf (a : Asked) (b : Buffered) : Type 0 where
   pub cols : b.cols ≡ all_cols a
 
 -- the traversal has come to the session
-pub record IsTraversed (a : Asked) (session : ℕ) (t : Traversal) : Type 0 where
+pub record IsTraversed (a : Asked) (d : ℕ) (t : Traversal) : Type 0 where
   pub buffer : IsBufferOf a t.array
   pub window : t.window ≡ a.window
-  pub session : t.session ≡ session
+  pub session : t.session ≡ d
   pub begun : t.array.first + t.window ≤ t.session

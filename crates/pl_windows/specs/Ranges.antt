@@ -1,8 +1,8 @@
 -- What windows are asked of, in the words of the code.
-use Rattle.std.specs.Prelude.{ℕ, ◌<◌, ◌≤◌, ℤ, pos, List, ◌∷◌, ◌++◌, length, decimal, unwrap_or}
+use Rattle.std.specs.Prelude.{ℕ, ◌<◌, ◌≤◌, ℤ, pos, if◌then◌else◌, List, [], ◌∷◌, ◌++◌, length, decimal, unwrap_or}
 use Rattle.pl_spec.specs.Dates.{date_text}
 use Rattle.pl_spec.specs.Decimals.{cell_text}
-use Rattle.pl_spec.specs.World.{World, day_of}
+use Rattle.pl_spec.specs.World.{World, day_of, exists}
 use Rattle.pl_world.specs.Worlds.{PartsMakeAWorld, world_of}
 use Rattle.pl_windows.specs.declared.asked.Asked.{Asked}
 use Rattle.pl_windows.specs.Windows.{lines, row_line, rows_on, window_row, windows_text}
@@ -20,6 +20,10 @@ asked_lines a session n = lines (asked_world a) (rows_on (asked_world a) a.colum
 -- the line of an asset on a session
 abbrev pub asked_line : Asked → ℕ → ℕ → List ℕ
 asked_line a session sid = row_line (asked_world a) (window_row (asked_world a) a.column a.window a.from session sid)
+
+-- the same where it exists there, and else nothing
+abbrev pub line_there : Asked → ℕ → ℕ → List ℕ
+line_there a session sid = if exists (asked_world a) sid (pos session) then asked_line a session sid else []
 
 -- the line up to its first cell
 abbrev pub front_text : World → ℕ → ℕ → ℕ → ℤ → List ℕ

@@ -15,13 +15,17 @@ has_between (Some low) (Some high) es = list_any (is_between low high) es
 has_between low high es = false
 
 -- an adjustment or a revision of asset a became effective since the session before d
-abbrev pub is_changed : World → ℕ → ℤ → Bool
+unfoldable pub is_changed : World → ℕ → ℤ → Bool
 is_changed w a d = has_between (day_of w (before d 1)) (day_of w d) (events_of w a)
+
+-- it did, or the asset did not exist on the session before
+abbrev pub is_anew : World → ℕ → ℤ → Bool
+is_anew w a d = not (exists w a (before d 1)) || is_changed w a d
 
 -- The whole window is told on the first session of the range, on the first session on which the asset exists,
 -- and where an adjustment or a revision of it became effective since the session before.
-abbrev pub is_whole : World → ℕ → ℕ → ℕ → Bool
-is_whole w from a d = d == from || (not (exists w a (before (pos d) 1)) || is_changed w a (pos d))
+unfoldable pub is_whole : World → ℕ → ℕ → ℕ → Bool
+is_whole w from a d = d == from || is_anew w a (pos d)
 
 -- how many of the newest cells are told: all, or one
 abbrev pub told : World → ℕ → ℕ → ℕ → ℕ → ℕ

@@ -2,6 +2,8 @@
 
 ghost use Rattle.std.specs.Prelude.{◌≡◌, ◌<◌, ◌≤◌, length, pos};
 ghost use Rattle.pl_spec.specs.Parts.{sid_at};
+ghost use Rattle.pl_spec.specs.Window.{before};
+ghost use Rattle.pl_spec.specs.World.{exists};
 ghost use Rattle.pl_windows.specs.Ranges.{IsAsked, IsSession, asked_world};
 ghost use Rattle.pl_windows.specs.Windows.{is_changed, is_whole, told};
 
@@ -14,8 +16,8 @@ pub(crate) fn cells_told(asked: &Asked<'_>, place: Place) -> usize
     requires asked { IsAsked asked.now }
     requires session { IsSession asked.now place.session }
     requires col { place.col < length asked.now.world.assets.now }
-    ensures value { result ≡ told (asked_world asked.now) asked.now.window asked.now.from place.session
-        (sid_at asked.now.world.assets.now place.col) }
+    ensures value { result ≡ told (asked_world asked.now) asked.now.window asked.now.from
+        (sid_at asked.now.world.assets.now place.col) place.session }
     ensures some { 1 ≤ result }
     ensures most { result ≤ asked.now.window }
 {
@@ -27,16 +29,29 @@ pub(crate) fn cells_told(asked: &Asked<'_>, place: Place) -> usize
 }
 
 // Whether the whole window is told.
+#[tactic(auto, unfolding(crate::specs::Windows::is_whole))]
 fn is_whole(asked: &Asked<'_>, place: Place) -> bool
     requires asked { IsAsked asked.now }
     requires session { IsSession asked.now place.session }
     requires col { place.col < length asked.now.world.assets.now }
-    ensures { result ≡ is_whole (asked_world asked.now) asked.now.from place.session
-        (sid_at asked.now.world.assets.now place.col) }
+    ensures { result ≡ is_whole (asked_world asked.now) asked.now.from
+        (sid_at asked.now.world.assets.now place.col) place.session }
 {
-    place.session == asked.from
-        || !exists(&asked.world, place.col, place.session - 1)
-        || is_changed(asked, place)
+    if place.session == asked.from {
+        return true;
+    }
+    !existed(asked, place) || is_changed(asked, place)
+}
+
+// Whether the asset existed on the session before.
+fn existed(asked: &Asked<'_>, place: Place) -> bool
+    requires asked { IsAsked asked.now }
+    requires session { IsSession asked.now place.session }
+    requires col { place.col < length asked.now.world.assets.now }
+    ensures { result ≡ exists (asked_world asked.now) (sid_at asked.now.world.assets.now place.col)
+        (before (pos place.session) 1) }
+{
+    exists(&asked.world, place.col, place.session - 1)
 }
 
 // Whether an adjustment or a revision of the asset became effective since the session before.

@@ -4,7 +4,7 @@ ghost use Rattle.std.specs.Prelude.{◌≡◌, ◌⊎◌, IsErrOf};
 ghost use Rattle.pl_outside.specs.Taken.{Writes};
 ghost use Rattle.pl_world.specs.Worlds.{IsMade};
 ghost use Rattle.pl_table.specs.declared.error.RunError.TheVariants as RunError;
-ghost use Rattle.pl_windows.specs.Chunks.{AreBuffers};
+ghost use Rattle.pl_windows.specs.Chunks.{HasRoom, all_cols};
 ghost use Rattle.pl_windows.specs.Ranges.{IsAsked, IsRange, asked_text};
 
 use crate::asked::Asked;
@@ -12,7 +12,7 @@ use crate::buffers::Buffers;
 use crate::chunk::{Chunk, MOST_SESSIONS, write_chunk};
 use pl_fixed::Steps;
 use pl_outside::{Failed, Sink, write_bytes};
-use pl_table::RunError;
+use pl_table::{Line, RunError};
 use pl_world::laws::parts_make_a_world;
 use std::alloc::Global;
 use std::sync::ledger::Ledger;
@@ -38,8 +38,13 @@ pub fn write_windows<O: Sink, L: Ledger>(
     ensures memory { IsErrOf result RunError.Memory → out.new ≡ out.old }
 {
     parts_make_a_world(&asked.world);
-    let mut buffers = Buffers::reserve(alloc, asked)?;
-    match write_all(asked, &mut buffers, out, steps) {
+    let buffers = Buffers::reserve(alloc, asked)?;
+    let Buffers {
+        cols,
+        mut bars,
+        mut line,
+    } = buffers;
+    match write_all(asked, &cols, &mut bars, &mut line, out, steps) {
         Ok(()) => Ok(()),
         Err(_) => Err(RunError::WriteFault),
     }
@@ -48,19 +53,22 @@ pub fn write_windows<O: Sink, L: Ledger>(
 // Writes the header, and the lines chunk by chunk.
 fn write_all<O: Sink, L: Ledger>(
     asked: &Asked<'_>,
-    buffers: &mut Buffers,
+    cols: &[u32],
+    bars: &mut [i64],
+    line: &mut Line,
     out: &mut O,
     steps: &mut Steps<L>,
 ) -> Result<(), Failed>
     requires asked { IsAsked asked.now }
-    requires buffers { AreBuffers asked.now buffers.old }
+    requires cols { cols.now ≡ all_cols asked.now }
+    requires room { HasRoom asked.now bars.old }
     ensures { Writes O.taken O.faults O.sound O.room out.old out.new (asked_text asked.now) result }
 {
     write_bytes(out, b"session,sid,count,cells\n")?;
     let mut first = asked.from;
     while first <= asked.to {
         let last = asked.to.min(first + (MOST_SESSIONS - 1));
-        write_chunk(asked, Chunk { first, last }, buffers, out, steps)?;
+        write_chunk(asked, Chunk { first, last }, cols, bars, line, out, steps)?;
         first = last + 1;
     }
     Ok(())
