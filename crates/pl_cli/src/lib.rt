@@ -14,5 +14,6 @@ mod payouts;
 mod present;
 mod stated;
 mod top;
+mod windows;
 
 pub use top::run_program;

@@ -18,6 +18,7 @@ use crate::derivations::verify_command;
 use crate::parts::cut_command;
 use crate::payouts::payouts_command;
 use crate::stated::bench_command;
+use crate::windows::windows_command;
 use pl_fixed::Steps;
 use pl_load::{Fault, write_line};
 use pl_outside::{AdjustKeeper, Shelf, Sink};
@@ -50,6 +51,9 @@ use std::sync::ledger::Ledger;
 ///   `--adjustments NAME` and `--revisions NAME`, and with `--part` and one of `sessions`, `assets`, `bars`,
 ///   `labels`, `numbers`, `splits`, `mergers`, `dividends` and `revisions`, writes that part of what the rows
 ///   of `run` read, in the form of its file;
+/// - `windows SESSIONS ASSETS BARS COLUMN FROM TO WINDOW`, with the options `--adjustments NAME` and
+///   `--revisions NAME`, writes the windows of so many sessions over the bar column, for the sessions FROM to
+///   TO: of each window its newest cell, and all its cells where others changed;
 /// - `bench NUMBER`, with the option `--chunk N`, runs a pipeline of the program's own over the stated world
 ///   of the number, and writes the numbers of that run.
 ///
@@ -142,6 +146,7 @@ fn answer<S: Shelf, K: AdjustKeeper, O: Sink, L: Ledger>(
         Some(Request::Verify(request)) => verify_command(alloc, request, shelf, keeper, out),
         Some(Request::Daily(request)) => daily_command(alloc, request, shelf, keeper, out, steps),
         Some(Request::Cut(request)) => cut_command(alloc, request, shelf, keeper, out),
+        Some(Request::Windows(request)) => windows_command(alloc, request, shelf, keeper, out),
     }
 }
 

@@ -21,6 +21,7 @@ mod payouts;
 mod planning;
 mod range;
 mod tables;
+mod windows;
 
 pub use cell_place::{CellPlace, judge_cell};
 pub use cells::{LoadedCell, load_cell};
@@ -34,3 +35,4 @@ pub use numbered::judge_numbers;
 pub use payouts::{LoadedPayouts, load_payouts};
 pub use planning::{PlannedPipeline, load_plan};
 pub use range::{Range, judge_dates, judge_plan};
+pub use windows::{LoadedWindows, load_windows};

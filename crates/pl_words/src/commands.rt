@@ -17,6 +17,7 @@ pub enum CommandName {
     Verify,
     Daily,
     Cut,
+    Windows,
 }
 
 /// The options, of which a command knows some.
@@ -47,6 +48,7 @@ pub(crate) fn command_named(word: &str) -> Option<CommandName>
         "verify" => Some(CommandName::Verify),
         "daily" => Some(CommandName::Daily),
         "cut" => Some(CommandName::Cut),
+        "windows" => Some(CommandName::Windows),
         _ => None,
     }
 }
@@ -57,7 +59,7 @@ impl CommandName {
         ensures { result ≡ places_of self }
     {
         match self {
-            CommandName::Explain => 7,
+            CommandName::Explain | CommandName::Windows => 7,
             CommandName::Run | CommandName::Daily | CommandName::Cut => 6,
             CommandName::Verify => 5,
             CommandName::Plan | CommandName::Payouts => 4,
@@ -100,6 +102,7 @@ impl CommandName {
                 OptionName::Revisions,
                 OptionName::Part,
             ],
+            CommandName::Windows => &[OptionName::Adjustments, OptionName::Revisions],
             CommandName::Bench => &[OptionName::Chunk],
             CommandName::Check | CommandName::Fmt | CommandName::Plan | CommandName::Payouts => &[],
         }

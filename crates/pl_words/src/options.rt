@@ -10,7 +10,7 @@ use crate::cut::value;
 use crate::request::{DateWord, Options, WorldNames, WorldPart};
 use clap::ArgMatches;
 use pl_fixed::{is_name, read_day, read_sid};
-use pl_spec::Format;
+use pl_spec::{Column, Format};
 
 // How many sessions a chunk has at most.
 const MOST_CHUNK: u32 = 4096;
@@ -55,6 +55,31 @@ pub(crate) fn world_in<'a>(names: &[&'a str], matches: &ArgMatches<'a>) -> Optio
 
 // How many sessions are computed at a time where the words don't say.
 const USUAL_CHUNK: u32 = 126;
+
+/// The names of a world without labels and numbers: three names from the first one on, and the values of two
+/// options.
+pub(crate) fn bars_world_in<'a>(
+    names: &[&'a str],
+    matches: &ArgMatches<'a>,
+) -> Option<WorldNames<'a>>
+    requires { 3 ≤ length names.now }
+    ensures { MatchOption result
+        (bars_world_in (map (λ v. v.now) names.now) (values_in matches.now) ≡ None)
+        (λ r. bars_world_in (map (λ v. v.now) names.now) (values_in matches.now)
+        ≡ Some (world_names_of r)) }
+{
+    let adjustments = value(matches, OptionName::Adjustments).ok()?;
+    let revisions = value(matches, OptionName::Revisions).ok()?;
+    Some(WorldNames {
+        sessions: names[0],
+        assets: names[1],
+        bars: names[2],
+        labels: None,
+        numbers: None,
+        adjustments,
+        revisions,
+    })
+}
 
 /// The options of a table whose words give its form alone.
 pub(crate) fn usual<'a>(format: Format) -> Options<'a>
@@ -155,6 +180,36 @@ fn chunk_in(text: &str) -> Option<u32>
         Some(number)
     } else {
         None
+    }
+}
+
+// How many sessions a window has at most.
+const MOST_WINDOW: u32 = 1260;
+
+/// How many sessions a window has.
+pub(crate) fn window_in(text: &str) -> Option<u32>
+    ensures { result ≡ window_in text.now }
+{
+    // The bytes of a sid are those of any number of 32 bits without sign or leading zeros.
+    let number = read_sid(text.as_bytes())?;
+    if 1 <= number && number <= MOST_WINDOW {
+        Some(number)
+    } else {
+        None
+    }
+}
+
+/// The bar column of a name.
+pub(crate) fn bar_column_in(text: &str) -> Option<Column>
+    ensures { result ≡ bar_column_in text.now }
+{
+    match text {
+        "open" => Some(Column::OpenPrice),
+        "high" => Some(Column::High),
+        "low" => Some(Column::Low),
+        "close" => Some(Column::Close),
+        "volume" => Some(Column::Volume),
+        _ => None,
     }
 }
 

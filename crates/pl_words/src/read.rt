@@ -11,10 +11,13 @@ ghost use Rattle.pl_words.specs.Views.{Says, options_of, payouts_of, request_of,
 
 use crate::commands::{CommandName, command_named};
 use crate::cut::{cut, values};
-use crate::options::{chunk, column_in, date_in, format, options, part, usual, world_in};
+use crate::options::{
+    bar_column_in, bars_world_in, chunk, column_in, date_in, format, options, part, usual,
+    window_in, world_in,
+};
 use crate::request::{
     BenchRequest, CutRequest, ExplainRequest, Options, PayoutsRequest, PlanRequest, Request,
-    RunRequest, VerifyRequest,
+    RunRequest, VerifyRequest, WindowsRequest,
 };
 use crate::text::is_text;
 use clap::ArgMatches;
@@ -90,6 +93,7 @@ fn request_in<'a>(
         CommandName::Verify => verify_in(names, matches),
         CommandName::Daily => daily_in(names, matches),
         CommandName::Cut => cut_in(names, matches),
+        CommandName::Windows => windows_in(names, matches),
     }
 }
 
@@ -201,6 +205,24 @@ fn verify_in<'a>(names: &[&'a str], matches: &ArgMatches<'a>) -> Option<Request<
         pipeline: names[0],
         world,
         derivation: names[4],
+    }))
+}
+
+fn windows_in<'a>(names: &[&'a str], matches: &ArgMatches<'a>) -> Option<Request<'a>>
+    requires { length names.now ≡ 7 }
+    ensures { Says result (request_in commands.Windows (map (λ v. v.now) names.now) (values_in matches.now)) }
+{
+    let column = bar_column_in(names[3])?;
+    let from = date_in(names[4])?;
+    let to = date_in(names[5])?;
+    let window = window_in(names[6])?;
+    let world = bars_world_in(names, matches)?;
+    Some(Request::Windows(WindowsRequest {
+        world,
+        column,
+        from,
+        to,
+        window,
     }))
 }
 

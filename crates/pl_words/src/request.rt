@@ -4,7 +4,7 @@ ghost use Rattle.std.specs.Prelude.{◌≡◌, [], option_map, option_and_then, 
 ghost use Rattle.pl_words.specs.Request.{adjustments_of, column_asked, column_named, date_asked, date_named, file_named, name_asked, pipeline_of, table_date, world_file, world_of};
 ghost use Rattle.pl_words.specs.Views.{dated_of, request_of, run_of, text_of, world_names_of};
 
-use pl_spec::Format;
+use pl_spec::{Column, Format};
 
 /// A file that a command reads, by what it is to the command.
 #[derive(Clone, Copy, Debug, PartialEq, Eq)]
@@ -135,6 +135,16 @@ pub struct VerifyRequest<'a> {
     pub derivation: &'a str,
 }
 
+/// The names of a world, a bar column, two dates, and how many sessions a window has, from 1 to 1260.
+#[derive(Clone, Copy)]
+pub struct WindowsRequest<'a> {
+    pub world: WorldNames<'a>,
+    pub column: Column,
+    pub from: DateWord<'a>,
+    pub to: DateWord<'a>,
+    pub window: u32,
+}
+
 /// A command with what it is asked for.
 #[derive(Clone, Copy)]
 pub enum Request<'a> {
@@ -158,6 +168,8 @@ pub enum Request<'a> {
     Daily(RunRequest<'a>),
     /// A part of what a table reads of its world.
     Cut(CutRequest<'a>),
+    /// The windows of a bar column.
+    Windows(WindowsRequest<'a>),
 }
 
 /// The name of a file that words ask for; nothing where they ask for none.
@@ -214,7 +226,7 @@ impl<'a> Request<'a> {
             Request::Plan(plan) => Some(plan.pipeline),
             Request::Explain(cell) => Some(cell.pipeline),
             Request::Verify(verify) => Some(verify.pipeline),
-            Request::Bench(_) | Request::Payouts(_) => None,
+            Request::Bench(_) | Request::Payouts(_) | Request::Windows(_) => None,
         }
     }
 
@@ -226,6 +238,7 @@ impl<'a> Request<'a> {
             Request::Cut(cut) => Some(&cut.table.world),
             Request::Explain(cell) => Some(&cell.world),
             Request::Verify(verify) => Some(&verify.world),
+            Request::Windows(windows) => Some(&windows.world),
             _ => None,
         }
     }
@@ -266,6 +279,8 @@ impl<'a> Request<'a> {
             (Request::Plan(plan), RangeDate::From) => Some(plan.from.text),
             (Request::Plan(plan), RangeDate::To) => Some(plan.to.text),
             (Request::Explain(cell), RangeDate::At) => Some(cell.date.text),
+            (Request::Windows(windows), RangeDate::From) => Some(windows.from.text),
+            (Request::Windows(windows), RangeDate::To) => Some(windows.to.text),
             _ => None,
         }
     }
