@@ -46,8 +46,8 @@ kind_cost w (Cross k) wx wy wz x y z m g a d = session_cost w x d + session_cost
 kind_cost w (Downsample f) wx wy wz x y z m g a d = x a (period_start f w.days d)
 kind_cost w k wx wy wz x y z m g a d = 0
 
--- First the mask; where the asset exists and passes it, what the kind takes, from where the kind sees it. Each
--- is evaluated anew wherever it is read.
+-- First the mask; where the asset exists and passes it, what the kind takes, from where the kind sees it.
+-- Each is evaluated anew wherever it is read.
 unfoldable pub cost : spec.World → List (List ℕ) → Term → View → Cost
 cost w names absent view a d = 0
 cost w names (column c) view a d = 0

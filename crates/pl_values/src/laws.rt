@@ -20,10 +20,9 @@ pub fn cells_are_given()
     ensures downsampled { DownsampledCells }
 {}
 
-/// From wherever it is seen, a term is empty where the asset is not kept, and one that keeps its values is as it
-/// is; a formula or a filter over windows, and
-/// an operation that moves, is what the call of its family gives over windows and operands as they are seen,
-/// and what the calls ask for holds.
+/// From wherever it is seen, a term is empty where the asset is not kept, and one that keeps its values is as
+/// it is; a formula or a filter over windows, and an operation that moves, is what the call of its family gives
+/// over windows and operands as they are seen, and what the calls ask for holds.
 pub fn cells_are_seen()
     ensures own { OwnCells }
     ensures unkept { UnkeptSeen }

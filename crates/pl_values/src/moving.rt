@@ -5,8 +5,8 @@ ghost use Rattle.pl_values.specs.Views.{keeps_kind};
 
 use pl_terms::TermKind;
 
-/// Does a term of the kind keep the values of its own sessions, from wherever it is seen? Formulas over windows
-/// that give prices or volumes, and operations on numbers but their sign, do not.
+/// Does a term of the kind keep the values of its own sessions, from wherever it is seen? Formulas over
+/// windows that give prices or volumes, and operations that give numbers, but a sign, do not.
 #[tactic(auto, unfolding(pl_terms::specs::Kinds::kind_of))]
 pub fn keeps_values(kind: &TermKind) -> bool
     ensures { result ≡ keeps_kind (kind_of kind.now) }
