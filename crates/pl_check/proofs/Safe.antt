@@ -6,7 +6,7 @@ use Rattle.std.proofs.Math.Bool.{or-true, not-or_self}
 use Rattle.pl_spec.specs.declared.Column.{Column}
 use Rattle.pl_pipeline.specs.Kind.{Kind}
 use Rattle.pl_pipeline.specs.Term.{Graph, Node, Input, BarColumn, TermInput}
-use Rattle.pl_terms.specs.Sorts.{sort_of, is_windowed, is_safe_kind, is_safe_over, IsSafe, of_kind, of_inputs}
+use Rattle.pl_terms.specs.Sorts.{sort_of, is_windowed, is_safe_kind, is_safe_over, IsSafe, of_kind, of_inputs, IsLocal, ReadsSafe}
 use Rattle.pl_check.specs.declared.operation.Operation.{Operation}
 use Rattle.pl_pipeline.specs.declared.WindowKind.TheVariants as window
 use Rattle.pl_check.specs.declared.operation.Operation.TheVariants as op
@@ -32,6 +32,15 @@ value-safe g v j f h e = absurd (cc)
 pub safe-kept : (g h : Graph) (k : ℕ) → ((k : ℕ) (n : Node) → slice_get g k ≡ Some n → slice_get h k ≡ Some n) → IsSafe g k → IsSafe h k
 safe-kept g h k f (of_kind n e s) = of_kind n (f k n e) s
 safe-kept g h k f (of_inputs n e s r) = of_inputs n (f k n e) s (λ i j q. safe-kept g h j f (r i j q))
+
+pub reads-kept : (g h : Graph) (n : Node) → ((k : ℕ) (n : Node) → slice_get g k ≡ Some n → slice_get h k ≡ Some n) → ReadsSafe g n → ReadsSafe h n
+reads-kept g h n f s w i j q = safe-kept g h j f (s w i j q)
+
+-- and so does what is local
+pub local-kept : (g h : Graph) (k : ℕ) → ((k : ℕ) (n : Node) → slice_get g k ≡ Some n → slice_get h k ≡ Some n) → IsLocal g k → IsLocal h k
+local-kept g h k f (IsLocal.safe s) = IsLocal.safe (safe-kept g h k f s)
+local-kept g h k f (IsLocal.formula n e w) = IsLocal.formula n (f k n e) w
+local-kept g h k f (IsLocal.operation n e w r) = IsLocal.operation n (f k n e) w (λ i j q. local-kept g h j f (r i j q))
 
 -- ---- the inputs of a node
 

@@ -1,4 +1,5 @@
 pub mod Runs
 pub mod Rows
+pub mod Views
 pub mod Costs
 pub mod Parts

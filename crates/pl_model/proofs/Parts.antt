@@ -1,17 +1,18 @@
 -- What a part of an evaluation may ask for, and what it gives and takes from what it has read.
-use Rattle.std.proofs.Common.{◌≡◌, ℕ, ◌+◌, Bool, true, false, ℤ, pos, List, [], ◌∷◌, get_or, Option, None, Some, option_map, slice_get, w64, FitsSigned, to_z, of_z, refl, sym, ap, subst, ◌∙◌, arith, add-zero, ◌==◌, zero, suc, ◌-◌, ◌*◌, ◌<◌, ◌≤◌}
+use Rattle.std.proofs.Common.{◌≡◌, ℕ, ◌+◌, Bool, true, false, ℤ, pos, List, [], ◌∷◌, get_or, Option, None, Some, option_map, slice_get, w64, FitsSigned, to_z, of_z, refl, sym, ap, subst, ◌∙◌, arith, cond, add-zero, ◌==◌, zero, suc, ◌-◌, ◌*◌, ◌<◌, ◌≤◌}
 use Rattle.std.proofs.lemmas.Int.{to_z-of_z}
 use Rattle.std.specs.List.{list_any}
 use Rattle.std.specs.Int.RustNames.{unsigned_abs}
 use Rattle.pl_spec.specs.declared.Frequency.{Frequency}
 use Rattle.pl_spec.specs.Cells.{is_true, truth}
 use Rattle.pl_pipeline.specs.Kind as kinds
-use Rattle.pl_pipeline.specs.Kind.{Kind}
+use Rattle.pl_pipeline.specs.Kind.{Kind, PointKind}
+use Rattle.pl_pipeline.specs.declared.WindowKind.{WindowKind}
 use Rattle.pl_spec.specs.Periods.{period_start}
 use Rattle.pl_pipeline.specs.Pointwise.{label_test}
 use Rattle.pl_spec.specs.Rounding.{IsCell, is_missing}
 use Rattle.pl_pipeline.specs.Term.{term_at}
-use Rattle.pl_pipeline.specs.Value.{number_of as number_in, empty, sort_kind, name_at}
+use Rattle.pl_pipeline.specs.Value.{Own, view_of, keeps_point, number_of as number_in, empty, sort_kind, name_at}
 use Rattle.pl_spec.specs.World.{exists, known_number, label_at}
 use Rattle.pl_pipeline.proofs.Cells.{zero-cell, truth-cell, chosen-cell, empty-cell}
 use Rattle.pl_terms.specs.declared.node.TermId.{TermId}
@@ -19,27 +20,30 @@ use Rattle.pl_terms.specs.declared.node.Input.{Input}
 use Rattle.pl_terms.specs.declared.node.Input.TheVariants as input
 use Rattle.pl_terms.specs.declared.node.Node.{Node}
 use Rattle.pl_terms.specs.Kinds.{kind_of}
-use Rattle.pl_terms.specs.Nodes.{graph_of, node_of, number_of}
+use Rattle.pl_terms.specs.Nodes.{graph_of, node_of, input_of, number_of}
 use Rattle.pl_terms.specs.Checked.{Parts, pipeline_of, IsChecked}
 use Rattle.pl_terms.specs.Sorts.{is_windowed}
 use Rattle.pl_terms.proofs.Graphs.{graph-at}
 use Rattle.pl_pointwise.specs.Operands.{IsOperation, AreOperands, operation}
 use Rattle.pl_cross.specs.Arrays.{HasTexts}
 use Rattle.pl_cross.specs.Section.{is_section}
-use Rattle.pl_values.specs.Arrays.{cell_of, is_kept}
+use Rattle.pl_values.specs.Arrays.{cell_of, empty_cell, is_kept, chosen}
+use Rattle.pl_values.specs.Views.{seen_of, input_seen, operand_seen, keeps_kind, AreWindowsSeen}
 use Rattle.pl_values.specs.declared.family.Family.TheVariants as family
 use Rattle.pl_values.specs.Families.{IsOf, IsCode, TakesWindows, windowed, sid_flag, label_code, code_flag, is_point}
 use Rattle.pl_values.specs.Laws.{IsNode}
-use Rattle.pl_values.proofs.Given.{unkept-cell}
+use Rattle.pl_values.proofs.Viewed.{unkept-seen, kept-cell, seen-window-cell, seen-point-cell}
 use Rattle.pl_world.specs.declared.world.World.{World}
 use Rattle.pl_world.specs.Worlds.{world_of}
-use Rattle.pl_world.specs.Evaluations.{IsAsked, HasKind, as_input, lets_pass, cell_in, input_cell_in, window_in, IsAskedInput, IsAskedOption, above, above_option}
-use Rattle.pl_world.proofs.Asked.{first-asked, second-asked, third-asked, start-asked, mask-asked, group-asked, input-below, mask-below, group-below, window-one}
-use Rattle.pl_world.proofs.Evaluated.{windowed-is, point-is, label-test-is, section-is, sids-is, kept-mask, window-early, constant-given, sid-given, label-given, number-given, label-test-given, start-given, windows-given, point-given, downsampled-plain}
+use Rattle.pl_world.specs.Evaluations.{IsAsked, HasKind, as_input, lets_pass, cell_in, input_cell_in, IsAskedInput, IsAskedOption, above, above_option}
+use Rattle.pl_world.proofs.Asked.{inputs-at, first-asked, second-asked, third-asked, start-asked, mask-asked, group-asked, input-below, mask-below, group-below, window-one}
+use Rattle.pl_world.proofs.Evaluated.{windowed-is, point-is, label-test-is, section-is, sids-is, kept-mask, window-early, constant-given, sid-given, label-given, number-given, label-test-given, start-given, point-given, downsampled-plain}
 use Rattle.pl_model.specs.declared.evaluation.Request.{Request}
 use Rattle.pl_model.specs.Costs.{cost_in, input_cost_in, window_cost_in, row_cost_in, input_row_cost_in, optional_cost_in, given_cost_of}
 use Rattle.pl_model.specs.Requests.{IsRequestOf, IsKeptFor, asset_of, asked_cell, asked_cost, given_cost, IsRequest}
 use Rattle.pl_model.specs.Gives.{IsCellOf, AreCellsOf, IsVerdict}
+use Rattle.pl_model.specs.Views.{view_at, window_view, operand_view, seen_in, input_seen_in, window_seen_in}
+use Rattle.pl_model.proofs.Views.{window-view, window-seen-from, operand-seen-from, own-cell, own-input}
 use Rattle.pl_model.proofs.Costs.{cost-lacks, cost-barred, cost-kept, start-cost}
 
 -- three inputs are evaluated one after the other
@@ -66,6 +70,13 @@ held worth steps old new x fits h = subst (IsCellOf worth steps old new) (sym (t
 pub asked-of : (r : Request) (n : Node) (ns : List Node) → IsRequest r → ns ≡ r.checked.now.graph → slice_get ns r.term.0 ≡ Some n → IsRequestOf r n
 asked-of r n ns h e is = record { request = h; node = ap (λ ms. slice_get ms r.term.0) (sym e) ∙ is }
 
+operand-read : (w : World) (p : Parts) (o : Option Input) (from : Option ℕ) (a s : ℕ)
+    → input_seen_in w p o from a s ≡ operand_seen (world_of w) (pipeline_of p) (a ∷ []) (option_map input_of o) (view_at from) 0 s
+unfolding seen_of
+operand-read w p None from a s = refl
+operand-read w p (Some (input.Column k)) from a s = refl
+operand-read w p (Some (input.Term u)) from a s = refl
+
 module _ (r : Request) (n : Node) (h : IsRequestOf r n) where
   abbrev w : World
   w = r.world.now
@@ -82,8 +93,32 @@ module _ (r : Request) (n : Node) (h : IsRequestOf r n) where
   abbrev a : ℕ
   a = asset_of r
 
+  abbrev view : Option ℕ
+  view = r.view
+
   abbrev ok : IsChecked (pipeline_of p)
   ok = h.request.checked
+
+  -- what is seen from the same session, or from where the kind sees what it is of
+  window-request : IsRequest (record r { view = Some (window_view (kind_of n.kind) r.view r.session) })
+  window-request = record {
+    may = h.request.may;
+    checked = h.request.checked;
+    col = h.request.col;
+    seen = window-seen-from w (keeps_kind (kind_of n.kind)) r.view s h.request.may.within h.request.seen;
+  }
+
+  pub seen-window : (v : ℕ) → v ≡ window_view (kind_of n.kind) r.view r.session → IsRequest (record r { view = Some v })
+  seen-window v e = subst (λ q. IsRequest (record r { view = Some q })) (sym e) window-request
+
+  operand-request : IsRequest (record r { view = operand_view (kind_of n.kind) r.view })
+  operand-request = record { may = h.request.may; checked = h.request.checked; col = h.request.col; seen = operand-seen-from w (keeps_kind (kind_of n.kind)) r.view s h.request.seen }
+
+  pub seen-operand : (v : Option ℕ) → v ≡ operand_view (kind_of n.kind) r.view → IsRequest (record r { view = v })
+  seen-operand v e = subst (λ q. IsRequest (record r { view = q })) (sym e) operand-request
+
+  pub own-request : IsRequest (record r { view = None })
+  own-request = record { may = h.request.may; checked = h.request.checked; col = h.request.col; seen = tt }
 
   abbrev may : IsAsked w p t s
   may = h.request.may
@@ -151,9 +186,9 @@ module _ (r : Request) (n : Node) (h : IsRequestOf r n) where
   lacks-kept None e = e
   lacks-kept (Some m) e = rw e refl
 
-  lacks-cost : (o : Option TermId) → exists (world_of w) a (pos s) ≡ false → input_cost_in w p (as_input o) a s ≡ 0
+  lacks-cost : (o : Option TermId) → exists (world_of w) a (pos s) ≡ false → input_cost_in w p (as_input o) None a s ≡ 0
   lacks-cost None e = refl
-  lacks-cost (Some u) e = cost-lacks (world_of w) (pipeline_of p).names (term_at (graph_of p.graph) u.0) a (pos s) e
+  lacks-cost (Some u) e = cost-lacks (world_of w) (pipeline_of p).names (term_at (graph_of p.graph) u.0) Own a (pos s) e
 
   pub lacks : (old : ℕ) → exists (world_of w) a (pos s) ≡ false → IsVerdict r n old old false
   lacks old e = record {
@@ -167,24 +202,30 @@ module _ (r : Request) (n : Node) (h : IsRequestOf r n) where
   pub unmasked : (old : ℕ) → exists (world_of w) a (pos s) ≡ true → n.mask ≡ None → IsVerdict r n old old true
   unmasked old e m = record {
     value = sym (kept-mask w p ok t n h.node a s n.mask true e (ap passes m));
-    cost = sym (ap (λ o. old + input_cost_in w p (as_input o) a s) m ∙ add-zero old);
+    cost = sym (ap (λ o. old + input_cost_in w p (as_input o) None a s) m ∙ add-zero old);
   }
 
-  pub masked : (m : TermId) (x : ℤ) (b : Bool) (old new : ℕ) → exists (world_of w) a (pos s) ≡ true → n.mask ≡ Some m → IsCellOf (cell_in w p m.0 a s) (cost_in w p m.0 a s) old new x → b ≡ is_true x
+  pub masked : (m : TermId) (x : ℤ) (b : Bool) (old new : ℕ) → exists (world_of w) a (pos s) ≡ true → n.mask ≡ Some m → IsCellOf (seen_in w p m.0 None a s) (cost_in w p m.0 None a s) old new x → b ≡ is_true x
       → IsVerdict r n old new b
   masked m x b old new e is read tells = record {
-    value = sym (kept-mask w p ok t n h.node a s n.mask b e (ap passes is ∙ sym (tells ∙ ap is_true read.value)));
-    cost = read.cost ∙ ap (λ o. old + input_cost_in w p (as_input o) a s) (sym is);
+    value = sym (kept-mask w p ok t n h.node a s n.mask b e (ap passes is ∙ sym (tells ∙ ap is_true (read.value ∙ own-cell w p m.0 a s))));
+    cost = read.cost ∙ ap (λ o. old + input_cost_in w p (as_input o) None a s) (sym is);
   }
 
   abbrev none : ℤ
   none = number_in (empty (sort_kind (term_at (graph_of p.graph) t)))
 
-  unkept : is_kept (world_of w) (pipeline_of p) (a ∷ []) (option_map number_of n.mask) 0 s ≡ false → cell_in w p t a s ≡ none
-  unfolding cell_of node_of
-  unkept e =
-      let own : IsNode (pipeline_of p) t (node_of n) = record { checked = ok; node = graph-at p.graph t n h.node } in
-      unkept-cell (world_of w) (pipeline_of p) (a ∷ []) t (node_of n) 0 s own e
+  own : IsNode (pipeline_of p) t (node_of n)
+  own = record { checked = ok; node = graph-at p.graph t n h.node }
+
+  unkept : is_kept (world_of w) (pipeline_of p) (a ∷ []) (option_map number_of n.mask) 0 s ≡ false → asked_cell r ≡ none
+  unfolding seen_of node_of
+  unkept e = unkept-seen (world_of w) (pipeline_of p) (a ∷ []) t (node_of n) 0 s own (view_at view) e
+
+  -- what keeps its values is seen as it is
+  stays : keeps_kind (kind_of n.kind) ≡ true → cell_in w p t a s ≡ asked_cell r
+  unfolding seen_of cell_of node_of
+  stays e = sym (kept-cell (world_of w) (pipeline_of p) (a ∷ []) t (node_of n) 0 s own (view_at view) e)
 
   pub barred : (x : ℤ) (b : Bool) (old new : ℕ) → IsVerdict r n old new b → b ≡ false → x ≡ none → IsCellOf (asked_cell r) (asked_cost r) old new x
   barred x b old new v f e =
@@ -192,12 +233,12 @@ module _ (r : Request) (n : Node) (h : IsRequestOf r n) where
       record {
         value = e ∙ sym (unkept gone);
         cell = subst IsCell (sym e) (empty-cell (sort_kind (term_at (graph_of p.graph) t)));
-        cost = v.cost ∙ ap (λ k. old + k) (sym (cost-barred w p ok t s may n h.node a gone));
+        cost = v.cost ∙ ap (λ k. old + k) (sym (cost-barred w p ok t s may n h.node a view gone));
       }
 
   pub passed : (x : ℤ) (b : Bool) (old first new : ℕ) → IsVerdict r n old first b → b ≡ true → IsCellOf (asked_cell r) (given_cost r n) first new x → IsCellOf (asked_cell r) (asked_cost r) old new x
   passed x b old first new v f read =
-      let whole = cost-kept w p ok t s may n h.node a (sym v.value ∙ f) in
+      let whole = cost-kept w p ok t s may n h.node a view (sym v.value ∙ f) in
       record { value = read.value; cell = read.cell; cost = in-turn _ _ _ _ _ _ v.cost read.cost whole }
 
   -- ---- what a kind takes
@@ -205,8 +246,8 @@ module _ (r : Request) (n : Node) (h : IsRequestOf r n) where
   abbrev total : ℕ
   total = given_cost r n
 
-  of_kind : (k : Kind) → kind_of n.kind ≡ k → total ≡ given_cost_of w p k n a s
-  of_kind k e = ap (λ k. given_cost_of w p k n a s) e
+  of_kind : (k : Kind) → kind_of n.kind ≡ k → total ≡ given_cost_of w p k n view a s
+  of_kind k e = ap (λ k. given_cost_of w p k n view a s) e
 
   free : (old : ℕ) → total ≡ 0 → old ≡ old + total
   free old e = sym (ap (λ k. old + k) e ∙ add-zero old)
@@ -217,75 +258,183 @@ module _ (r : Request) (n : Node) (h : IsRequestOf r n) where
       let f = section-is (kind_of n.kind) (kind n h.node) in
       thrice old one two new _ _ _ _ _ _ total first second third (ap (λ o. input_row_cost_in w p o s) (sym own)) refl refl (of_kind (kinds.Cross f.0) f.1)
 
+  -- ---- what a kind gives over what it sees
+
+  module _ (kept : IsKeptFor r) where
+    chosen-is : (x : ℤ) → seen_of (world_of w) (pipeline_of p) (a ∷ []) t (view_at view) 0 s ≡ chosen (is_kept (world_of w) (pipeline_of p) (a ∷ []) (node_of n).mask 0 s) x (empty_cell (pipeline_of p) t) → x ≡ asked_cell r
+    unfolding seen_of node_of
+    chosen-is x e = sym (e ∙ ap (λ b. chosen b x (empty_cell (pipeline_of p) t)) (kept n h.node))
+
+    pub window-law : (x y z : List ℤ) (f : WindowKind) → kind_of n.kind ≡ kinds.Window f → n.window ≤ s + 1
+        → AreWindowsSeen (world_of w) (pipeline_of p) (a ∷ []) (node_of n) (view_of (kind_of n.kind) (view_at view) (pos s)) 0 s x y z
+        → TakesWindows (kind_of n.kind) x y z × (windowed (kind_of n.kind) x y z ≡ asked_cell r)
+    unfolding node_of
+    window-law x y z f e early g =
+        let l = seen-window-cell (world_of w) (pipeline_of p) (a ∷ []) t (node_of n) 0 s own f (view_at view) x y z e early g in
+        (l.0, chosen-is _ l.1)
+
+    -- an operation that keeps its values is of own values, and another of what is seen from where it is seen
+    pub point-law : (f : PointKind) → kind_of n.kind ≡ kinds.Point f → (x y z : ℤ)
+        → x ≡ input_seen_in w p (slice_get n.inputs 0) (operand_view (kind_of n.kind) view) a s
+        → y ≡ input_seen_in w p (slice_get n.inputs 1) (operand_view (kind_of n.kind) view) a s
+        → z ≡ input_seen_in w p (slice_get n.inputs 2) (operand_view (kind_of n.kind) view) a s
+        → IsCell x → IsCell y → IsCell z
+        → IsOperation (kind_of n.kind) × AreOperands (kind_of n.kind) (x ∷ []) (y ∷ []) (z ∷ []) 1 × (operation (kind_of n.kind) x y z ≡ asked_cell r)
+    unfolding node_of
+    point-law f e x y z xe ye ze xc yc zc = here (keeps_point f) refl
+      where
+        of_kind_is : (b : Bool) → keeps_point f ≡ b → operand_view (kind_of n.kind) view ≡ cond b None view
+        of_kind_is b q = ap (λ k. operand_view k view) e ∙ ap (λ c. cond c None view) q
+
+        moved : (o : Option Input) (m : ℕ) (q : ℤ) (from : Option ℕ) → o ≡ slice_get n.inputs m → q ≡ input_seen_in w p o from a s
+            → q ≡ operand_seen (world_of w) (pipeline_of p) (a ∷ []) (slice_get (node_of n).inputs m) (view_at from) 0 s
+        moved o m q from is v = v ∙ operand-read w p o from a s ∙ ap (λ i. operand_seen (world_of w) (pipeline_of p) (a ∷ []) i (view_at from) 0 s) (ap (option_map input_of) is ∙ sym (inputs-at n m))
+
+        here : (b : Bool) → keeps_point f ≡ b
+            → IsOperation (kind_of n.kind) × AreOperands (kind_of n.kind) (x ∷ []) (y ∷ []) (z ∷ []) 1 × (operation (kind_of n.kind) x y z ≡ asked_cell r)
+        here true q =
+            let none = of_kind_is true q in
+            let plain = λ (o : Option Input) (v : ℤ) (g : v ≡ input_seen_in w p o (operand_view (kind_of n.kind) view) a s). g ∙ ap (λ c. input_seen_in w p o c a s) none ∙ own-input w p o a s in
+            let l = point-given w p ok t n h.node a s kept (ap is_point e) x y z (plain _ x xe) (plain _ y ye) (plain _ z ze) xc yc zc in
+            (l.0, l.1, l.2 ∙ stays (ap keeps_kind e ∙ q))
+        here false q =
+            let same = of_kind_is false q in
+            let seen = λ (m : ℕ) (v : ℤ) (g : v ≡ input_seen_in w p (slice_get n.inputs m) (operand_view (kind_of n.kind) view) a s). moved (slice_get n.inputs m) m v view refl (g ∙ ap (λ c. input_seen_in w p (slice_get n.inputs m) c a s) same) in
+            let l = seen-point-cell (world_of w) (pipeline_of p) (a ∷ []) t (node_of n) 0 s own f (view_at view) x y z e q (record {
+              first = seen 0 x xe;
+              second = seen 1 y ye;
+              third = seen 2 z ze;
+              first_cell = xc;
+              second_cell = yc;
+              third_cell = zc;
+            }) in
+            (l.0, l.1, chosen-is _ l.2)
+
+  pub section-stays : is_section (kind_of n.kind) ≡ true → cell_in w p t a s ≡ asked_cell r
+  section-stays e = stays (ap keeps_kind (section-is (kind_of n.kind) e).1)
+
   -- ---- what it gives
 
   module _ (kept : IsKeptFor r) where
     pub constant-read : (v : ℤ) (old : ℕ) → IsOf (kind_of n.kind) (family.Constant v) → IsCellOf (asked_cell r) total old old v
     constant-read v old kind =
         let given = constant-given w p ok t n h.node a s kept v kind in
-        record { value = given.1; cell = given.0; cost = free old (of_kind (kinds.Constant v) kind) }
+        record { value = given.1 ∙ stays (ap keeps_kind kind); cell = given.0; cost = free old (of_kind (kinds.Constant v) kind) }
 
     pub label-read : (name : ℕ) (x : ℤ) (old : ℕ) → IsOf (kind_of n.kind) (family.Label name) → x ≡ label_code (world_of w).texts (label_at (world_of w) (name_at (pipeline_of p).names name) a (pos s)) → IsCell x
         → IsCellOf (asked_cell r) total old old x
-    label-read name x old kind e c = record { value = e ∙ label-given w p ok t n h.node a s kept name kind; cell = c; cost = free old (of_kind (kinds.Label name) kind) }
+    label-read name x old kind e c = record { value = e ∙ label-given w p ok t n h.node a s kept name kind ∙ stays (ap keeps_kind kind); cell = c; cost = free old (of_kind (kinds.Label name) kind) }
 
     pub number-read : (name : ℕ) (x : ℤ) (old : ℕ) → IsOf (kind_of n.kind) (family.Number name) → x ≡ known_number (world_of w) (name_at (pipeline_of p).names name) a (pos s) → IsCell x
         → IsCellOf (asked_cell r) total old old x
-    number-read name x old kind e c = record { value = e ∙ number-given w p ok t n h.node a s kept name kind; cell = c; cost = free old (of_kind (kinds.Number name) kind) }
+    number-read name x old kind e c = record { value = e ∙ number-given w p ok t n h.node a s kept name kind ∙ stays (ap keeps_kind kind); cell = c; cost = free old (of_kind (kinds.Number name) kind) }
 
     pub sid-read : (b : ℕ) (x : ℤ) (old : ℕ) → IsOf (kind_of n.kind) family.Sids → b ≡ a → x ≡ sid_flag (kind_of n.kind) b → IsCellOf (asked_cell r) total old old x
     sid-read b x old kind sid e =
         let f = sids-is (kind_of n.kind) kind in
         record {
-          value = e ∙ ap (sid_flag (kind_of n.kind)) sid ∙ sid-given w p ok t n h.node a s kept kind;
+          value = e ∙ ap (sid_flag (kind_of n.kind)) sid ∙ sid-given w p ok t n h.node a s kept kind ∙ stays (ap keeps_kind f.1);
           cell = subst IsCell (sym e) (sid-cell (kind_of n.kind) b);
           cost = free old (of_kind (kinds.StaticSids f.0) f.1);
         }
 
     module _ (o : Option Input) (is_first : o ≡ slice_get n.inputs 0) (x : ℤ) (old new : ℕ) where
-      pub code-read : HasTexts (world_of w) → IsOf (kind_of n.kind) family.LabelTest → x ≡ input_cell_in w p o a s → IsCode (world_of w).texts x
-      code-read texts kind e = (label-test-given w p ok t n h.node a s kept texts kind x (e ∙ ap (λ i. input_cell_in w p i a s) is_first)).0
+      pub code-read : HasTexts (world_of w) → IsOf (kind_of n.kind) family.LabelTest → x ≡ input_seen_in w p o None a s → IsCode (world_of w).texts x
+      code-read texts kind e = (label-test-given w p ok t n h.node a s kept texts kind x (e ∙ own-input w p o a s ∙ ap (λ i. input_cell_in w p i a s) is_first)).0
 
-      pub test-read : (y : ℤ) → HasTexts (world_of w) → IsOf (kind_of n.kind) family.LabelTest → IsCellOf (input_cell_in w p o a s) (input_cost_in w p o a s) old new x
+      pub test-read : (y : ℤ) → HasTexts (world_of w) → IsOf (kind_of n.kind) family.LabelTest → IsCellOf (input_seen_in w p o None a s) (input_cost_in w p o None a s) old new x
           → y ≡ code_flag (world_of w).texts (kind_of n.kind) x → IsCellOf (asked_cell r) total old new y
       test-read y texts kind read e =
           let f = label-test-is (kind_of n.kind) kind in
           record {
-            value = e ∙ (label-test-given w p ok t n h.node a s kept texts kind x (read.value ∙ ap (λ i. input_cell_in w p i a s) is_first)).1;
+            value = e ∙ (label-test-given w p ok t n h.node a s kept texts kind x (read.value ∙ own-input w p o a s ∙ ap (λ i. input_cell_in w p i a s) is_first)).1 ∙ stays (ap keeps_kind f.1);
             cell = subst IsCell (sym e) (code-cell (world_of w).texts (kind_of n.kind) x);
-            cost = read.cost ∙ ap (λ i. old + input_cost_in w p i a s) is_first ∙ ap (λ k. old + k) (sym (of_kind (kinds.LabelTest f.0) f.1));
+            cost = read.cost ∙ ap (λ i. old + input_cost_in w p i None a s) is_first ∙ ap (λ k. old + k) (sym (of_kind (kinds.LabelTest f.0) f.1));
           }
 
       pub start-read : (f : Frequency) (q : ℕ) → IsOf (kind_of n.kind) (family.Downsample f) → pos q ≡ period_start f w.sessions.now (pos s)
-          → IsCellOf (input_cell_in w p o a q) (input_cost_in w p o a q) old new x → IsCellOf (asked_cell r) total old new x
+          → IsCellOf (input_seen_in w p o None a q) (input_cost_in w p o None a q) old new x → IsCellOf (asked_cell r) total old new x
       start-read f q kind first read = record {
-        value = read.value ∙ ap (λ i. input_cell_in w p i a q) is_first ∙ start-given w p ok t n h.node a s kept f q kind first;
+        value = read.value ∙ own-input w p o a q ∙ ap (λ i. input_cell_in w p i a q) is_first ∙ start-given w p ok t n h.node a s kept f q kind first ∙ stays (ap keeps_kind kind);
         cell = read.cell;
-        cost = read.cost ∙ ap (λ i. old + input_cost_in w p i a q) is_first ∙ ap (λ k. old + k) (sym (start-cost w p s q a n f kind first));
+        cost = read.cost ∙ ap (λ i. old + input_cost_in w p i None a q) is_first ∙ ap (λ k. old + k) (sym (start-cost w p s q a view n f kind first));
       }
 
     module _ (i j k : Option Input) (first : i ≡ slice_get n.inputs 0) (second : j ≡ slice_get n.inputs 1) (third : k ≡ slice_get n.inputs 2) (old one two new : ℕ) where
+      abbrev from : Option ℕ
+      from = Some (window_view (kind_of n.kind) view s)
+
+      abbrev of : Option ℕ
+      of = operand_view (kind_of n.kind) view
+
       -- three windows
-      pub windows-read : (x y z : List ℤ) → HasKind p t is_windowed → AreCellsOf (window_in w p n.window i a s) (window_cost_in w p n.window i a s) old one x
-          → AreCellsOf (window_in w p n.window j a s) (window_cost_in w p n.window j a s) one two y → AreCellsOf (window_in w p n.window k a s) (window_cost_in w p n.window k a s) two new z
+      windows-read-from : (x y z : List ℤ) → HasKind p t is_windowed → AreCellsOf (window_seen_in w p n.window i from a s) (window_cost_in w p n.window i from a s) old one x
+          → AreCellsOf (window_seen_in w p n.window j from a s) (window_cost_in w p n.window j from a s) one two y → AreCellsOf (window_seen_in w p n.window k from a s) (window_cost_in w p n.window k from a s) two new z
           → TakesWindows (kind_of n.kind) x y z × (windowed (kind_of n.kind) x y z ≡ asked_cell r) × (new ≡ old + total)
-      windows-read x y z has xs ys zs =
+      unfolding node_of
+      windows-read-from x y z has xs ys zs =
           let kind = has n h.node in
           let f = windowed-is (kind_of n.kind) kind in
-          let read = λ (o : Option Input). window_in w p n.window o a s in
-          let taken = λ (o : Option Input). window_cost_in w p n.window o a s in
+          let taken = λ (o : Option Input). window_cost_in w p n.window o from a s in
           let early = window-early p ok t n h.node w s kind (first-asked w p ok t s may n h.node) in
-          let given = windows-given w p ok t n h.node a s kept kind early x y z (xs.value ∙ ap read first) (ys.value ∙ ap read second) (zs.value ∙ ap read third) xs.cells ys.cells zs.cells in
-          (given.0, given.1, thrice old one two new _ _ _ _ _ _ total xs.cost ys.cost zs.cost (ap taken first) (ap taken second) (ap taken third) (of_kind (kinds.Window f.0) f.1))
+          let given = windows-seen x y z f.0 f.1 early xs ys zs in
+          (given.0, given.1, thrice old one two new _ _ _ _ _ _ total xs.cost ys.cost zs.cost (ap taken first) (ap taken second) (ap taken third) (same-cost f.0 f.1))
+        where
+          inner : (f : WindowKind) → kind_of n.kind ≡ kinds.Window f → view_at from ≡ view_of (kind_of n.kind) (view_at view) (pos s)
+          inner f e = ap (λ q. view_at (Some (window_view q view s))) e ∙ sym (window-view f view s) ∙ ap (λ q. view_of q (view_at view) (pos s)) (sym e)
+
+          same-cost : (f : WindowKind) → kind_of n.kind ≡ kinds.Window f
+              → total ≡ window_cost_in w p n.window (slice_get n.inputs 0) from a s + window_cost_in w p n.window (slice_get n.inputs 1) from a s + window_cost_in w p n.window (slice_get n.inputs 2) from a s
+          same-cost f e = rw e refl
+
+          at : (f : WindowKind) → kind_of n.kind ≡ kinds.Window f → (m : ℕ) (o : Option Input) → o ≡ slice_get n.inputs m
+              → window_seen_in w p n.window o from a s ≡ input_seen (world_of w) (pipeline_of p) (a ∷ []) n.window (slice_get (node_of n).inputs m) (view_of (kind_of n.kind) (view_at view) (pos s)) 0 s
+          at f e m o is =
+              ap (λ q. input_seen (world_of w) (pipeline_of p) (a ∷ []) n.window (option_map input_of o) q 0 s) (inner f e)
+              ∙ ap (λ q. input_seen (world_of w) (pipeline_of p) (a ∷ []) n.window q (view_of (kind_of n.kind) (view_at view) (pos s)) 0 s) (ap (option_map input_of) is ∙ sym (inputs-at n m))
+
+          windows-seen : (x y z : List ℤ) (f : WindowKind) → kind_of n.kind ≡ kinds.Window f → n.window ≤ s + 1 → AreCellsOf (window_seen_in w p n.window i from a s) (window_cost_in w p n.window i from a s) old one x
+              → AreCellsOf (window_seen_in w p n.window j from a s) (window_cost_in w p n.window j from a s) one two y
+              → AreCellsOf (window_seen_in w p n.window k from a s) (window_cost_in w p n.window k from a s) two new z
+              → TakesWindows (kind_of n.kind) x y z × (windowed (kind_of n.kind) x y z ≡ asked_cell r)
+          windows-seen x y z f e early xs ys zs = window-law kept x y z f e early (record {
+            first = xs.value ∙ at f e 0 i first;
+            second = ys.value ∙ at f e 1 j second;
+            third = zs.value ∙ at f e 2 k third;
+            first_cells = xs.cells;
+            second_cells = ys.cells;
+            third_cells = zs.cells;
+          })
+
+      pub windows-read : (v : ℕ) → v ≡ window_view (kind_of n.kind) view s → (x y z : List ℤ) → HasKind p t is_windowed
+          → AreCellsOf (window_seen_in w p n.window i (Some v) a s) (window_cost_in w p n.window i (Some v) a s) old one x
+          → AreCellsOf (window_seen_in w p n.window j (Some v) a s) (window_cost_in w p n.window j (Some v) a s) one two y
+          → AreCellsOf (window_seen_in w p n.window k (Some v) a s) (window_cost_in w p n.window k (Some v) a s) two new z
+          → TakesWindows (kind_of n.kind) x y z × (windowed (kind_of n.kind) x y z ≡ asked_cell r) × (new ≡ old + total)
+      windows-read v e x y z has xs ys zs =
+          let read = λ (o : Option Input) (old new : ℕ) (xs : List ℤ) (q : ℕ). AreCellsOf (window_seen_in w p n.window o (Some q) a s) (window_cost_in w p n.window o (Some q) a s) old new xs in
+          windows-read-from x y z has (subst (read i old one x) e xs) (subst (read j one two y) e ys) (subst (read k two new z) e zs)
 
       -- three cells
-      pub points-read : (x y z : ℤ) → HasKind p t is_point → IsCellOf (input_cell_in w p i a s) (input_cost_in w p i a s) old one x
-          → IsCellOf (input_cell_in w p j a s) (input_cost_in w p j a s) one two y → IsCellOf (input_cell_in w p k a s) (input_cost_in w p k a s) two new z
+      points-read-of : (x y z : ℤ) → HasKind p t is_point → IsCellOf (input_seen_in w p i of a s) (input_cost_in w p i of a s) old one x
+          → IsCellOf (input_seen_in w p j of a s) (input_cost_in w p j of a s) one two y → IsCellOf (input_seen_in w p k of a s) (input_cost_in w p k of a s) two new z
           → (IsOperation (kind_of n.kind) × AreOperands (kind_of n.kind) (x ∷ []) (y ∷ []) (z ∷ []) 1) × (operation (kind_of n.kind) x y z ≡ asked_cell r) × (new ≡ old + total)
-      points-read x y z has xs ys zs =
+      points-read-of x y z has xs ys zs =
           let kind = has n h.node in
           let f = point-is (kind_of n.kind) kind in
-          let read = λ (o : Option Input). input_cell_in w p o a s in
-          let taken = λ (o : Option Input). input_cost_in w p o a s in
-          let given = point-given w p ok t n h.node a s kept kind x y z (xs.value ∙ ap read first) (ys.value ∙ ap read second) (zs.value ∙ ap read third) xs.cell ys.cell zs.cell in
-          ((given.0, given.1), given.2, thrice old one two new _ _ _ _ _ _ total xs.cost ys.cost zs.cost (ap taken first) (ap taken second) (ap taken third) (of_kind (kinds.Point f.0) f.1))
+          let taken = λ (o : Option Input). input_cost_in w p o of a s in
+          let given = point-law kept f.0 f.1 x y z (xs.value ∙ ap (λ o. input_seen_in w p o of a s) first) (ys.value ∙ ap (λ o. input_seen_in w p o of a s) second) (zs.value ∙ ap (λ o. input_seen_in w p o of a s) third) xs.cell ys.cell zs.cell in
+          ((given.0, given.1), given.2, thrice old one two new _ _ _ _ _ _ total xs.cost ys.cost zs.cost (ap taken first) (ap taken second) (ap taken third) (same-cost f.0 f.1))
+        where
+          same-cost : (f : PointKind) → kind_of n.kind ≡ kinds.Point f
+              → total ≡ input_cost_in w p (slice_get n.inputs 0) of a s + input_cost_in w p (slice_get n.inputs 1) of a s + input_cost_in w p (slice_get n.inputs 2) of a s
+          same-cost f e = rw e refl
+
+      pub points-read : (v : Option ℕ) → v ≡ operand_view (kind_of n.kind) view → (x y z : ℤ) → HasKind p t is_point
+          → IsCellOf (input_seen_in w p i v a s) (input_cost_in w p i v a s) old one x
+          → IsCellOf (input_seen_in w p j v a s) (input_cost_in w p j v a s) one two y
+          → IsCellOf (input_seen_in w p k v a s) (input_cost_in w p k v a s) two new z
+          → (IsOperation (kind_of n.kind) × AreOperands (kind_of n.kind) (x ∷ []) (y ∷ []) (z ∷ []) 1) × (operation (kind_of n.kind) x y z ≡ asked_cell r) × (new ≡ old + total)
+      points-read v e x y z has xs ys zs =
+          let read = λ (o : Option Input) (old new : ℕ) (x : ℤ) (q : Option ℕ). IsCellOf (input_seen_in w p o q a s) (input_cost_in w p o q a s) old new x in
+          points-read-of x y z has (subst (read i old one x) e xs) (subst (read j one two y) e ys) (subst (read k two new z) e zs)

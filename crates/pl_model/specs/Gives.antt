@@ -1,5 +1,5 @@
 -- What a part of a plain evaluation gives: cells, and steps that rose by what they cost.
-use Rattle.std.specs.Prelude.{◌≡◌, ℕ, ◌+◌, Bool, ℤ, List, [], ◌∷◌, Option, option_map, All, IfSome}
+use Rattle.std.specs.Prelude.{◌≡◌, ℕ, ◌+◌, Bool, ℤ, List, [], ◌∷◌, Option, None, option_map, All, IfSome}
 use Rattle.pl_spec.specs.Rounding.{IsCell}
 use Rattle.pl_terms.specs.declared.node.Node.{Node}
 use Rattle.pl_terms.specs.Nodes.{number_of}
@@ -31,4 +31,4 @@ pub record IsRowOf (row : Option (List ℤ)) (steps old new : ℕ) (o : Option (
 -- whether the asset exists and passes the mask; the mask alone was evaluated
 pub record IsVerdict (r : Request) (n : Node) (old new : ℕ) (b : Bool) : Type 0 where
   pub value : b ≡ is_kept (world_of r.world.now) (pipeline_of r.checked.now) (asset_of r ∷ []) (option_map number_of n.mask) 0 r.session
-  pub cost : new ≡ old + input_cost_in r.world.now r.checked.now (as_input n.mask) (asset_of r) r.session
+  pub cost : new ≡ old + input_cost_in r.world.now r.checked.now (as_input n.mask) None (asset_of r) r.session

@@ -1,27 +1,30 @@
 //! The value of any term, one cell at a time.
 
-ghost use Rattle.std.specs.Prelude.{◌≡◌, ◌+◌, ◌<◌, ◌≤ℤ◌, IfOk, OnOk, Some, length, option_map, pos};
+ghost use Rattle.std.specs.Prelude.{◌≡◌, ◌+◌, ◌<◌, ◌≤ℤ◌, IfOk, None, OnOk, Some, length, option_map, pos};
 ghost use Rattle.pl_spec.specs.Rounding.{IsCell};
 ghost use Rattle.pl_pipeline.specs.Graph.{reach};
 ghost use Rattle.pl_spec.specs.Parts.{sid_at};
 ghost use Rattle.pl_pipeline.specs.Term.{term_at};
 ghost use Rattle.pl_pipeline.specs.Table.{in_array, value_of};
 ghost use Rattle.pl_terms.specs.Checked.{pipeline_of};
+ghost use Rattle.pl_terms.specs.Kinds.{kind_of};
 ghost use Rattle.pl_terms.specs.Sorts.{is_windowed};
 ghost use Rattle.pl_terms.specs.Nodes.{graph_of};
 ghost use Rattle.pl_cross.specs.Section.{is_section};
 ghost use Rattle.pl_values.specs.Families.{is_point};
 ghost use Rattle.pl_world.specs.Worlds.{world_of, IsMade};
-ghost use Rattle.pl_world.specs.Evaluations.{IsAsked, IsAskedInput, IsAskedOption, HasKind, input_cell_in, window_in, row_in, optional_row_in};
+ghost use Rattle.pl_world.specs.Evaluations.{IsAsked, IsAskedInput, IsAskedOption, HasKind, row_in, optional_row_in};
 ghost use Rattle.pl_model.specs.Costs.{cost_in, input_cost_in, window_cost_in, row_cost_in, optional_cost_in};
+ghost use Rattle.pl_model.specs.Views.{IsSeenFrom, input_seen_in, window_seen_in, operand_view, window_view};
 ghost use Rattle.pl_model.specs.Requests.{IsRequest, IsRequestOf, IsKeptFor, asset_of, asked_cell, asked_cost, given_cost};
 ghost use Rattle.pl_model.specs.Gives.{IsCellOf, AreCellsOf, IsRowOf, IsVerdict};
 
-use crate::bars::{bars_before, is_true};
+use crate::bars::{Span, bars_before, is_true};
 use pl_fixed::{MISSING, Memory, Steps};
-use pl_terms::{Checked, Input, Node, TermId};
+use pl_terms::{Checked, Input, Node, TermId, TermKind};
 use pl_values::{
-    Family, empty_value, family_of, label_test_value, point_value, sids_value, window_value,
+    Family, empty_value, family_of, keeps_values, label_test_value, point_value, sids_value,
+    window_value,
 };
 use pl_world::{
     SectionRows, World, exists, input_at, label_cell, number_cell, section_input, section_row,
@@ -29,7 +32,8 @@ use pl_world::{
 use std::alloc::Global;
 use std::sync::ledger::Ledger;
 
-// A term, for the asset in a column on a session, and where rows are held.
+// A term, for the asset in a column on a session, the session from which it is seen where that is a later one
+// or the same for a whole window, and where rows are held.
 #[derive(Clone, Copy)]
 struct Request<'a> {
     alloc: Global,
@@ -38,6 +42,7 @@ struct Request<'a> {
     term: TermId,
     col: usize,
     session: usize,
+    view: Option<usize>,
 }
 
 /// The value of a term for the asset in column `col` on a session, by itself and plainly: by recursion on
@@ -68,7 +73,7 @@ pub fn cell_now<L: Ledger>(
     ensures cell { IfOk result IsCell }
     // One step for each session of a window of bars and adjustment that acts on it, in every evaluation.
     ensures cost { OnOk result (steps.new ≡ steps.old
-        + cost_in world.now checked.now t.0 (sid_at world.now.assets.now col) session) }
+        + cost_in world.now checked.now t.0 None (sid_at world.now.assets.now col) session) }
 {
     let _sessions = world.sessions.len();
     let _graph = checked.graph();
@@ -79,6 +84,7 @@ pub fn cell_now<L: Ledger>(
         term: t,
         col,
         session,
+        view: None,
     };
     cell(ask, steps)
 }
@@ -110,10 +116,33 @@ fn is_kept<L: Ledger>(ask: Request, node: &Node, steps: &mut Steps<L>) -> Result
     match node.mask {
         None => Ok(true),
         Some(mask) => {
-            let flag = cell(Request { term: mask, ..ask }, steps)?;
+            let own = Request {
+                term: mask,
+                view: None,
+                ..ask
+            };
+            let flag = cell(own, steps)?;
             Ok(is_true(flag))
         }
     }
+}
+
+// The session from which a formula sees its windows.
+fn window_view(kind: &TermKind, view: Option<usize>, session: usize) -> usize
+    ensures { result ≡ window_view (kind_of kind.now) view session }
+{
+    if keeps_values(kind) {
+        session
+    } else {
+        view.unwrap_or(session)
+    }
+}
+
+// From where an operation sees what it is of.
+fn operand_view(kind: &TermKind, view: Option<usize>) -> Option<usize>
+    ensures { result ≡ operand_view (kind_of kind.now) view }
+{
+    if keeps_values(kind) { None } else { view }
 }
 
 // What the kind gives where the asset is kept.
@@ -125,6 +154,7 @@ fn given<L: Ledger>(ask: Request, node: &Node, steps: &mut Steps<L>) -> Result<i
         (IsCellOf (asked_cell ask.entry) (given_cost ask.entry node.now) steps.old steps.new) }
 {
     let world = ask.world;
+    let own = Request { view: None, ..ask };
     match family_of(&node.kind) {
         Family::Constant(value) => Ok(value),
         Family::Label(name) => Ok(label_cell(world, ask.checked, name, ask.col, ask.session)),
@@ -135,14 +165,14 @@ fn given<L: Ledger>(ask: Request, node: &Node, steps: &mut Steps<L>) -> Result<i
         Family::LabelTest => {
             let _rows = world.labels.len();
             let input = input_at(node, 0);
-            let code = input_cell(ask, input, ask.session, steps)?;
+            let code = input_cell(own, input, ask.session, steps)?;
             Ok(label_test_value(&node.kind, world.labels, code))
         }
         Family::Section => section_cell(ask, node, steps),
         Family::Downsample(frequency) => {
             let start = world.sessions.period_start(frequency, ask.session);
             let input = input_at(node, 0);
-            input_cell(ask, input, start, steps)
+            input_cell(own, input, start, steps)
         }
     }
 }
@@ -156,12 +186,17 @@ fn window_cell<L: Ledger>(ask: Request, node: &Node, steps: &mut Steps<L>) -> Re
         (IsCellOf (asked_cell ask.entry) (given_cost ask.entry node.now) steps.old steps.new) }
 {
     let size = node.window as usize;
+    let from = window_view(&node.kind, ask.view, ask.session);
+    let seen = Request {
+        view: Some(from),
+        ..ask
+    };
     let first = input_at(node, 0);
-    let a = input_window(ask, first, size, steps)?;
+    let a = input_window(seen, first, size, steps)?;
     let second = input_at(node, 1);
-    let b = input_window(ask, second, size, steps)?;
+    let b = input_window(seen, second, size, steps)?;
     let third = input_at(node, 2);
-    let c = input_window(ask, third, size, steps)?;
+    let c = input_window(seen, third, size, steps)?;
     Ok(window_value(&node.kind, &a, &b, &c))
 }
 
@@ -173,12 +208,14 @@ fn point_cell<L: Ledger>(ask: Request, node: &Node, steps: &mut Steps<L>) -> Res
     ensures { IfOk result
         (IsCellOf (asked_cell ask.entry) (given_cost ask.entry node.now) steps.old steps.new) }
 {
+    let view = operand_view(&node.kind, ask.view);
+    let seen = Request { view, ..ask };
     let first = input_at(node, 0);
-    let x = input_cell(ask, first, ask.session, steps)?;
+    let x = input_cell(seen, first, ask.session, steps)?;
     let second = input_at(node, 1);
-    let y = input_cell(ask, second, ask.session, steps)?;
+    let y = input_cell(seen, second, ask.session, steps)?;
     let third = input_at(node, 2);
-    let z = input_cell(ask, third, ask.session, steps)?;
+    let z = input_cell(seen, third, ask.session, steps)?;
     Ok(point_value(&node.kind, x, y, z))
 }
 
@@ -209,7 +246,7 @@ fn section_cell<L: Ledger>(ask: Request, node: &Node, steps: &mut Steps<L>) -> R
     Ok(row[ask.col])
 }
 
-// The window of an input, oldest first; none where there is no input.
+// The window of an input as it is seen, oldest first; none where there is no input.
 #[cycle(evaluation)]
 fn input_window<L: Ledger>(
     ask: Request,
@@ -220,9 +257,9 @@ fn input_window<L: Ledger>(
     requires asked { IsRequest ask }
     requires input { IsAskedInput ask.world.now ask.checked.now input size ask.session }
     ensures { IfOk result (λ v. AreCellsOf
-        (window_in ask.entry.world.now ask.entry.checked.now size input
+        (window_seen_in ask.entry.world.now ask.entry.checked.now size input ask.entry.view
         (asset_of ask.entry) ask.entry.session)
-        (window_cost_in ask.entry.world.now ask.entry.checked.now size input
+        (window_cost_in ask.entry.world.now ask.entry.checked.now size input ask.entry.view
         (asset_of ask.entry) ask.entry.session)
         steps.old steps.new v.items) }
 {
@@ -232,16 +269,19 @@ fn input_window<L: Ledger>(
             ask.alloc,
             ask.world,
             column,
-            size,
+            Span {
+                size,
+                session: ask.session,
+                view: ask.view.unwrap_or(ask.session),
+            },
             ask.col,
-            ask.session,
             steps,
         ),
         Some(Input::Term(u)) => cells_up_to(ask, u, size, steps),
     }
 }
 
-// The cells of a term on the sessions up to one.
+// The cells of a term on the sessions up to one, as they are seen.
 #[cycle(evaluation)]
 fn cells_up_to<L: Ledger>(
     ask: Request,
@@ -252,9 +292,9 @@ fn cells_up_to<L: Ledger>(
     requires asked { IsRequest ask }
     requires input { IsAskedInput ask.world.now ask.checked.now (Some (Input.Term u)) size ask.session }
     ensures { IfOk result (λ v. AreCellsOf
-        (window_in ask.entry.world.now ask.entry.checked.now size (Some (Input.Term u))
+        (window_seen_in ask.entry.world.now ask.entry.checked.now size (Some (Input.Term u)) ask.entry.view
         (asset_of ask.entry) ask.entry.session)
-        (window_cost_in ask.entry.world.now ask.entry.checked.now size (Some (Input.Term u))
+        (window_cost_in ask.entry.world.now ask.entry.checked.now size (Some (Input.Term u)) ask.entry.view
         (asset_of ask.entry) ask.entry.session)
         steps.old steps.new v.items) }
 {
@@ -271,7 +311,7 @@ fn cells_up_to<L: Ledger>(
     Ok(cells)
 }
 
-// The value of an input on the session; of a bar column there is none.
+// The value of an input on a session, as it is seen; of a bar column there is none.
 #[cycle(evaluation)]
 fn input_cell<L: Ledger>(
     ask: Request,
@@ -281,9 +321,12 @@ fn input_cell<L: Ledger>(
 ) -> Result<i64, Memory>
     requires asked { IsRequest ask }
     requires input { IsAskedInput ask.world.now ask.checked.now input 1 session }
+    requires seen { IsSeenFrom ask.world.now ask.view session }
     ensures { IfOk result (IsCellOf
-        (input_cell_in ask.entry.world.now ask.entry.checked.now input (asset_of ask.entry) session)
-        (input_cost_in ask.entry.world.now ask.entry.checked.now input (asset_of ask.entry) session)
+        (input_seen_in ask.entry.world.now ask.entry.checked.now input ask.entry.view
+        (asset_of ask.entry) session)
+        (input_cost_in ask.entry.world.now ask.entry.checked.now input ask.entry.view
+        (asset_of ask.entry) session)
         steps.old steps.new) }
 {
     match input {
@@ -299,7 +342,7 @@ fn input_cell<L: Ledger>(
     }
 }
 
-// The cells of a term for all assets.
+// The cells of a term for all assets, each from its own session.
 #[cycle(evaluation)]
 fn term_row<L: Ledger>(ask: Request, u: TermId, steps: &mut Steps<L>) -> Result<Vec<i64>, Memory>
     requires asked { IsRequest ask }
@@ -314,6 +357,7 @@ fn term_row<L: Ledger>(ask: Request, u: TermId, steps: &mut Steps<L>) -> Result<
         let at = Request {
             term: u,
             col,
+            view: None,
             ..ask
         };
         row.push(cell(at, steps)?)?;

@@ -10,7 +10,7 @@ use Rattle.pl_pipeline.specs.Value.{keeps_point, keeps_window, is_steady}
 use Rattle.pl_pipeline.specs.NodeValue.{ReadsSteady}
 use Rattle.pl_pipeline.proofs.Trees.{term_at-node}
 use Rattle.pl_terms.specs.Windows.{row_of}
-use Rattle.pl_terms.specs.Sorts.{is_windowed, is_safe_kind, is_safe_over, IsSafe, of_kind, of_inputs, IsAllowed}
+use Rattle.pl_terms.specs.Sorts.{is_windowed, is_safe_kind, is_safe_over, IsSafe, of_kind, of_inputs, ReadsSafe}
 use Rattle.pl_terms.specs.Checked.{IsChecked}
 use Rattle.pl_pipeline.specs.Table.{Pipeline}
 
@@ -50,9 +50,9 @@ module _ (g : Graph) (ok : IsGraph g) where
       (input-steady (slice_get n.inputs 1) (λ j at. safe-steady j (f 1 j at)))
       (input-steady (slice_get n.inputs 2) (λ j at. safe-steady j (f 2 j at))))
 
-  -- so the windows of a node that is allowed hold what is steady
-  pub allowed-steady : (names : ℕ) (n : Node) → IsAllowed g names n → ReadsSteady g n
-  allowed-steady names n h k e i j at = safe-steady j (h.safe (ap is_windowed e) i j at)
+  -- so the windows of a node over what may stand in them hold what is steady
+  pub safe-reads : (n : Node) → ReadsSafe g n → ReadsSteady g n
+  safe-reads n h k e i j at = safe-steady j (h (ap is_windowed e) i j at)
 
 pub checked-steady : (p : Pipeline) → IsChecked p → (k : ℕ) (n : Node) → slice_get p.graph k ≡ Some n → ReadsSteady p.graph n
-checked-steady p ok k n e = allowed-steady p.graph ok.graph (length p.names) n (ok.nodes k n e)
+checked-steady p ok k n e = ok.steady k n e

@@ -4,9 +4,9 @@ use Rattle.std.proofs.Math.Bool.{and-true}
 use Rattle.pl_spec.specs.World.{World, exists}
 use Rattle.pl_spec.specs.Cells.{is_true}
 use Rattle.pl_pipeline.specs.Term.{Node, input_tree, trees}
-use Rattle.pl_pipeline.specs.Value.{Value, number_of, passes, empty, sort_over, sort_kind, kind_value}
+use Rattle.pl_pipeline.specs.Value.{Value, Operands, Own, number_of, passes, view_of, empty, sort_over, sort_kind, kind_value}
 use Rattle.pl_pipeline.specs.Value.Value.{Number}
-use Rattle.pl_pipeline.specs.NodeValue.{number_part, node_operands}
+use Rattle.pl_pipeline.specs.NodeValue.{number_part, node_operands, seen_node_operands, ReadsSteady}
 use Rattle.pl_pipeline.specs.Table.{Pipeline, value_of, in_array}
 use Rattle.pl_pipeline.proofs.Trees.{term_at-node}
 use Rattle.pl_terms.specs.Checked.{IsChecked}
@@ -14,8 +14,12 @@ use Rattle.pl_terms.specs.Sorts.{Place, Filters, Labels, sort_at, has_mask}
 use Rattle.pl_cross.specs.Arrays.{sid_in}
 use Rattle.pl_values.specs.Arrays.{cell_of, empty_cell, is_kept, chosen}
 use Rattle.pl_values.proofs.Typed.{optional-sort, filter-sort}
-use Rattle.pl_values.proofs.Downsampled.{value-node}
+use Rattle.pl_values.proofs.Downsampled.{value-node, value-seen}
 use Rattle.pl_values.proofs.Numbers.{empty_is, numbered-sort, number_is, IsNumberedTerm}
+
+pub none-chosen : (b : Bool) (x none : ℤ) → b ≡ false → chosen b x none ≡ none
+none-chosen false x none h = refl
+none-chosen true x none h = absurd (let no : true ≡ false = h in cc)
 
 module _ (w : World) (p : Pipeline) (sids : List ℕ) (ok : IsChecked p) where
   -- of a numbered term the cell is the number
@@ -41,20 +45,28 @@ module _ (w : World) (p : Pipeline) (sids : List ℕ) (ok : IsChecked p) where
     pub empty-tree : empty (sort_over n.kind (sort_kind (input_tree (trees p.graph) (slice_get n.inputs 0)))) ≡ Number (empty_cell p k)
     empty-tree = empty_is (sort_over n.kind (sort_kind (input_tree (trees p.graph) (slice_get n.inputs 0)))) ∙ ap (λ t. Number (number_of (empty (sort_kind t)))) (sym (term_at-node p.graph k n ok.graph is))
 
-    value-is : value_of w p k a (pos s) ≡ (if is_kept w p sids n.mask i s then stepped else Number (empty_cell p k))
-    value-is =
-        value-node w p ok k n is a (pos s)
-        ∙ ap (λ b. if b then stepped else empty (sort_over n.kind (sort_kind (input_tree (trees p.graph) (slice_get n.inputs 0))))) keeps-is
-        ∙ ap (λ v. if is_kept w p sids n.mask i s then stepped else v) empty-tree
+    -- over what it reads, from wherever that is seen
+    module _ (o : Operands) (reads : value_of w p k a (pos s) ≡ (if exists w a (pos s) && passes (number_part w p.names p.graph n.mask) a (pos s) then kind_value w p.names n.kind n.window o a (pos s)
+        else empty (sort_over n.kind (sort_kind (input_tree (trees p.graph) (slice_get n.inputs 0)))))) where
+      value-is : value_of w p k a (pos s) ≡ (if is_kept w p sids n.mask i s then kind_value w p.names n.kind n.window o a (pos s) else Number (empty_cell p k))
+      value-is =
+          reads
+          ∙ ap (λ b. if b then kind_value w p.names n.kind n.window o a (pos s) else empty (sort_over n.kind (sort_kind (input_tree (trees p.graph) (slice_get n.inputs 0))))) keeps-is
+          ∙ ap (λ v. if is_kept w p sids n.mask i s then kind_value w p.names n.kind n.window o a (pos s) else v) empty-tree
+
+      read-gated : (x : ℤ) → in_array w.texts (kind_value w p.names n.kind n.window o a (pos s)) ≡ x → cell_of w p sids k i s ≡ chosen (is_kept w p sids n.mask i s) x (empty_cell p k)
+      unfolding cell_of
+      read-gated x e = ap (in_array w.texts) value-is ∙ here (is_kept w p sids n.mask i s)
+        where
+          here : (b : Bool) → in_array w.texts (if b then kind_value w p.names n.kind n.window o a (pos s) else Number (empty_cell p k)) ≡ chosen b x (empty_cell p k)
+          here true = e
+          here false = refl
 
     -- every kind alike: what the kind gives where the asset is kept
-    pub gated : (x : ℤ) → in_array w.texts stepped ≡ x → cell_of w p sids k i s ≡ chosen (is_kept w p sids n.mask i s) x (empty_cell p k)
-    unfolding cell_of
-    gated x e = ap (in_array w.texts) value-is ∙ here (is_kept w p sids n.mask i s)
-      where
-        here : (b : Bool) → in_array w.texts (if b then stepped else Number (empty_cell p k)) ≡ chosen b x (empty_cell p k)
-        here true = e
-        here false = refl
+    pub gated : ReadsSteady p.graph n → (x : ℤ) → in_array w.texts stepped ≡ x → cell_of w p sids k i s ≡ chosen (is_kept w p sids n.mask i s) x (empty_cell p k)
+    gated steady x e = read-gated (node_operands w p.names p.graph n) (value-node w p ok k n is steady a (pos s)) x e
 
     pub ungated : is_kept w p sids n.mask i s ≡ false → cell_of w p sids k i s ≡ empty_cell p k
-    ungated h = gated (in_array w.texts stepped) refl ∙ ap (λ b. chosen b (in_array w.texts stepped) (empty_cell p k)) h
+    ungated h =
+        read-gated (seen_node_operands w p.names p.graph n (view_of n.kind Own (pos s))) (value-seen w p ok k n is a (pos s)) _ refl
+        ∙ none-chosen (is_kept w p sids n.mask i s) _ (empty_cell p k) h

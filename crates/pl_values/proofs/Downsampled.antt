@@ -8,14 +8,13 @@ use Rattle.pl_pipeline.specs.Kind.Kind.{Downsample}
 use Rattle.pl_pipeline.specs.Term.{Node, Input, input_tree, trees}
 use Rattle.pl_pipeline.specs.Term.Input.{BarColumn, TermInput}
 use Rattle.pl_pipeline.specs.Text.{kind_at}
-use Rattle.pl_pipeline.specs.Value.{Value, passes, value_of_part, empty, sort_over, sort_kind, kind_value}
-use Rattle.pl_pipeline.specs.NodeValue.{node_value, input_part, number_part, node_operands}
+use Rattle.pl_pipeline.specs.Value.{Value, View, passes, value_of_part, empty, sort_over, sort_kind, kind_value, value}
+use Rattle.pl_pipeline.specs.NodeValue.{node_value, node_seen, input_part, number_part, node_operands, ReadsSteady}
 use Rattle.pl_pipeline.specs.Table.{Pipeline, value_of}
-use Rattle.pl_pipeline.proofs.Unfolds.{value_at-node}
-use Rattle.pl_terms.proofs.Steady.{checked-steady}
+use Rattle.pl_pipeline.proofs.Unfolds.{seen_at-node, value_at-node}
 use Rattle.pl_pipeline.proofs.Trees.{term_at-node}
 use Rattle.pl_terms.specs.Checked.{IsChecked}
-use Rattle.pl_terms.specs.Sorts.{Sort, AnyTerm, sort_of, sort_at, is_downsampled, first_term, places, fits, takes_sort}
+use Rattle.pl_terms.specs.Sorts.{Sort, AnyTerm, sort_of, sort_at, is_downsampled, is_windowed, first_term, places, fits, takes_sort}
 use Rattle.pl_terms.proofs.TermSorts.{kind-own, sort-input, sorted-there}
 use Rattle.pl_values.proofs.Typed.{has-input}
 use Rattle.pl_values.proofs.KindFamilies.{downsampled_kind}
@@ -31,6 +30,10 @@ any-sort None h = absurd (let bad : false ≡ true = h in cc)
 pub first-of : (is : List Input) (u : ℕ) → slice_get is 0 ≡ Some (TermInput u) → first_term is ≡ Some u
 first-of [] u e = absurd (let bad : None ≡ Some (TermInput u) = e in cc)
 first-of (i ∷ is) u e = let same : i ≡ TermInput u = cc in ap (λ x. first_term (x ∷ is)) same
+
+-- a node that is over no window asks nothing of windows
+pub plain-reads : (p : Pipeline) (n : Node) → is_windowed n.kind ≡ false → ReadsSteady p.graph n
+plain-reads p n h f e = absurd (let no : true ≡ false = ap is_windowed (sym e) ∙ h in cc)
 
 module _ (p : Pipeline) (ok : IsChecked p) where
   -- the input of a downsampled term, which has its sort
@@ -57,8 +60,13 @@ module _ (p : Pipeline) (ok : IsChecked p) where
           record { frequency = f; input = u; kind = k; first = i; below = below; sort = λ x s. y.1 ∙ (sym own ∙ s) }
 
 module _ (w : World) (p : Pipeline) (ok : IsChecked p) where
-  pub value-node : (k : ℕ) (n : Node) → slice_get p.graph k ≡ Some n → (a : ℕ) (d : ℤ) → value_of w p k a d ≡ node_value w p.names p.graph n a d
-  value-node k n is a d = value_at-node w p.names p.graph ok.graph k n is (checked-steady p ok k n is) a d
+  -- what a node is worth, of any kind, and over the values of what it mentions
+  pub value-seen : (k : ℕ) (n : Node) → slice_get p.graph k ≡ Some n → (a : ℕ) (d : ℤ) → value_of w p k a d ≡ node_seen w p.names p.graph n View.Own a d
+  unfolding value
+  value-seen k n is a d = seen_at-node w p.names p.graph ok.graph k n is View.Own a d
+
+  pub value-node : (k : ℕ) (n : Node) → slice_get p.graph k ≡ Some n → ReadsSteady p.graph n → (a : ℕ) (d : ℤ) → value_of w p k a d ≡ node_value w p.names p.graph n a d
+  value-node k n is steady a d = value_at-node w p.names p.graph ok.graph k n is steady a d
 
   pub downsampled-value : (t : ℕ) (m : Node) → slice_get p.graph t ≡ Some m → (o : IsOver p ok t m) → (a : ℕ) (d : ℤ)
       → value_of w p t a d ≡ (if exists w a d && passes (number_part w p.names p.graph m.mask) a d then value_of w p o.input a (period_start o.frequency w.days d) else empty (kind_at p.graph t))
@@ -66,7 +74,7 @@ module _ (w : World) (p : Pipeline) (ok : IsChecked p) where
   downsampled-value t m e o a d =
       let open_now = exists w a d && passes (number_part w p.names p.graph m.mask) a d in
       let none = empty (sort_over m.kind (sort_kind (input_tree (trees p.graph) (slice_get m.inputs 0)))) in
-      value-node t m e a d
+      value-node t m e (plain-reads p m (ap is_windowed o.kind)) a d
       ∙ ap (λ k. if open_now then kind_value w p.names k m.window (node_operands w p.names p.graph m) a d else none) o.kind
       ∙ ap (λ i. if open_now then value_of_part (input_part w p.names p.graph i) a (period_start o.frequency w.days d) else none) o.first
       ∙ ap (λ x. if open_now then value_of w p o.input a (period_start o.frequency w.days d) else empty (sort_kind x)) (sym (term_at-node p.graph t m ok.graph e))

@@ -13,9 +13,9 @@ use Rattle.pl_pipeline.specs.Formula.{formula}
 use Rattle.pl_pipeline.specs.Pointwise.{pointwise, label_test}
 use Rattle.pl_pipeline.specs.Cross.{cross}
 use Rattle.pl_pipeline.specs.Term.{Node, input_tree, trees}
-use Rattle.pl_pipeline.specs.Value.{Value, Operands, value_of_part, passes, eligible, test_value, empty, number_of, sort_over, sort_kind, kind_value}
+use Rattle.pl_pipeline.specs.Value.{Value, Operands, value_of_part, passes, eligible, test_value, empty, number_of, sort_over, sort_kind, Own, view_of, kind_value}
 use Rattle.pl_pipeline.specs.Value.Value.{Number, Text}
-use Rattle.pl_pipeline.specs.NodeValue.{node_value, number_part, node_operands}
+use Rattle.pl_pipeline.specs.NodeValue.{node_seen, number_part, seen_node_operands}
 use Rattle.pl_pipeline.specs.Table.{Pipeline, value_of, in_array}
 use Rattle.pl_terms.specs.Checked.{IsChecked}
 use Rattle.pl_terms.specs.Sorts.{Sort, Factors, Filters, sort_of, sort_at, window_sort, point_sort, cross_sort}
@@ -23,7 +23,7 @@ use Rattle.pl_lanes.specs.Flags.{IsFlag}
 use Rattle.pl_cross.specs.Arrays.{sid_in}
 use Rattle.pl_values.specs.Arrays.{cell_of}
 use Rattle.pl_values.specs.Laws.{FilterCells}
-use Rattle.pl_values.proofs.Downsampled.{value-node, values-of-sort}
+use Rattle.pl_values.proofs.Downsampled.{value-seen, values-of-sort}
 use Rattle.pl_pointwise.proofs.ResultLemmas.{truth-flag}
 
 abbrev IsTruth : Value → Type 0
@@ -99,11 +99,11 @@ value_flag texts v t = let e = t.1 in rw e (truth-flag t.0)
 
 node_truth : (w : World) (p : Pipeline) (ok : IsChecked p) (t : ℕ) (n : Node) → slice_get p.graph t ≡ Some n → sort_of n.kind ≡ Filters → (a : ℕ) (d : ℤ) → IsTruth (value_of w p t a d)
 node_truth w p ok t n is s a d =
-    let whole : IsTruth (node_value w p.names p.graph n a d) = either_truth
+    let whole : IsTruth (node_seen w p.names p.graph n Own a d) = either_truth
     (exists w a d && passes (number_part w p.names p.graph n.mask) a d) _ (empty (sort_over n.kind (sort_kind (input_tree (trees p.graph) (slice_get n.inputs 0)))))
-    (step_truth w p.names n.kind n.window (node_operands w p.names p.graph n) a d s)
+    (step_truth w p.names n.kind n.window (seen_node_operands w p.names p.graph n (view_of n.kind Own d)) a d s)
     (over_truth n.kind (sort_kind (input_tree (trees p.graph) (slice_get n.inputs 0))) s) in
-    (whole.0, value-node w p ok t n is a d ∙ whole.1)
+    (whole.0, value-seen w p ok t n is a d ∙ whole.1)
 
 -- a filter is worth a flag, on any session
 pub filter-flag : (w : World) (p : Pipeline) (t a : ℕ) (d : ℤ) → IsChecked p → sort_at p.graph t ≡ Some Filters → IsFlag (in_array w.texts (value_of w p t a d))

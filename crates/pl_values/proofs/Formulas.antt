@@ -12,7 +12,7 @@ use Rattle.pl_spec.specs.Window.{before, downward, seen_cell}
 use Rattle.pl_pipeline.specs.Kind.{Kind}
 use Rattle.pl_pipeline.specs.declared.WindowKind.{WindowKind}
 use Rattle.pl_pipeline.specs.Kind.Kind.{Window}
-use Rattle.pl_pipeline.specs.declared.WindowKind.TheVariants.{Latest, BollingerLower, BollingerUpper, VWAP, AverageDollarVolume, WeightedAverageValue, TrueRange, ExponentialWeightedMovingAverage, Correlation, Covariance, RegressionSlope, RegressionIntercept, RegressionError, All as AllTrue, Any, AtLeastN, AllPresent}
+use Rattle.pl_pipeline.specs.declared.WindowKind.TheVariants.{Latest, BollingerLower, BollingerUpper, VWAP, AverageDollarVolume, WeightedAverageValue, ExponentialWeightedMovingAverage, Correlation, Covariance, RegressionSlope, RegressionIntercept, RegressionError, All as AllTrue, Any, AtLeastN, AllPresent}
 use Rattle.pl_pipeline.specs.Formula.{formula}
 use Rattle.pl_pipeline.specs.Term.{Node, Input}
 use Rattle.pl_pipeline.specs.Term.Input.{BarColumn, TermInput}
@@ -21,6 +21,7 @@ use Rattle.pl_pipeline.specs.NodeValue.{input_part}
 use Rattle.pl_pipeline.specs.Table.{Pipeline, value_of}
 use Rattle.pl_spec.proofs.Windows.{before-pos, map-downward}
 use Rattle.pl_terms.specs.Checked.{IsChecked}
+use Rattle.pl_terms.proofs.Steady.{checked-steady}
 use Rattle.pl_terms.specs.declared.kind.WindowForm.{WindowForm}
 use Rattle.pl_terms.specs.declared.kind.WindowForm.TheVariants.{Bar, TwoColumns}
 use Rattle.pl_terms.specs.Windows.{row_of}
@@ -201,7 +202,7 @@ module _ (w : World) (p : Pipeline) (sids : List ℕ) (k : ℕ) (n : Node) (own 
   pub seen-given : IsGiven w p sids k n i s (windowed n.kind a b c)
   unfolding kind_value
   seen-given =
-      gated w p sids own.checked k n own.node i s (windowed n.kind a b c)
+      gated w p sids own.checked k n own.node i s (checked-steady p own.checked k n own.node) (windowed n.kind a b c)
       (rw e
       (ap (λ x. formula f x (seen_window w p sids n (slice_get n.inputs 1) i s) (seen_window w p sids n (slice_get n.inputs 2) i s)) (sym g.first)
       ∙ ap (λ x. formula f a x (seen_window w p sids n (slice_get n.inputs 2) i s)) (sym g.second)

@@ -11,9 +11,9 @@ use Rattle.pl_pipeline.specs.Kind.Kind.{Label, Window, Point, LabelTest, Cross, 
 use Rattle.pl_spec.specs.Cells.{truth}
 use Rattle.pl_pipeline.specs.Pointwise.{label_test}
 use Rattle.pl_pipeline.specs.Term.{Node, input_tree, trees}
-use Rattle.pl_pipeline.specs.Value.{Value, Operands, value_of_part, passes, eligible, test_value, empty, is_filter, number_of, sort_over, sort_kind, kind_value}
+use Rattle.pl_pipeline.specs.Value.{Value, Operands, value_of_part, passes, eligible, test_value, empty, is_filter, number_of, sort_over, sort_kind, Own, view_of, kind_value}
 use Rattle.pl_pipeline.specs.Value.Value.{Number, Text}
-use Rattle.pl_pipeline.specs.NodeValue.{node_value, number_part, node_operands}
+use Rattle.pl_pipeline.specs.NodeValue.{node_seen, number_part, seen_node_operands}
 use Rattle.pl_pipeline.specs.Table.{Pipeline, value_of, in_array}
 use Rattle.pl_pipeline.proofs.Trees.{term_at-node}
 use Rattle.pl_terms.specs.Checked.{IsChecked}
@@ -21,7 +21,7 @@ use Rattle.pl_terms.specs.Sorts.{Sort, Factors, Filters, Labels, Numbers, sort_o
 use Rattle.pl_cross.specs.Arrays.{HasTexts}
 use Rattle.pl_cross.proofs.LabelCodes.{labels-coded}
 use Rattle.pl_cross.proofs.Codes.{IsCoded, IsNumber}
-use Rattle.pl_values.proofs.Downsampled.{value-node, values-of-sort}
+use Rattle.pl_values.proofs.Downsampled.{value-seen, values-of-sort}
 
 -- an empty value is a number
 pub empty_is : (k : Kind) → empty k ≡ Number (number_of (empty k))
@@ -35,7 +35,7 @@ test_number : (k : LabelKind) (v : Value) → IsNumber (test_value k v)
 test_number k (Number x) = (pos 0, refl)
 test_number k (Text t) = (truth (label_test k t), refl)
 
-either_number : (b : Bool) (v u : Value) → IsNumber v → IsNumber u → IsNumber (if b then v else u)
+pub either_number : (b : Bool) (v u : Value) → IsNumber v → IsNumber u → IsNumber (if b then v else u)
 either_number true v u h k = h
 either_number false v u h k = k
 
@@ -45,7 +45,7 @@ gives_numbers (Label n) = false
 gives_numbers (Downsample f) = false
 gives_numbers k = true
 
-step_number : (w : World) (names : List (List ℕ)) (k : Kind) (size : ℕ) (o : Operands) (a : ℕ) (d : ℤ) → gives_numbers k ≡ true → IsNumber (kind_value w names k size o a d)
+pub step_number : (w : World) (names : List (List ℕ)) (k : Kind) (size : ℕ) (o : Operands) (a : ℕ) (d : ℤ) → gives_numbers k ≡ true → IsNumber (kind_value w names k size o a d)
 unfolding kind_value
 step_number w names (Label n) size o a d h = absurd (true≢false (sym h))
 step_number w names (Downsample f) size o a d h = absurd (true≢false (sym h))
@@ -55,7 +55,7 @@ step_number w names (Cross k) size o a d h =
 step_number w names k size o a d h = (_, refl)
 
 -- the kind of a term that is neither downsampled nor a label
-not_label : (k : Kind) → is_downsampled k ≡ false → (sort_of k ≡ Labels → ⊥) → gives_numbers k ≡ true
+pub not_label : (k : Kind) → is_downsampled k ≡ false → (sort_of k ≡ Labels → ⊥) → gives_numbers k ≡ true
 unfolding sort_of
 not_label (Label n) h f = absurd (f refl)
 not_label (Downsample f) h g = absurd (true≢false h)
@@ -99,11 +99,11 @@ module _ (w : World) (p : Pipeline) (ok : IsChecked p) where
 
   numbered : (t : ℕ) (m : Node) → slice_get p.graph t ≡ Some m → is_downsampled m.kind ≡ false → (sort_of m.kind ≡ Labels → ⊥) → IsNumberedTerm t
   numbered t m is own other a d =
-      let whole : IsNumber (node_value w p.names p.graph m a d) = either_number
+      let whole : IsNumber (node_seen w p.names p.graph m Own a d) = either_number
       (exists w a d && passes (number_part w p.names p.graph m.mask) a d) _ (empty (sort_over m.kind (sort_kind (input_tree (trees p.graph) (slice_get m.inputs 0)))))
-      (step_number w p.names m.kind m.window (node_operands w p.names p.graph m) a d (not_label m.kind own other))
+      (step_number w p.names m.kind m.window (seen_node_operands w p.names p.graph m (view_of m.kind Own d)) a d (not_label m.kind own other))
       (number_of (empty (sort_over m.kind (sort_kind (input_tree (trees p.graph) (slice_get m.inputs 0))))), empty_is (sort_over m.kind (sort_kind (input_tree (trees p.graph) (slice_get m.inputs 0))))) in
-      (whole.0, value-node w p ok t m is a d ∙ whole.1)
+      (whole.0, value-seen w p ok t m is a d ∙ whole.1)
 
   pub numbered-sort : (t : ℕ) (r : Sort) → sort_at p.graph t ≡ Some r → (r ≡ Labels → ⊥) → IsNumberedTerm t
   numbered-sort t r e other = values-of-sort w p ok IsNumber r (λ k m at own s. numbered k m at own (λ f. other (sym s ∙ f))) (λ k s. (number_of (empty k), empty_is k)) t e

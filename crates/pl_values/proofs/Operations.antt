@@ -18,7 +18,7 @@ use Rattle.pl_pipeline.specs.Value.Value.{Number, Text}
 use Rattle.pl_pipeline.specs.NodeValue.{input_part}
 use Rattle.pl_pipeline.specs.Table.{Pipeline, value_of, in_array}
 use Rattle.pl_terms.specs.Checked.{IsChecked}
-use Rattle.pl_terms.specs.Sorts.{Sort, Factors, Filters, Numbers, Place, AnyTerm, Series, Factor, Filter, FactorOrClassifier, Classifier, LabelClassifier, NumberedClassifier, sort_at, places, point_places, fits, all_fit, takes_sort, has_parameters, is_limited}
+use Rattle.pl_terms.specs.Sorts.{Sort, Factors, Filters, Numbers, Place, AnyTerm, Series, Factor, Filter, FactorOrClassifier, Classifier, LabelClassifier, NumberedClassifier, sort_at, places, point_places, fits, all_fit, takes_sort, has_parameters, is_limited, is_windowed}
 use Rattle.pl_lanes.specs.Flags.{IsFlag}
 use Rattle.pl_pointwise.specs.Operands.{IsOperation, HasCells, AreOperands, AreOperandsOf, AreCells, AreFlags, ArePlaced, operation}
 use Rattle.pl_cross.specs.Arrays.{sid_in}
@@ -26,22 +26,23 @@ use Rattle.pl_values.specs.Arrays.{cell_of, Fills}
 use Rattle.pl_values.specs.Inputs.{IsEntryRow, AreEntries}
 use Rattle.pl_values.specs.Laws.{IsNode, IsGiven, PointCells, PointOperands}
 use Rattle.pl_values.proofs.Typed.{has-input, filter-sort, no_column, no-takes, points-free}
+use Rattle.pl_values.proofs.Downsampled.{plain-reads}
 use Rattle.pl_values.proofs.Numbers.{plain_sort, plain-number}
 use Rattle.pl_values.proofs.Cells.{gated, cell-number}
 use Rattle.pl_values.proofs.Flags.{filter-cell}
 
 -- ---- what a place of an operation takes: a filter, a number, or a value that is only asked whether it is
 -- present
-abbrev is_asked : PointKind → Bool
+abbrev pub is_asked : PointKind → Bool
 is_asked IsNull = true
 is_asked NotNull = true
 is_asked k = false
 
 -- an operand that the kind does not use is of no matter
-abbrev used : PointKind → ℕ → ℤ → ℤ
+abbrev pub used : PointKind → ℕ → ℤ → ℤ
 used k j x = if nat_lt j (length (point_places k)) then x else MISSING
 
-uses-its-own : (k : PointKind) (x y z : ℤ) → pointwise k x y z ≡ pointwise k (used k 0 x) (used k 1 y) (used k 2 z)
+pub uses-its-own : (k : PointKind) (x y z : ℤ) → pointwise k x y z ≡ pointwise k (used k 0 x) (used k 1 y) (used k 2 z)
 unfolding pointwise
 uses-its-own Add x y z = refl
 uses-its-own k x y z = refl
@@ -75,7 +76,7 @@ all-at f [] i x h e = cc
 all-at f (y ∷ ys) zero x h e = let same : y ≡ x = cc in ap f (sym same) ∙ (and_parts (f y) (list_all f ys) h).0
 all-at f (y ∷ ys) (suc i) x h e = all-at f ys i x (and_parts (f y) (list_all f ys) h).1 e
 
-points-plain : (f : PointKind) → is_asked f ≡ false → list_all plain_place (point_places f) ≡ true
+pub points-plain : (f : PointKind) → is_asked f ≡ false → list_all plain_place (point_places f) ≡ true
 points-plain IsNull h = absurd (let bad : true ≡ false = h in cc)
 points-plain NotNull h = absurd (let bad : true ≡ false = h in cc)
 points-plain f h = refl
@@ -87,7 +88,7 @@ takes-plain Filter (Some Filters) h = refl
 takes-plain NumberedClassifier (Some Numbers) h = refl
 takes-plain q o h = absurd (let bad : false ≡ true = h in cc)
 
-place-at : (ps : List Place) (j : ℕ) → nat_lt j (length ps) ≡ true → (q : Place) × (slice_get ps j ≡ Some q)
+pub place-at : (ps : List Place) (j : ℕ) → nat_lt j (length ps) ≡ true → (q : Place) × (slice_get ps j ≡ Some q)
 place-at [] j h = let l : j < 0 = grind (arith, nat_tests) in absurd (omega (arith, l))
 place-at (q ∷ ps) zero h = (q, refl)
 place-at (q ∷ ps) (suc j) h = let l : j < length ps = (let m : suc j < suc (length ps) = grind (arith, nat_tests) in omega arith) in place-at ps j (grind (arith, nat_tests))
@@ -106,7 +107,7 @@ module _ (w : World) (p : Pipeline) (sids : List ℕ) (ok : IsChecked p) (k : �
   fit = ap (λ ps. all_fit p.graph ps n.inputs) (sym (places-of n.kind f e)) ∙ (ok.nodes k n is).inputs
 
   -- a term stands at each place
-  term-at : (j : ℕ) (q : Place) → slice_get (point_places f) j ≡ Some q → (t : ℕ) × (slice_get n.inputs j ≡ Some (TermInput t)) × (takes_sort q (sort_at p.graph t) ≡ true)
+  pub term-at : (j : ℕ) (q : Place) → slice_get (point_places f) j ≡ Some q → (t : ℕ) × (slice_get n.inputs j ≡ Some (TermInput t)) × (takes_sort q (sort_at p.graph t) ≡ true)
   term-at j q h = let x = has-input p.graph (point_places f) n.inputs j q fit h in here x.0 x.1 x.2
     where
       here : (x : Input) → slice_get n.inputs j ≡ Some x → fits p.graph q x ≡ true → (t : ℕ) × (slice_get n.inputs j ≡ Some (TermInput t)) × (takes_sort q (sort_at p.graph t) ≡ true)
@@ -204,7 +205,7 @@ pub limited-cell : (x : ℤ) → is_limited x ≡ true → IsCell x
 limited-cell x h = let l : unsigned_abs x ≤ LIMIT = grind (arith, nat_tests) in inr l
 
 -- the bounds of a clip are cells
-has-cells : (f : PointKind) (w names : ℕ) → has_parameters (Point f) w names ≡ true → HasCells f
+pub has-cells : (f : PointKind) (w names : ℕ) → has_parameters (Point f) w names ≡ true → HasCells f
 unfolding has_parameters
 has-cells (Clip low high) w names h =
     let a = and_parts (int_le low high && is_limited low) (is_limited high) h in
@@ -224,7 +225,7 @@ module _ (w : World) (p : Pipeline) (sids : List ℕ) (k : ℕ) (n : Node) (own 
   pub entry-given : (i : ℕ) → i < size → IsGiven w p sids k n (place i) (on i) (operation n.kind (get_or a i (pos 0)) (get_or b i (pos 0)) (get_or c i (pos 0)))
   unfolding kind_value
   entry-given i inside =
-      gated w p sids own.checked k n own.node (place i) (on i) (operation n.kind (get_or a i (pos 0)) (get_or b i (pos 0)) (get_or c i (pos 0)))
+      gated w p sids own.checked k n own.node (place i) (on i) (plain-reads p n (ap is_windowed e)) (operation n.kind (get_or a i (pos 0)) (get_or b i (pos 0)) (get_or c i (pos 0)))
       (rw e (same-point w p sids own.checked k n own.node f e place on size i a b c inside rows (is_asked f) refl))
 
 pub point-operands : PointOperands

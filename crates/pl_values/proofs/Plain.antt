@@ -18,14 +18,14 @@ use Rattle.pl_pipeline.specs.Term.Input.{BarColumn, TermInput}
 use Rattle.pl_pipeline.specs.Value.{Value, name_at, test_value, kind_value}
 use Rattle.pl_pipeline.specs.Table.{Pipeline, value_of, in_array}
 use Rattle.pl_terms.specs.Checked.{IsChecked}
-use Rattle.pl_terms.specs.Sorts.{LabelClassifier, Labels, sort_at, places, fits, has_parameters, is_limited, is_downsampled}
+use Rattle.pl_terms.specs.Sorts.{LabelClassifier, Labels, sort_at, places, fits, has_parameters, is_limited, is_downsampled, is_windowed}
 use Rattle.pl_cross.specs.Arrays.{sid_in}
 use Rattle.pl_cross.proofs.Codes.{IsCoded}
 use Rattle.pl_values.specs.Arrays.{cell_of}
 use Rattle.pl_values.specs.Families.{sid_flag, label_code, IsCode, code_flag}
 use Rattle.pl_values.specs.Laws.{UnkeptCells, ConstantCells, SidCells, LabelCells, NumberCells, LabelTestCells, DownsampledCells}
 use Rattle.pl_values.proofs.Typed.{has-input, label-sort}
-use Rattle.pl_values.proofs.Downsampled.{over}
+use Rattle.pl_values.proofs.Downsampled.{over, plain-reads}
 use Rattle.pl_values.proofs.Numbers.{coded-sort}
 use Rattle.pl_values.proofs.Cells.{gated, ungated}
 use Rattle.pl_values.proofs.Operations.{limited-cell}
@@ -40,11 +40,11 @@ constant-limited k w names value e h = rw e at h
 pub constant-cell : ConstantCells
 unfolding kind_value
 constant-cell w p sids k n i s own value e =
-    (limited-cell value (constant-limited n.kind n.window _ value e (own.checked.nodes k n own.node).parameters), gated w p sids own.checked k n own.node i s value (rw e refl))
+    (limited-cell value (constant-limited n.kind n.window _ value e (own.checked.nodes k n own.node).parameters), gated w p sids own.checked k n own.node i s (plain-reads p n (ap is_windowed e)) value (rw e refl))
 
 pub sid-cell : SidCells
 unfolding kind_value
-sid-cell w p sids k n i s own list e = gated w p sids own.checked k n own.node i s (sid_flag n.kind (sid_in sids i)) (rw e refl)
+sid-cell w p sids k n i s own list e = gated w p sids own.checked k n own.node i s (plain-reads p n (ap is_windowed e)) (sid_flag n.kind (sid_in sids i)) (rw e refl)
 
 pub label-below : (k : Kind) (w names name : ℕ) → k ≡ Label name → has_parameters k w names ≡ true → name < names
 unfolding has_parameters
@@ -54,7 +54,7 @@ pub label-cell : LabelCells
 unfolding kind_value
 label-cell w p sids k n i s own name e = (
   label-below n.kind n.window _ name e (own.checked.nodes k n own.node).parameters,
-  gated w p sids own.checked k n own.node i s (label_code w.texts (label_at w (name_at p.names name) (sid_in sids i) (pos s))) (rw e refl),
+  gated w p sids own.checked k n own.node i s (plain-reads p n (ap is_windowed e)) (label_code w.texts (label_at w (name_at p.names name) (sid_in sids i) (pos s))) (rw e refl),
 )
 
 pub number-below : (k : Kind) (w names name : ℕ) → k ≡ Number name → has_parameters k w names ≡ true → name < names
@@ -65,7 +65,7 @@ pub number-cell : NumberCells
 unfolding kind_value
 number-cell w p sids k n i s own name e = (
   number-below n.kind n.window _ name e (own.checked.nodes k n own.node).parameters,
-  gated w p sids own.checked k n own.node i s (known_number w (name_at p.names name) (sid_in sids i) (pos s)) (rw e refl),
+  gated w p sids own.checked k n own.node i s (plain-reads p n (ap is_windowed e)) (known_number w (name_at p.names name) (sid_in sids i) (pos s)) (rw e refl),
 )
 
 -- a world without numbers has none of any asset
@@ -118,7 +118,7 @@ label-test-cell w p sids k n i s own f t texts e x =
     let same : input.0 ≡ t = cc in
     let coded : IsCoded w.texts (value_of w p t (sid_in sids i) (pos s)) = coded-sort w p own.checked t texts (ap (sort_at p.graph) (sym same) ∙ input.2) (sid_in sids i) (pos s) in (
       coded-code w.texts (value_of w p t (sid_in sids i) (pos s)) coded,
-      gated w p sids own.checked k n own.node i s (code_flag w.texts n.kind (in_array w.texts (value_of w p t (sid_in sids i) (pos s))))
+      gated w p sids own.checked k n own.node i s (plain-reads p n (ap is_windowed e)) (code_flag w.texts n.kind (in_array w.texts (value_of w p t (sid_in sids i) (pos s))))
           (rw (e, x) (coded-test w.texts f (value_of w p t (sid_in sids i) (pos s)) coded)),
     )
 
@@ -131,4 +131,4 @@ downsampled-input p ok k n is f e = let x = over p ok k n is (ap is_downsampled 
 pub downsampled-cell : DownsampledCells
 unfolding cell_of kind_value
 downsampled-cell w p sids k n i s own f t r e x h =
-    gated w p sids own.checked k n own.node i s (in_array w.texts (value_of w p t (sid_in sids i) (pos r))) (rw (e, x, sym h) refl)
+    gated w p sids own.checked k n own.node i s (plain-reads p n (ap is_windowed e)) (in_array w.texts (value_of w p t (sid_in sids i) (pos r))) (rw (e, x, sym h) refl)

@@ -10,11 +10,11 @@ abbrev pub invariant-loop-bar_session : goal.invariant-loop-bar_session
 invariant-loop-bar_session g l =
     let w = world_of l.world in
     let a = sid_at l.world.assets.now l.col in
-    let first = l.session - l.size in
+    let first = l.span.session - l.span.size in
     record {
       from : first ≤ l.bar_session;
-      to : l.bar_session ≤ l.session;
-      cells : l.cells.items ≡ run w a l.column l.session first (l.bar_session - first);
+      to : l.bar_session ≤ l.span.session;
+      cells : l.cells.items ≡ run w a l.column l.span.session l.span.view first (l.bar_session - first);
       all : All IsCell l.cells.items;
-      cost : l.steps ≡ l.fn.steps + run_steps w a l.column l.session first (l.bar_session - first);
+      cost : l.steps ≡ l.fn.steps + run_steps w a l.column l.span.session l.span.view first (l.bar_session - first);
     }

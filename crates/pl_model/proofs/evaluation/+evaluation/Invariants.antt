@@ -1,9 +1,10 @@
-use Rattle.std.proofs.Common.{◌≡◌, ◌+◌, ◌-◌, ◌*◌, ◌≤◌, map, All, take, sum_by}
+use Rattle.std.proofs.Common.{None, ◌≡◌, ◌+◌, ◌-◌, ◌*◌, ◌≤◌, map, All, take, sum_by}
 use Rattle.std.specs.List.{range_with_len}
 use Rattle.pl_spec.specs.Rounding.{IsCell}
 use Rattle.pl_world.specs.Evaluations.{above, above_option, cell_in}
 use Rattle.pl_model.specs.Costs.{cost_in}
 use Rattle.pl_model.specs.Requests.{asset_of}
+use Rattle.pl_model.specs.Views.{seen_in}
 use Rattle.pl_model.proofs.evaluation.+evaluation.Given as goal
 
 abbrev pub decreases-cell : goal.decreases-cell
@@ -47,9 +48,9 @@ invariant-cells_up_to-loop-session g l =
     record {
       from : first ≤ l.session;
       to : l.session ≤ r.session + 1;
-      cells : l.cells.items ≡ map (λ s. cell_in r.world.now r.checked.now l.u.0 (asset_of r) s) (range_with_len first (l.session - first));
+      cells : l.cells.items ≡ map (λ s. seen_in r.world.now r.checked.now l.u.0 r.view (asset_of r) s) (range_with_len first (l.session - first));
       all : All IsCell l.cells.items;
-      cost : l.steps ≡ l.fn.steps + sum_by (λ s. cost_in r.world.now r.checked.now l.u.0 (asset_of r) s) (range_with_len first (l.session - first));
+      cost : l.steps ≡ l.fn.steps + sum_by (λ s. cost_in r.world.now r.checked.now l.u.0 r.view (asset_of r) s) (range_with_len first (l.session - first));
     }
 
 -- the cells of the assets that have been passed
@@ -59,5 +60,5 @@ invariant-term_row-loop-col g l =
     record {
       cells : l.row.items ≡ map (λ b. cell_in r.world.now r.checked.now l.u.0 b.sid r.session) (take l.col r.world.now.assets.now);
       all : All IsCell l.row.items;
-      cost : l.steps ≡ l.fn.steps + sum_by (λ b. cost_in r.world.now r.checked.now l.u.0 b.sid r.session) (take l.col r.world.now.assets.now);
+      cost : l.steps ≡ l.fn.steps + sum_by (λ b. cost_in r.world.now r.checked.now l.u.0 None b.sid r.session) (take l.col r.world.now.assets.now);
     }
