@@ -16,6 +16,7 @@ use Rattle.pl_check.specs.declared.fault.CheckFault.{CheckFault}
 use Rattle.pl_check.specs.declared.fault.CheckFault.TheVariants.{UnknownName, BadArgument, TooManyTerms}
 use Rattle.pl_check.specs.declared.operation.Operation.{Operation}
 use Rattle.pl_pipeline.specs.declared.WindowKind.TheVariants as window
+use Rattle.pl_pipeline.specs.declared.Summary.TheVariants as summary
 use Rattle.pl_check.specs.declared.operation.Operation.TheVariants as op
 use Rattle.pl_check.specs.declared.operation.Parameter.{Parameter}
 use Rattle.pl_check.specs.Faults.{Broken, ◌>>=◌, or_fault, unless}
@@ -132,6 +133,7 @@ called-agrees p o object ws s f w i k =
 object-value : (o : Operation) (v : Value) → values (object_of o v) ≡ v ∷ []
 unfolding object_of parameters
 object-value (op.Window window.Latest) v = refl
+object-value (op.Summarize summary.Mean) v = refl
 object-value o v = refl
 
 object-in : (g : Graph) (o : Operation) (v : Value) → IsIn g v → AllIn g (values (object_of o v))

@@ -1,5 +1,5 @@
 -- The code of a term's value stands for that value.
-use Rattle.std.proofs.Common.{◌≡◌, ℕ, ◌<◌, Bool, true, false, ◌&&◌, if◌then◌else◌, ℤ, List, [], ◌∷◌, length, refl, sym, ap, get_or, ◌==◌, inl, inr}
+use Rattle.std.proofs.Common.{◌||◌, ◌≡◌, ℕ, ◌<◌, Bool, true, false, ◌&&◌, if◌then◌else◌, ℤ, List, [], ◌∷◌, length, refl, sym, ap, get_or, ◌==◌, inl, inr}
 use Rattle.std.specs.List.{list_any, position_or_len}
 use Rattle.std.specs.Str.{bytes_eq}
 use Rattle.std.proofs.lemmas.Bool.{or_left, or_right}
@@ -8,6 +8,7 @@ use Rattle.std.proofs.lemmas.List.Sums.{passes_at_first}
 use Rattle.std.proofs.lemmas.Slice.Eq.{bytes_eq-Decides}
 use Rattle.pl_spec.specs.World.{World, exists}
 use Rattle.pl_spec.specs.Periods.{period_start}
+use Rattle.pl_pipeline.specs.Cross.{is_for_all}
 use Rattle.pl_pipeline.specs.Kind.{Kind, LabelKind, CrossKind}
 use Rattle.pl_pipeline.specs.Kind.Kind.{Label, Window, Point, LabelTest, Cross, Downsample}
 use Rattle.pl_pipeline.specs.Term.{Term}
@@ -65,7 +66,7 @@ module _ (w : World) (known : HasTexts w) (names : List (List ℕ)) where
 
   section_kept : (k : CrossKind) (size : ℕ) (o : Operands) (a : ℕ) (d : ℤ) → IsKept w.texts (Cross k) (kind_value w names (Cross k) size o a d)
   unfolding kind_value
-  section_kept k size o a d = gate (Cross k) (list_any (λ e. e.0 == a) (eligible w k o a d)) _ refl
+  section_kept k size o a d = gate (Cross k) (is_for_all k || list_any (λ e. e.0 == a) (eligible w k o a d)) _ refl
 
   now_kept : (x : Term) (a : ℕ) (d : ℤ) → IsKept w.texts (sort_kind x) (value w names x a d) → IsKept w.texts (sort_kind x) (value_of_part (part_of x (value w names x)) a d)
   now_kept absent a d h = refl
