@@ -61,7 +61,8 @@ pub(crate) fn percentile(percent: u32, group: &[Listed]) -> i64
     quot(edge(group, point), 10_000)
 }
 
-/// Each value, but not below the one so many millionths of the way through the sorted values, nor above the other.
+/// Each value, but not below the one `low` millionths of the way through the sorted values, nor above that at
+/// `high`.
 pub(crate) fn winsorize(low: u32, high: u32, group: &[Listed], answers: &mut [i64])
     requires right { low < high }
     requires high { high ≤ MILLION }

@@ -70,12 +70,18 @@ pub(crate) fn summarize(summary: Summary, group: &[Listed]) -> i64
 }
 
 /// What is told of no values.
-#[tactic(auto, unfolding(pl_pipeline::specs::Cross::summary))]
+#[tactic(auto, unfolding(pl_pipeline::specs::Cross::summary, pl_spec::specs::Rounding::quot))]
 pub(crate) fn of_none(summary: Summary) -> i64
     ensures { result ≡ spec.summary summary [] }
 {
     match summary {
         Summary::NotNullCount => 0,
-        _ => MISSING,
+        Summary::Mean
+        | Summary::StdDev
+        | Summary::Sum
+        | Summary::Least
+        | Summary::Greatest
+        | Summary::Median
+        | Summary::Percentile { .. } => MISSING,
     }
 }
