@@ -1,7 +1,7 @@
-use Rattle.std.proofs.Common.{sym, ◌∙◌, ap, subst, arith, IsPermutation, w64, to_z, of_z, FitsSigned, length, take}
+use Rattle.std.proofs.Common.{sym, ◌∙◌, ap, subst, arith, IsPermutation, w64, FitsSigned, length}
 use Rattle.std.proofs.lemmas.Int.{to_z-of_z}
 use Rattle.pl_pipeline.specs.declared.RankOrder.TheVariants.{Ascending}
-use Rattle.pl_cross.specs.Listing.{labels_in, listing, HaveOwnPlaces}
+use Rattle.pl_cross.specs.Listing.{labels_in, HaveOwnPlaces}
 use Rattle.pl_cross.specs.Sharing.{shared}
 use Rattle.pl_cross.proofs.Members.{listing-own, sorted-cells, shared-is}
 use Rattle.pl_cross.proofs.summarize_within.Goals as goal

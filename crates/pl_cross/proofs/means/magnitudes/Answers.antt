@@ -1,11 +1,7 @@
-use Rattle.std.proofs.Common.{rules, ◌≡◌, ◌≤◌, pos, unsigned_abs, w64, to_z, of_z, FitsSigned, get_or, sum_by, arith, sym, ◌∙◌, ap}
-use Rattle.std.specs.Int.{w128}
-use Rattle.std.proofs.lemmas.List.{take_all}
-use Rattle.std.proofs.lemmas.Int.{to_z-of_z, to_z_pos}
+use Rattle.std.proofs.Common.{rules, ◌≡◌, ◌≤◌, pos, unsigned_abs, w64, to_z, of_z, FitsSigned, get_or, arith, ◌∙◌, ap}
+use Rattle.std.proofs.lemmas.Int.{to_z-of_z}
 use Rattle.pl_spec.specs.Rounding.{LIMIT}
-use Rattle.pl_pipeline.specs.Cross.{values}
 use Rattle.pl_cross.specs.declared.listing.Listed.{Listed}
-use Rattle.pl_cross.specs.Listing.{entries_of}
 use Rattle.pl_cross.proofs.Centers.{magnitudes-more}
 use Rattle.pl_cross.proofs.means.magnitudes.Goals as goal
 

@@ -1,5 +1,5 @@
-use Rattle.std.proofs.Common.{rules, ◌≡◌, pos, w64, FitsSigned, get_or, ◌∙◌, ap}
-use Rattle.std.specs.Int.{int_max, int_min}
+use Rattle.std.proofs.Common.{rules, pos, w64, FitsSigned, get_or, ◌∙◌, ap}
+use Rattle.std.specs.Int.{int_max}
 use Rattle.std.proofs.lemmas.Int.{to_z-of_z}
 use Rattle.pl_pipeline.specs.Kind.CrossKind.{Winsorize}
 use Rattle.pl_pipeline.specs.Cross.{values, value_at}
