@@ -1,5 +1,5 @@
 -- A typed script follows its trees, expression by expression and statement by statement.
-use Rattle.std.proofs.Common.{◌≡◌, ℕ, Bool, true, false, ◌||◌, not, cond, ◌⊎◌, List, [], ◌∷◌, ◌++◌, map, Option, Some, None, option_map, Result, Ok, Err, refl, sym, ap, ap₂, subst, ◌∙◌, inl, inr, append_assoc, append-nil, bytes_eq}
+use Rattle.std.proofs.Common.{◌≡◌, ℕ, Bool, true, false, ◌&&◌, ◌||◌, not, cond, ◌⊎◌, List, [], ◌∷◌, ◌++◌, map, Option, Some, None, option_map, Result, Ok, Err, refl, sym, ap, ap₂, subst, ◌∙◌, inl, inr, append_assoc, append-nil, bytes_eq}
 use Rattle.std.specs.Prelude.{is_some, option_and_then}
 use Rattle.std.proofs.lemmas.List.{map-append}
 use Rattle.pl_spec.specs.declared.Column.{Column}
@@ -23,7 +23,7 @@ use Rattle.pl_check.specs.Faults.{Broken, ◌>>=◌, or_fault, unless}
 use Rattle.pl_check.specs.Values.{Value, Bars, Labels, Number, Text, Bound, bound}
 use Rattle.pl_check.specs.Operations.{function_named, member_named, without_parentheses, operator, prefix_operator, parameters}
 use Rattle.pl_check.specs.Rules.{Written, parameter_of, has_all, form, broken}
-use Rattle.pl_check.specs.Typed.{Terms, Found, found, Definition, bar_column, defined, value_named, made, applied, called, object_of, prefixed, operands_of, combined, member_of, method_of, written, names_mask, mask_in, without_mask, kept_where, told_of, told_method, greatest_where, one_asset, names_one_asset, method_named_of, worth, args_worth}
+use Rattle.pl_check.specs.Typed.{Terms, Found, found, Definition, bar_column, defined, value_named, made, applied, called, object_of, prefixed, operands_of, combined, member_of, method_of, written, names_mask, names_other, name_others, mask_in, without_mask, kept_where, told_of, told_method, greatest_where, one_asset, names_one_asset, method_named_of, worth, args_worth}
 use Rattle.pl_check.specs.Typed as typed
 use Rattle.pl_check.specs.Trees as by_tree
 use Rattle.pl_check.specs.Trees.{Meaning, Forest, After, after, Arguments, no_arguments, meaning_named, with_argument, meaning, arguments}
@@ -196,13 +196,22 @@ method-agrees p v ws s f o w i k = here (without_parentheses o)
 meaning-later : (g h : Graph) (v : Value) → Later g h → IsIn g v → meaning_of g v ≡ meaning_of h v
 meaning-later g h v l i = ap (λ t. record { value = unnumbered v; tree = t }) (sym (tree-later g h v l i))
 
+others-named : (ws : List Written) → name_others (map bare_written ws) ≡ name_others ws
+others-named [] = refl
+others-named (w ∷ ws) = ap (λ b. names_other w.name && b) (others-named ws)
+
 mask-is : (g : Graph) (ws : List Written) → by_tree.mask_in (map bare_written ws) (map (tree_of g) (worths ws)) ≡ option_map (meaning_of g) (mask_in ws)
 mask-is g [] = refl
 mask-is g (w ∷ ws) = here (names_mask w.name) (mask-is g ws)
   where
+    alone : (a c : Bool) → a ≡ c → cond a (Some (meaning_of g w.value)) None ≡ option_map (meaning_of g) (cond c (Some w.value) None)
+    alone true c e = ap (λ b. option_map (meaning_of g) (cond b (Some w.value) None)) e
+    alone false c e = ap (λ b. option_map (meaning_of g) (cond b (Some w.value) None)) e
+
     here : (b : Bool) → by_tree.mask_in (map bare_written ws) (map (tree_of g) (worths ws)) ≡ option_map (meaning_of g) (mask_in ws)
-        → cond b (Some (meaning_of g w.value)) (by_tree.mask_in (map bare_written ws) (map (tree_of g) (worths ws))) ≡ option_map (meaning_of g) (cond b (Some w.value) (mask_in ws))
-    here true e = refl
+        → cond b (cond (name_others (map bare_written ws)) (Some (meaning_of g w.value)) None) (by_tree.mask_in (map bare_written ws) (map (tree_of g) (worths ws)))
+        ≡ option_map (meaning_of g) (cond b (cond (name_others ws) (Some w.value) None) (mask_in ws))
+    here true e = alone (name_others (map bare_written ws)) (name_others ws) (others-named ws)
     here false e = e
 
 unmasked-is : (g : Graph) (ws : List Written) → by_tree.unmasked (arguments_of g ws) ≡ arguments_of g (without_mask ws)
@@ -231,8 +240,12 @@ mask-in-graph : (g : Graph) (ws : List Written) (x : Value) → mask_in ws ≡ S
 mask-in-graph g [] x h k = absurd (let no : None ≡ Some x = h in cc)
 mask-in-graph g (w ∷ ws) x h k = here (names_mask w.name) h (λ e. mask-in-graph g ws x e k.1)
   where
-    here : (b : Bool) → cond b (Some w.value) (mask_in ws) ≡ Some x → (mask_in ws ≡ Some x → IsIn g x) → IsIn g x
-    here true e more = subst (IsIn g) (let q : Some w.value ≡ Some x = e in let z : w.value ≡ x = cc in z) k.0
+    alone : (a : Bool) → cond a (Some w.value) None ≡ Some x → IsIn g x
+    alone true e = subst (IsIn g) (let q : Some w.value ≡ Some x = e in let z : w.value ≡ x = cc in z) k.0
+    alone false e = absurd (let no : None ≡ Some x = e in cc)
+
+    here : (b : Bool) → cond b (cond (name_others ws) (Some w.value) None) (mask_in ws) ≡ Some x → (mask_in ws ≡ Some x → IsIn g x) → IsIn g x
+    here true e more = alone (name_others ws) e
     here false e more = more e
 
 unmasked-in : (g : Graph) (ws : List Written) → AllIn g (worths ws) → AllIn g (worths (without_mask ws))

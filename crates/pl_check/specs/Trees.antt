@@ -27,7 +27,7 @@ use Rattle.pl_check.specs.Values.{Value, Bars, Factor, Number, Text, Bound, boun
 use Rattle.pl_check.specs.Operations.{function_named, member_named, without_parentheses, operator, prefix_operator, parameters}
 use Rattle.pl_check.specs.Rules.{Written, form, broken}
 use Rattle.pl_check.specs.Results.{kind_for, columns_of, gives_input, window_for, result_for, names_after}
-use Rattle.pl_check.specs.Typed.{bar_column, asks_factor, object_of, operands_of, written, names_mask, without_mask, names_one_asset, is_storable, is_term_filter, require}
+use Rattle.pl_check.specs.Typed.{bar_column, asks_factor, object_of, operands_of, written, names_mask, name_others, without_mask, names_one_asset, is_storable, is_term_filter, require}
 
 -- What an expression is, and its tree where it is a term. No term has a number here: in the value it is 0.
 pub record Meaning : Type 0 where
@@ -161,7 +161,8 @@ method_of p m ws s op =
 
 -- the same of summaries under masks, and of the value of one asset
 abbrev pub mask_in : List Written → List (Option Term) → Option Meaning
-mask_in (w ∷ ws) (t ∷ ts) = if names_mask w.name then Some (record { value = w.value; tree = t }) else mask_in ws ts
+mask_in (w ∷ ws) (t ∷ ts) =
+    if names_mask w.name then (if name_others ws then Some (record { value = w.value; tree = t }) else None) else mask_in ws ts
 mask_in ws ts = None
 
 abbrev pub trees_without_mask : List Written → List (Option Term) → List (Option Term)

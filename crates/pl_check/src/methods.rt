@@ -46,7 +46,27 @@ fn names_mask(written: &Written) -> bool
     }
 }
 
-// What is written as the mask.
+// Is it named, and no mask?
+fn names_other(written: &Written) -> bool
+    ensures { result ≡ spec.names_other (written_of written.entry.now).name }
+{
+    match written.name {
+        Some(name) => name != b"mask".as_slice(),
+        None => false,
+    }
+}
+
+#[tactic(auto, unfolding(crate::specs::Seen::all_written))]
+fn name_others(written: &[Written]) -> bool
+    ensures { result ≡ spec.name_others (all_written written.entry.now) }
+{
+    match written {
+        [] => true,
+        [first, rest @ ..] => names_other(first) && name_others(rest),
+    }
+}
+
+// What is written as the mask, once, and before named arguments alone.
 #[tactic(auto, unfolding(crate::specs::Seen::all_written))]
 fn mask_in<'a>(written: &[Written<'a>]) -> Option<Value<'a>>
     ensures { option_map value_of result ≡ spec.mask_in (all_written written.entry.now) }
@@ -54,7 +74,13 @@ fn mask_in<'a>(written: &[Written<'a>]) -> Option<Value<'a>>
     match written {
         [] => None,
         [first, rest @ ..] => {
-            if names_mask(first) { Some(first.value) } else { mask_in(rest) }
+            if !names_mask(first) {
+                mask_in(rest)
+            } else if name_others(rest) {
+                Some(first.value)
+            } else {
+                None
+            }
         }
     }
 }
