@@ -1,5 +1,5 @@
 -- The trees of a script only grow: what is judged later comes last.
-use Rattle.std.proofs.Common.{◌≡◌, ℕ, false, List, [], ◌∷◌, ◌++◌, length, map, Option, Result, refl, sym, ap, subst, ◌∙◌, append_assoc, append-nil}
+use Rattle.std.proofs.Common.{◌≡◌, ℕ, false, List, [], ◌∷◌, ◌++◌, length, map, Option, Result, refl, sym, ap, subst, ◌∙◌, append_assoc, append-nil, Some, None, cond}
 use Rattle.std.specs.Prelude.{filter_map, option_to_list, not, is_some, nat_le, nat_lt, bytes_eq}
 use Rattle.std.specs.List.{list_any}
 use Rattle.pl_spec.specs.Limits.{most_columns}
@@ -18,7 +18,10 @@ use Rattle.pl_check.specs.Values.{Value, Number, Bound}
 use Rattle.pl_check.specs.Operations.{function_named, member_named, without_parentheses, operator}
 use Rattle.pl_check.specs.Rules.{form, broken}
 use Rattle.pl_check.specs.Typed.{is_storable, is_term_filter, bar_column, object_of, operands_of}
-use Rattle.pl_check.specs.Trees.{Meaning, Forest, After, constant_of, constant_in, settled, settled_trees, tree_for, Arguments, no_arguments, made, applied, called, prefixed, combined, member_of, method_of, Definition, meaning_named, with_argument, meaning, arguments, TreeColumn, Judged, is_taken, stored, let_judged, column_judged, screen_judged, head_judged, statement_judged, statements_judged, ended}
+use Rattle.pl_pipeline.specs.declared.Summary.TheVariants as summary
+use Rattle.pl_check.specs.declared.operation.Operation.TheVariants as op
+use Rattle.pl_check.specs.Typed.{names_one_asset}
+use Rattle.pl_check.specs.Trees.{Meaning, Forest, After, constant_of, constant_in, settled, settled_trees, tree_for, Arguments, no_arguments, made, applied, called, prefixed, combined, member_of, method_of, kept_where, told_of, mask_of, unmasked, is_one, one_asset, method_named_of, Definition, meaning_named, with_argument, meaning, arguments, TreeColumn, Judged, is_taken, stored, let_judged, column_judged, screen_judged, head_judged, statement_judged, statements_judged, ended}
 use Rattle.pl_check.specs.Numbering.{HasMany}
 use Rattle.std.specs.Result.{IfOk}
 use Rattle.std.proofs.lemmas.Result.{IfOk-weaker}
@@ -86,9 +89,28 @@ pub member-grows : (v : ℕ) (p : Place) (m : Meaning) (n : List ℕ) (f : Fores
 member-grows v p m n f =
     found-ok _ UnknownName p (member_named v n) _ (λ o e. either-ok _ (without_parentheses o) _ _ (λ a. applied-grows p o (object_of o m.value) (m.tree ∷ []) f) (λ a. tt))
 
-pub method-grows : (v : ℕ) (p : Place) (m : Meaning) (n : List ℕ) (ws : Arguments) (f : Forest) → Grows of_meaning f (or_fault UnknownName p (member_named v n) >>= λ o. method_of p m ws f o)
+pub member-method-grows : (p : Place) (m : Meaning) (ws : Arguments) (f : Forest) (o : Operation) → Grows of_meaning f (method_of p m ws f o)
+member-method-grows p m ws f o = either-ok _ (without_parentheses o) _ _ (λ a. tt) (λ a. called-grows p o (object_of o m.value) (m.tree ∷ []) ws f)
+
+told-of-grows : (x : Option Meaning) (p : Place) (m : Meaning) (ws : Arguments) (f : Forest) (o : Operation) → Grows of_meaning f (told_of x p m ws f o)
+told-of-grows None p m ws f o = member-method-grows p m ws f o
+told-of-grows (Some x) p m ws f o =
+    then-grows of_meaning of_meaning f (kept_where p m x f) _ (member-method-grows p m _ f op.Where) (λ r. member-method-grows p r.value (unmasked ws) r.forest o)
+
+pub rest-grows : (p : Place) (m : Meaning) (x : After Meaning) → Grows of_meaning x.forest (kept_where p m x.value x.forest >>= λ r. method_of p r.value no_arguments r.forest (op.Summarize summary.Greatest))
+rest-grows p m x =
+    then-grows of_meaning of_meaning x.forest (kept_where p m x.value x.forest) _ (member-method-grows p m _ x.forest op.Where) (λ r. member-method-grows p r.value no_arguments r.forest (op.Summarize summary.Greatest))
+
+asset-grows : (p : Place) (m : Meaning) (ws : Arguments) (f : Forest) → Grows of_meaning f (one_asset p m ws f)
+asset-grows p m ws f =
+    either-ok _ (is_one ws.written) _ _
+    (λ a. then-grows of_meaning of_meaning f (called p op.StaticSids [] [] ws f) _ (called-grows p op.StaticSids [] [] ws f) (λ x. rest-grows p m x))
+    (λ a. tt)
+
+pub method-grows : (v : ℕ) (p : Place) (m : Meaning) (n : List ℕ) (ws : Arguments) (f : Forest) → Grows of_meaning f (method_named_of v p m n ws f)
 method-grows v p m n ws f =
-    found-ok _ UnknownName p (member_named v n) _ (λ o e. either-ok _ (without_parentheses o) _ _ (λ a. tt) (λ a. called-grows p o (object_of o m.value) (m.tree ∷ []) ws f))
+    either-ok _ (names_one_asset v n) _ _ (λ a. asset-grows p m ws f)
+    (λ a. found-ok _ UnknownName p (member_named v n) _ (λ o e. told-of-grows (mask_of o ws) p m ws f o))
 
 -- ---- expressions
 
@@ -98,7 +120,7 @@ pub right-grows : (v : ℕ) (ds : List Definition) (b : Tree) (p : Place) (sign 
 right-grows v ds b p sign l h = then-grows of_meaning of_meaning l.forest (meaning v ds b l.forest) _ h (λ r. combined-grows p sign l.value r.value r.forest)
 
 pub list-grows : (v : ℕ) (ds : List Definition) (ps : Args) (p : Place) (n : List ℕ) (m : After Meaning) → Grows of_arguments m.forest (arguments v ds no_arguments ps m.forest)
-    → Grows of_meaning m.forest (arguments v ds no_arguments ps m.forest >>= λ q. or_fault UnknownName p (member_named v n) >>= λ o. method_of p m.value q.value q.forest o)
+    → Grows of_meaning m.forest (arguments v ds no_arguments ps m.forest >>= λ q. method_named_of v p m.value n q.value q.forest)
 list-grows v ds ps p n m h = then-grows of_arguments of_meaning m.forest (arguments v ds no_arguments ps m.forest) _ h (λ q. method-grows v p m.value n q.value q.forest)
 
 mutual

@@ -1,5 +1,5 @@
 -- A typed script follows its trees, expression by expression and statement by statement.
-use Rattle.std.proofs.Common.{◌≡◌, ℕ, Bool, true, false, ◌||◌, cond, ◌⊎◌, List, [], ◌∷◌, ◌++◌, map, Option, Some, None, option_map, Result, Ok, Err, refl, sym, ap, ap₂, subst, ◌∙◌, inl, inr, append_assoc, append-nil, bytes_eq}
+use Rattle.std.proofs.Common.{◌≡◌, ℕ, Bool, true, false, ◌&&◌, ◌||◌, not, cond, ◌⊎◌, List, [], ◌∷◌, ◌++◌, map, Option, Some, None, option_map, Result, Ok, Err, refl, sym, ap, ap₂, subst, ◌∙◌, inl, inr, append_assoc, append-nil, bytes_eq}
 use Rattle.std.specs.Prelude.{is_some, option_and_then}
 use Rattle.std.proofs.lemmas.List.{map-append}
 use Rattle.pl_spec.specs.declared.Column.{Column}
@@ -16,13 +16,14 @@ use Rattle.pl_check.specs.declared.fault.CheckFault.{CheckFault}
 use Rattle.pl_check.specs.declared.fault.CheckFault.TheVariants.{UnknownName, BadArgument, TooManyTerms}
 use Rattle.pl_check.specs.declared.operation.Operation.{Operation}
 use Rattle.pl_pipeline.specs.declared.WindowKind.TheVariants as window
+use Rattle.pl_pipeline.specs.declared.Summary.TheVariants as summary
 use Rattle.pl_check.specs.declared.operation.Operation.TheVariants as op
 use Rattle.pl_check.specs.declared.operation.Parameter.{Parameter}
 use Rattle.pl_check.specs.Faults.{Broken, ◌>>=◌, or_fault, unless}
 use Rattle.pl_check.specs.Values.{Value, Bars, Labels, Number, Text, Bound, bound}
 use Rattle.pl_check.specs.Operations.{function_named, member_named, without_parentheses, operator, prefix_operator, parameters}
 use Rattle.pl_check.specs.Rules.{Written, parameter_of, has_all, form, broken}
-use Rattle.pl_check.specs.Typed.{Terms, Found, found, Definition, bar_column, defined, value_named, made, applied, called, object_of, prefixed, operands_of, combined, member_of, method_of, written, worth, args_worth}
+use Rattle.pl_check.specs.Typed.{Terms, Found, found, Definition, bar_column, defined, value_named, made, applied, called, object_of, prefixed, operands_of, combined, member_of, method_of, written, names_mask, names_other, name_others, mask_in, without_mask, kept_where, told_of, told_method, greatest_where, one_asset, names_one_asset, method_named_of, worth, args_worth}
 use Rattle.pl_check.specs.Typed as typed
 use Rattle.pl_check.specs.Trees as by_tree
 use Rattle.pl_check.specs.Trees.{Meaning, Forest, After, after, Arguments, no_arguments, meaning_named, with_argument, meaning, arguments}
@@ -31,7 +32,7 @@ use Rattle.pl_check.proofs.Rooted.{tree_of, meaning_of, IsIn, AllIn, values, in-
 use Rattle.std.specs.Result.{IfOk}
 use Rattle.std.proofs.lemmas.Result.{IfOk-weaker}
 use Rattle.pl_check.proofs.Chained.{then-ok}
-use Rattle.pl_check.proofs.Extended.{IsOver, over-later, of_meaning, of_arguments, Grows, function-grows, prefixed-grows, combined-grows, member-grows, method-grows, right-grows, list-grows, meaning-grows, arguments-grow}
+use Rattle.pl_check.proofs.Extended.{IsOver, over-later, of_meaning, of_arguments, Grows, function-grows, prefixed-grows, combined-grows, member-grows, method-grows, member-method-grows, rest-grows, right-grows, list-grows, meaning-grows, arguments-grow}
 use Rattle.pl_check.proofs.Counted.{Same, Means, made-means, made-over}
 
 -- Where there is a value, the other has one that is its; a fault is the same, unless the other's trees are
@@ -132,6 +133,7 @@ called-agrees p o object ws s f w i k =
 object-value : (o : Operation) (v : Value) → values (object_of o v) ≡ v ∷ []
 unfolding object_of parameters
 object-value (op.Window window.Latest) v = refl
+object-value (op.Summarize summary.Mean) v = refl
 object-value o v = refl
 
 object-in : (g : Graph) (o : Operation) (v : Value) → IsIn g v → AllIn g (values (object_of o v))
@@ -189,6 +191,131 @@ method-agrees p v ws s f o w i k = here (without_parentheses o)
     here true = inr refl
     here false = inside
 
+-- ---- masks of summaries, and the value of one asset
+
+meaning-later : (g h : Graph) (v : Value) → Later g h → IsIn g v → meaning_of g v ≡ meaning_of h v
+meaning-later g h v l i = ap (λ t. record { value = unnumbered v; tree = t }) (sym (tree-later g h v l i))
+
+others-named : (ws : List Written) → name_others (map bare_written ws) ≡ name_others ws
+others-named [] = refl
+others-named (w ∷ ws) = ap (λ b. names_other w.name && b) (others-named ws)
+
+mask-is : (g : Graph) (ws : List Written) → by_tree.mask_in (map bare_written ws) (map (tree_of g) (worths ws)) ≡ option_map (meaning_of g) (mask_in ws)
+mask-is g [] = refl
+mask-is g (w ∷ ws) = here (names_mask w.name) (mask-is g ws)
+  where
+    alone : (a c : Bool) → a ≡ c → cond a (Some (meaning_of g w.value)) None ≡ option_map (meaning_of g) (cond c (Some w.value) None)
+    alone true c e = ap (λ b. option_map (meaning_of g) (cond b (Some w.value) None)) e
+    alone false c e = ap (λ b. option_map (meaning_of g) (cond b (Some w.value) None)) e
+
+    here : (b : Bool) → by_tree.mask_in (map bare_written ws) (map (tree_of g) (worths ws)) ≡ option_map (meaning_of g) (mask_in ws)
+        → cond b (cond (name_others (map bare_written ws)) (Some (meaning_of g w.value)) None) (by_tree.mask_in (map bare_written ws) (map (tree_of g) (worths ws)))
+        ≡ option_map (meaning_of g) (cond b (cond (name_others ws) (Some w.value) None) (mask_in ws))
+    here true e = alone (name_others (map bare_written ws)) (name_others ws) (others-named ws)
+    here false e = e
+
+unmasked-is : (g : Graph) (ws : List Written) → by_tree.unmasked (arguments_of g ws) ≡ arguments_of g (without_mask ws)
+unmasked-is g ws = ap₂ (λ xs ts. record { written = xs; trees = ts }) (written-is ws) (trees-are ws)
+  where
+    written-is : (ws : List Written) → without_mask (map bare_written ws) ≡ map bare_written (without_mask ws)
+    written-is [] = refl
+    written-is (w ∷ ws) = here (names_mask w.name) (written-is ws)
+      where
+        here : (b : Bool) → without_mask (map bare_written ws) ≡ map bare_written (without_mask ws)
+            → cond (not b) (bare_written w ∷ without_mask (map bare_written ws)) (without_mask (map bare_written ws)) ≡ map bare_written (cond (not b) (w ∷ without_mask ws) (without_mask ws))
+        here true e = e
+        here false e = ap (λ l. bare_written w ∷ l) e
+
+    trees-are : (ws : List Written) → by_tree.trees_without_mask (map bare_written ws) (map (tree_of g) (worths ws)) ≡ map (tree_of g) (worths (without_mask ws))
+    trees-are [] = refl
+    trees-are (w ∷ ws) = here (names_mask w.name) (trees-are ws)
+      where
+        here : (b : Bool) → by_tree.trees_without_mask (map bare_written ws) (map (tree_of g) (worths ws)) ≡ map (tree_of g) (worths (without_mask ws))
+            → cond b (by_tree.trees_without_mask (map bare_written ws) (map (tree_of g) (worths ws))) (tree_of g w.value ∷ by_tree.trees_without_mask (map bare_written ws) (map (tree_of g) (worths ws)))
+            ≡ map (tree_of g) (worths (cond (not b) (w ∷ without_mask ws) (without_mask ws)))
+        here true e = e
+        here false e = ap (λ l. tree_of g w.value ∷ l) e
+
+mask-in-graph : (g : Graph) (ws : List Written) (x : Value) → mask_in ws ≡ Some x → AllIn g (worths ws) → IsIn g x
+mask-in-graph g [] x h k = absurd (let no : None ≡ Some x = h in cc)
+mask-in-graph g (w ∷ ws) x h k = here (names_mask w.name) h (λ e. mask-in-graph g ws x e k.1)
+  where
+    alone : (a : Bool) → cond a (Some w.value) None ≡ Some x → IsIn g x
+    alone true e = subst (IsIn g) (let q : Some w.value ≡ Some x = e in let z : w.value ≡ x = cc in z) k.0
+    alone false e = absurd (let no : None ≡ Some x = e in cc)
+
+    here : (b : Bool) → cond b (cond (name_others ws) (Some w.value) None) (mask_in ws) ≡ Some x → (mask_in ws ≡ Some x → IsIn g x) → IsIn g x
+    here true e more = alone (name_others ws) e
+    here false e more = more e
+
+unmasked-in : (g : Graph) (ws : List Written) → AllIn g (worths ws) → AllIn g (worths (without_mask ws))
+unmasked-in g [] k = tt
+unmasked-in g (w ∷ ws) k = here (names_mask w.name) (unmasked-in g ws k.1)
+  where
+    here : (b : Bool) → AllIn g (worths (without_mask ws)) → AllIn g (worths (cond (not b) (w ∷ without_mask ws) (without_mask ws)))
+    here true r = r
+    here false r = (k.0, r)
+
+-- the arguments in a later graph
+arguments-later : (g h : Graph) (ws : List Written) → Later g h → AllIn g (worths ws) → arguments_of g ws ≡ arguments_of h ws
+arguments-later g h ws l i = ap (λ ts. record { written = map bare_written ws; trees = ts }) (sym (trees-later g h (worths ws) l i))
+
+-- a member of what was found, with arguments
+after-agrees : (p : Place) (ws : List Written) (s : Terms) (r : Found Value) (m : After Meaning) (a : Arguments) (o : Operation) → Means s r m → a ≡ arguments_of r.terms.graph ws → AllIn r.terms.graph (worths ws)
+    → Agrees of_meaning (Means s) (method_of p r.value ws r.terms o) (by_tree.method_of p m.value a m.forest o)
+after-agrees p ws s r m a o j e k =
+    subst (λ z. Agrees of_meaning (Means s) (method_of p r.value ws r.terms o) (by_tree.method_of p z a m.forest o)) (sym j.is)
+    (subst (λ z. Agrees of_meaning (Means s) (method_of p r.value ws r.terms o) (by_tree.method_of p (meaning_of r.terms.graph r.value) z m.forest o)) (sym e)
+    (behind s r.terms _ _ j.later (method-agrees p r.value ws r.terms m.forest o j.same j.inside k)))
+
+told-of-agrees : (x : Option Value) (p : Place) (v : Value) (ws : List Written) (s : Terms) (f : Forest) (o : Operation) → ((y : Value) → x ≡ Some y → IsIn s.graph y) → Same s f → IsIn s.graph v → AllIn s.graph (worths ws)
+    → Agrees of_meaning (Means s) (told_of x p v ws s o) (by_tree.told_of (option_map (meaning_of s.graph) x) p (meaning_of s.graph v) (arguments_of s.graph ws) f o)
+told-of-agrees None p v ws s f o h w i k = method-agrees p v ws s f o w i k
+told-of-agrees (Some y) p v ws s f o h w i k =
+    then-agrees of_meaning of_meaning (Means s) (Means s) (kept_where p v y s) (by_tree.kept_where p (meaning_of s.graph v) (meaning_of s.graph y) f) _ _
+    (method-agrees p v (written None y ∷ []) s f op.Where w i (h y refl, tt))
+    (λ r m j. after-agrees p (without_mask ws) s r m (by_tree.unmasked (arguments_of s.graph ws)) o j
+    (unmasked-is s.graph ws ∙ arguments-later s.graph r.terms.graph (without_mask ws) j.later (unmasked-in s.graph ws k))
+    (all-later s.graph r.terms.graph (worths (without_mask ws)) j.later (unmasked-in s.graph ws k)))
+    (λ m. member-method-grows p m.value (by_tree.unmasked (arguments_of s.graph ws)) m.forest o)
+
+told-agrees : (p : Place) (v : Value) (ws : List Written) (s : Terms) (f : Forest) (o : Operation) → Same s f → IsIn s.graph v → AllIn s.graph (worths ws)
+    → Agrees of_meaning (Means s) (told_method p v ws s o) (by_tree.told_method p (meaning_of s.graph v) (arguments_of s.graph ws) f o)
+told-agrees p v ws s f (op.Summarize t) w i k =
+    subst (λ x. Agrees of_meaning (Means s) (told_method p v ws s (op.Summarize t)) (by_tree.told_of x p (meaning_of s.graph v) (arguments_of s.graph ws) f (op.Summarize t))) (sym (mask-is s.graph ws))
+    (told-of-agrees (mask_in ws) p v ws s f (op.Summarize t) (λ y e. mask-in-graph s.graph ws y e k) w i k)
+told-agrees p v ws s f o w i k = method-agrees p v ws s f o w i k
+
+abbrev rest : Place → Value → Found Value → Result (Found Value) Broken
+rest p v q = greatest_where p v q.value q.terms
+
+abbrev by_rest : Place → Meaning → After Meaning → Result (After Meaning) Broken
+by_rest p z m = by_tree.kept_where p z m.value m.forest >>= λ r. by_tree.method_of p r.value no_arguments r.forest (op.Summarize summary.Greatest)
+
+asset-agrees : (p : Place) (v : Value) (ws : List Written) (s : Terms) (f : Forest) → Same s f → IsIn s.graph v → AllIn s.graph (worths ws)
+    → Agrees of_meaning (Means s) (one_asset p v ws s) (by_tree.one_asset p (meaning_of s.graph v) (arguments_of s.graph ws) f)
+asset-agrees p v [] s f w i k = inr refl
+asset-agrees p v (x ∷ (y ∷ ws)) s f w i k = inr refl
+asset-agrees p v (x ∷ []) s f w i k =
+    then-agrees of_meaning of_meaning (Means s) (Means s) (called p op.StaticSids [] (x ∷ []) s) (by_tree.called p op.StaticSids [] [] (arguments_of s.graph (x ∷ [])) f) _ _
+    (called-agrees p op.StaticSids [] (x ∷ []) s f w tt k)
+    (λ q m j. subst (λ z. Agrees of_meaning (Means s) (rest p v q) (by_rest p z m)) (sym (meaning-later s.graph q.terms.graph v j.later i))
+    (subst (λ z. Agrees of_meaning (Means s) (rest p v q) (by_tree.kept_where p (meaning_of q.terms.graph v) z m.forest >>= λ r. by_tree.method_of p r.value no_arguments r.forest (op.Summarize summary.Greatest))) (sym j.is)
+    (behind s q.terms _ _ j.later (then-agrees of_meaning of_meaning (Means q.terms) (Means q.terms) (kept_where p v q.value q.terms) (by_tree.kept_where p (meaning_of q.terms.graph v) (meaning_of q.terms.graph q.value) m.forest) _ _
+    (method-agrees p v (written None q.value ∷ []) q.terms m.forest op.Where j.same (in-later s.graph q.terms.graph v j.later i) (j.inside, tt))
+    (λ r b t. after-agrees p [] q.terms r b no_arguments (op.Summarize summary.Greatest) t refl tt)
+    (λ b. member-method-grows p b.value no_arguments b.forest (op.Summarize summary.Greatest))))))
+    (λ m. rest-grows p (meaning_of s.graph v) m)
+
+named-method-agrees : (n : ℕ) (p : Place) (v : Value) (m : List ℕ) (ws : List Written) (s : Terms) (f : Forest) → Same s f → IsIn s.graph v → AllIn s.graph (worths ws)
+    → Agrees of_meaning (Means s) (method_named_of n p v m ws s) (by_tree.method_named_of n p (meaning_of s.graph v) m (arguments_of s.graph ws) f)
+named-method-agrees n p v m ws s f w i k = here (names_one_asset n m)
+  where
+    here : (b : Bool) → Agrees of_meaning (Means s) (cond b (one_asset p v ws s) (or_fault UnknownName p (member_named n m) >>= λ o. told_method p v ws s o))
+        (cond b (by_tree.one_asset p (meaning_of s.graph v) (arguments_of s.graph ws) f) (or_fault UnknownName p (member_named n m) >>= λ o. by_tree.told_method p (meaning_of s.graph v) (arguments_of s.graph ws) f o))
+    here true = asset-agrees p v ws s f w i k
+    here false = looked-agrees of_meaning (Means s) UnknownName p (member_named n m) _ _ (λ o. told-agrees p v ws s f o w i k)
+
 -- ---- names
 
 -- definitions, and what they mean
@@ -196,9 +323,6 @@ abbrev pub AreMeant : Graph → List Definition → List by_tree.Definition → 
 AreMeant g [] [] = Unit {0}
 AreMeant g (d ∷ ds) (e ∷ es) = (e.name ≡ d.name) × IsIn g d.value × (e.meaning ≡ meaning_of g d.value) × AreMeant g ds es
 AreMeant g ds es = ⊥
-
-meaning-later : (g h : Graph) (v : Value) → Later g h → IsIn g v → meaning_of g v ≡ meaning_of h v
-meaning-later g h v l i = ap (λ t. record { value = unnumbered v; tree = t }) (sym (tree-later g h v l i))
 
 pub meant-later : (g h : Graph) (ds : List Definition) (es : List by_tree.Definition) → Later g h → AreMeant g ds es → AreMeant h ds es
 meant-later g h [] [] l a = tt
@@ -268,13 +392,13 @@ both-agree p sign s l r m q k j =
     (combined-agrees p sign l.value r.value r.terms q.forest j.same (in-later l.terms.graph r.terms.graph l.value j.later k.inside) j.inside)))
 
 object-and-arguments : (v : ℕ) (p : Place) (n : List ℕ) (s : Terms) (r : Found Value) (m : After Meaning) (q : Found (List Written)) (b : After Arguments) → Means s r m → MeanAll r.terms q b
-    → Agrees of_meaning (Means s) (or_fault UnknownName p (member_named v n) >>= λ o. method_of p r.value q.value q.terms o) (or_fault UnknownName p (member_named v n) >>= λ o. by_tree.method_of p m.value b.value b.forest o)
+    → Agrees of_meaning (Means s) (method_named_of v p r.value n q.value q.terms) (by_tree.method_named_of v p m.value n b.value b.forest)
 object-and-arguments v p n s r m q b k j =
-    subst (λ z. Agrees of_meaning (Means s) (or_fault UnknownName p (member_named v n) >>= λ o. method_of p r.value q.value q.terms o) (or_fault UnknownName p (member_named v n) >>= λ o. by_tree.method_of p z b.value b.forest o))
+    subst (λ z. Agrees of_meaning (Means s) (method_named_of v p r.value n q.value q.terms) (by_tree.method_named_of v p z n b.value b.forest))
     (sym (k.is ∙ meaning-later r.terms.graph q.terms.graph r.value j.later k.inside))
-    (subst (λ z. Agrees of_meaning (Means s) (or_fault UnknownName p (member_named v n) >>= λ o. method_of p r.value q.value q.terms o) (or_fault UnknownName p (member_named v n) >>= λ o. by_tree.method_of p (meaning_of q.terms.graph r.value) z b.forest o)) (sym j.is)
-    (looked-agrees of_meaning (Means s) UnknownName p (member_named v n) _ _ (λ o. behind s q.terms _ _ (later-still s.graph r.terms.graph q.terms.graph k.later j.later)
-    (method-agrees p r.value q.value q.terms b.forest o j.same (in-later r.terms.graph q.terms.graph r.value j.later k.inside) j.inside))))
+    (subst (λ z. Agrees of_meaning (Means s) (method_named_of v p r.value n q.value q.terms) (by_tree.method_named_of v p (meaning_of q.terms.graph r.value) n z b.forest)) (sym j.is)
+    (behind s q.terms _ _ (later-still s.graph r.terms.graph q.terms.graph k.later j.later)
+    (named-method-agrees v p r.value n q.value q.terms b.forest j.same (in-later r.terms.graph q.terms.graph r.value j.later k.inside) j.inside)))
 
 mutual
   unfolding worth args_worth meaning arguments

@@ -9,6 +9,7 @@ use Rattle.std.proofs.Math.Bool.{or-true}
 use Rattle.pl_terms.specs.Sorts.{has_length}
 use Rattle.pl_check.specs.declared.operation.Operation.{Operation}
 use Rattle.pl_pipeline.specs.declared.WindowKind.TheVariants as window
+use Rattle.pl_pipeline.specs.declared.Summary.TheVariants as summary
 use Rattle.pl_check.specs.declared.operation.Operation.TheVariants as op
 use Rattle.pl_check.specs.declared.operation.Parameter.{Parameter}
 use Rattle.pl_check.specs.declared.operation.Parameter.TheVariants as parameter
@@ -25,11 +26,13 @@ use Rattle.pl_check.proofs.Lists.{same-one, true-false, needed, or-right, same-s
 
 pub few-none : (o : Operation) → is_few o [] ≡ true
 few-none (op.Window window.Latest) = refl
+few-none (op.Summarize summary.Mean) = refl
 few-none o = refl
 
 pub few-object : (o : Operation) (v : Value) → is_few o (object_of o v) ≡ true
 unfolding object_of parameters given number_of
 few-object (op.Window window.Latest) v = refl
+few-object (op.Summarize summary.Mean) v = refl
 few-object o v = refl
 
 -- ---- one more

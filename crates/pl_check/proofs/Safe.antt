@@ -9,6 +9,7 @@ use Rattle.pl_pipeline.specs.Term.{Graph, Node, Input, BarColumn, TermInput}
 use Rattle.pl_terms.specs.Sorts.{sort_of, is_windowed, is_safe_kind, is_safe_over, IsSafe, of_kind, of_inputs, IsLocal, ReadsSafe}
 use Rattle.pl_check.specs.declared.operation.Operation.{Operation}
 use Rattle.pl_pipeline.specs.declared.WindowKind.TheVariants as window
+use Rattle.pl_pipeline.specs.declared.Summary.TheVariants as summary
 use Rattle.pl_check.specs.declared.operation.Operation.TheVariants as op
 use Rattle.pl_check.specs.declared.operation.Parameter.{Parameter}
 use Rattle.pl_check.specs.declared.operation.Parameter.TheVariants as parameter
@@ -99,6 +100,7 @@ in_window p = false
 window-parameters : (o : Operation) (bs : List Bound) (names : List (List ℕ)) → cond (is_windowed (kind_for o bs names)) (list_all (λ p. not (gives_input p) || in_window p) (parameters o)) true ≡ true
 unfolding kind_for parameters gives_input in_window
 window-parameters (op.Window window.Latest) bs names = refl
+window-parameters (op.Summarize summary.Mean) bs names = refl
 window-parameters o bs names = refl
 
 bars-input : (v : Value) (j : ℕ) → is_bars v ≡ true → input_in v ≡ Some (TermInput j) → ⊥
@@ -154,6 +156,7 @@ result-called : (o : Operation) (bs : List Bound) (names : List (List ℕ)) (t :
 unfolding kind_for result_for sort_of is_safe_kind is_safe_over
 result-called op.Downsample bs names t h = absurd (let no : true ≡ false = h in cc)
 result-called (op.Window window.Latest) bs names t h = not-or_self (is_window_safe (kind_for (op.Window window.Latest) bs names) (all_safe bs))
+result-called (op.Summarize summary.Mean) bs names t h = not-or_self (is_window_safe (kind_for (op.Summarize summary.Mean) bs names) (all_safe bs))
 result-called o bs names t h = not-or_self (is_window_safe (kind_for o bs names) (all_safe bs))
 
 called-cases : (s a b c : Bool) → s ≡ true → (not s || (a || (b && c))) ≡ true → (a ≡ true) ⊎ ((b ≡ true) × (c ≡ true))

@@ -5,6 +5,7 @@ use Rattle.std.proofs.lemmas.List.{length-map, map-append}
 use Rattle.pl_terms.specs.Sorts.{sort_of, is_safe_kind, is_safe_over}
 use Rattle.pl_pipeline.specs.Kind as kind
 use Rattle.pl_pipeline.specs.declared.WindowKind.TheVariants as window
+use Rattle.pl_pipeline.specs.declared.Summary.TheVariants as summary
 use Rattle.pl_grammar.specs.declared.BinarySign.{BinarySign}
 use Rattle.pl_grammar.specs.declared.BinarySign.TheVariants as signs
 use Rattle.pl_check.specs.declared.operation.Operation.{Operation}
@@ -146,6 +147,7 @@ broken-bare bs =
 pub kind-bare : (o : Operation) (bs : List Bound) (names : List (List ℕ)) → kind_for o (map bare bs) names ≡ kind_for o bs names
 unfolding kind_for
 kind-bare (op.Window window.Latest) bs names = refl
+kind-bare (op.Summarize summary.Mean) bs names = refl
 kind-bare op.StaticSids bs names =
     ap kind.StaticSids
     (ap sorted_sids (values-given bs parameter.Sid) ∙ sids-bare (values_given bs parameter.Sid))
@@ -184,6 +186,7 @@ result-bare op.Downsample bs t =
     ap (λ v. like v (all_safe (map bare bs)) 0) (given-bare bs parameter.AnyTerm) ∙ ap (λ s. like (option_map unnumbered (given bs parameter.AnyTerm)) s 0) (all-safe-bare bs)
     ∙ like-bare (given bs parameter.AnyTerm) (all_safe bs) t
 result-bare (op.Window window.Latest) bs t = ap (λ safe. sorted (sort_of (kind_for (op.Window window.Latest) bs [])) (is_window_safe (kind_for (op.Window window.Latest) bs []) safe) 0) (all-safe-bare bs)
+result-bare (op.Summarize summary.Mean) bs t = ap (λ safe. sorted (sort_of (kind_for (op.Summarize summary.Mean) bs [])) (is_window_safe (kind_for (op.Summarize summary.Mean) bs []) safe) 0) (all-safe-bare bs)
 result-bare o bs t = ap (λ safe. sorted (sort_of (kind_for o bs [])) (is_window_safe (kind_for o bs []) safe) 0) (all-safe-bare bs)
 
 -- ---- the form of arguments

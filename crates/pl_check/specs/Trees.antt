@@ -6,6 +6,7 @@ use Rattle.std.specs.List.{list_any}
 use lib.IntN.{neg_ℤ}
 use Rattle.pl_spec.specs.Limits.{most_columns}
 use Rattle.pl_spec.specs.declared.Column.{Column}
+use Rattle.pl_pipeline.specs.declared.Summary.TheVariants as summary
 use Rattle.pl_pipeline.specs.Kind.{Kind, Constant}
 use Rattle.pl_pipeline.specs.Term.{Term, absent, column, node}
 use Rattle.pl_grammar.specs.declared.Place.{Place}
@@ -17,6 +18,7 @@ use Rattle.pl_grammar.specs.Script.{Head, LetHead, ColumnHead, ScreenHead, State
 use Rattle.pl_syntax.specs.Spells.{Parsed}
 use Rattle.pl_check.specs.declared.fault.CheckFault.TheVariants.{UnknownName, Redefined, WrongKind, BadArgument, NoColumn, TooManyColumns}
 use Rattle.pl_check.specs.declared.operation.Operation.{Operation}
+use Rattle.pl_check.specs.declared.operation.Operation.TheVariants as operation
 use Rattle.pl_check.specs.declared.operation.Parameter.{Parameter}
 use Rattle.pl_check.specs.declared.operation.Parameter.TheVariants.{Mask, Groupby}
 use Rattle.pl_check.specs.Parameters.{same_parameter}
@@ -25,7 +27,7 @@ use Rattle.pl_check.specs.Values.{Value, Bars, Factor, Number, Text, Bound, boun
 use Rattle.pl_check.specs.Operations.{function_named, member_named, without_parentheses, operator, prefix_operator, parameters}
 use Rattle.pl_check.specs.Rules.{Written, form, broken}
 use Rattle.pl_check.specs.Results.{kind_for, columns_of, gives_input, window_for, result_for, names_after}
-use Rattle.pl_check.specs.Typed.{bar_column, asks_factor, object_of, operands_of, written, is_storable, is_term_filter, require}
+use Rattle.pl_check.specs.Typed.{bar_column, asks_factor, object_of, operands_of, written, names_mask, name_others, without_mask, names_one_asset, is_storable, is_term_filter, require}
 
 -- What an expression is, and its tree where it is a term. No term has a number here: in the value it is 0.
 pub record Meaning : Type 0 where
@@ -157,6 +159,48 @@ abbrev pub method_of : Place → Meaning → Arguments → Forest → Operation 
 method_of p m ws s op =
     if without_parentheses op then Err (record { fault = BadArgument; place = p }) else called p op (object_of op m.value) (m.tree ∷ []) ws s
 
+-- the same of summaries under masks, and of the value of one asset
+abbrev pub mask_in : List Written → List (Option Term) → Option Meaning
+mask_in (w ∷ ws) (t ∷ ts) =
+    if names_mask w.name then (if name_others ws then Some (record { value = w.value; tree = t }) else None) else mask_in ws ts
+mask_in ws ts = None
+
+abbrev pub trees_without_mask : List Written → List (Option Term) → List (Option Term)
+trees_without_mask (w ∷ ws) (t ∷ ts) = if names_mask w.name then trees_without_mask ws ts else t ∷ trees_without_mask ws ts
+trees_without_mask ws ts = []
+
+abbrev pub unmasked : Arguments → Arguments
+unmasked a = record { written = without_mask a.written; trees = trees_without_mask a.written a.trees }
+
+abbrev pub mask_of : Operation → Arguments → Option Meaning
+mask_of (operation.Summarize told) a = mask_in a.written a.trees
+mask_of o a = None
+
+abbrev pub kept_where : Place → Meaning → Meaning → Forest → Result (After Meaning) Broken
+kept_where p m f s = method_of p m (record { written = written None f.value ∷ []; trees = f.tree ∷ [] }) s operation.Where
+
+abbrev pub told_of : Option Meaning → Place → Meaning → Arguments → Forest → Operation → Result (After Meaning) Broken
+told_of None p m ws s o = method_of p m ws s o
+told_of (Some f) p m ws s o = kept_where p m f s >>= λ r. method_of p r.value (unmasked ws) r.forest o
+
+abbrev pub told_method : Place → Meaning → Arguments → Forest → Operation → Result (After Meaning) Broken
+told_method p m ws s o = told_of (mask_of o ws) p m ws s o
+
+abbrev pub is_one : List Written → Bool
+is_one (w ∷ []) = true
+is_one ws = false
+
+abbrev pub one_asset : Place → Meaning → Arguments → Forest → Result (After Meaning) Broken
+one_asset p m ws s =
+    if is_one ws.written
+    then (called p operation.StaticSids [] [] ws s >>= λ f. kept_where p m f.value f.forest >>= λ r. method_of p r.value no_arguments r.forest (operation.Summarize summary.Greatest))
+    else Err (record { fault = BadArgument; place = p })
+
+abbrev pub method_named_of : ℕ → Place → Meaning → List ℕ → Arguments → Forest → Result (After Meaning) Broken
+method_named_of version p m n ws s =
+    if names_one_asset version n then one_asset p m ws s
+    else (or_fault UnknownName p (member_named version n) >>= λ o. told_method p m ws s o)
+
 -- ---- expressions
 
 -- a name and what it means
@@ -188,8 +232,7 @@ unfoldable mutual
   meaning v ds (member p e m) s =
       meaning v ds e s >>= λ r. or_fault UnknownName p (member_named v m) >>= λ op. member_of p r.value r.forest op
   meaning v ds (method p e m ps) s =
-      meaning v ds e s >>= λ r. arguments v ds no_arguments ps r.forest >>= λ q.
-      or_fault UnknownName p (member_named v m) >>= λ op. method_of p r.value q.value q.forest op
+      meaning v ds e s >>= λ r. arguments v ds no_arguments ps r.forest >>= λ q. method_named_of v p r.value m q.value q.forest
 
   pub arguments : ℕ → List Definition → Arguments → Args → Forest → Result (After Arguments) Broken
   arguments v ds ws no_args s = Ok (after ws s)

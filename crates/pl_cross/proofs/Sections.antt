@@ -1,7 +1,8 @@
 -- A cross-section over the arrays of a session is the cross-section of the definitions.
-use Rattle.std.proofs.Common.{◌≡◌, ◌⊎◌, ℕ, ◌*◌, ◌<◌, ◌≤◌, Bool, true, false, ◌&&◌, if◌then◌else◌, ℤ, pos, List, [], ◌∷◌, length, map, filter, get_or, Option, Some, None, refl, sym, ◌∙◌, ap, arith, nat_lt, ◌==◌, slice_get, inl, inr, AllPairs, le-ltb, lt-ltb}
+use Rattle.std.proofs.Common.{◌≡◌, ◌⊎◌, ℕ, ◌*◌, ◌<◌, ◌≤◌, Bool, true, false, ◌&&◌, ◌||◌, if◌then◌else◌, ℤ, pos, List, [], ◌∷◌, length, map, filter, get_or, Option, Some, None, refl, sym, ◌∙◌, ap, arith, nat_lt, ◌==◌, slice_get, inl, inr, AllPairs, le-ltb, lt-ltb}
 use Rattle.std.specs.List.{range_with_len, list_any}
 use Rattle.std.specs.Ordering.{int_eq}
+use Rattle.std.proofs.Math.Bool.{and-true}
 use Rattle.std.proofs.lemmas.Bool.{cases_lt, cases_eq}
 use Rattle.std.proofs.lemmas.Bool.Decides.{nat_tests}
 use Rattle.std.proofs.lemmas.Grind.{same_number_lists}
@@ -14,7 +15,7 @@ use Rattle.pl_spec.specs.World.{World, exists}
 use Rattle.pl_pipeline.specs.Kind.{CrossKind}
 use Rattle.pl_pipeline.specs.Kind.CrossKind.{PeerCount}
 use Rattle.pl_pipeline.specs.Kind.Kind.{Cross, Window}
-use Rattle.pl_pipeline.specs.Cross.{Entry, cross, cross_at, entries_for, counts_at, same_group, array_at}
+use Rattle.pl_pipeline.specs.Cross.{Entry, cross, cross_at, entries_for, counts_at, same_group, array_at, is_for_all}
 use Rattle.pl_pipeline.specs.Term.{Term, Node, Graph, IsGraph, input_tree, trees}
 use Rattle.pl_pipeline.specs.Term.Term.{node}
 use Rattle.pl_pipeline.specs.Value.{Part, Operands, Value, number_of, value_of_part, passes, in_group, is_same, entry, counts_for, eligible, group_of, is_cross_filter, empty, sort_over, sort_kind, kind_value, seen, value, operands_of}
@@ -174,13 +175,15 @@ module _ (w : World) (k : CrossKind) (o : Operands) (d : ℤ) (sids : List ℕ) 
           (λ j m. ap (λ x. (let e : Entry = (sid_in sids j, x) in e)) (value_is j (among i j m)))
 
   -- what the definitions give for the assets that exist and pass the mask
-  section_is : (i : ℕ) (none : ℤ) → i < length sids
-      → (if list_any (λ (e : Entry). e.0 == sid_in sids i) (own i) then cross k (own i) (sid_in sids i) (numbers i) else none) ≡ cross_at k none vs keep (labels_for k vs labels) i
-  section_is i none h =
+  section_is : (i : ℕ) (none : ℤ) → i < length sids → is_true (array_at keep i) ≡ true
+      → (if is_for_all k || list_any (λ (e : Entry). e.0 == sid_in sids i) (own i) then cross k (own i) (sid_in sids i) (numbers i) else none) ≡ cross_at k none vs keep (labels_for k vs labels) i
+  section_is i none h kept =
       let list : List Entry = named (sid_in sids) numbers (counting i) in
-      ap (λ l. if list_any (λ (e : Entry). e.0 == sid_in sids i) l then cross k l (sid_in sids i) (numbers i) else none) (listed i h)
-      ∙ ap (λ b. if b then cross k list (sid_in sids i) (numbers i) else none) (any_same i (counting i) h (among i))
-      ∙ ap (λ v. if list_any (λ (e : Entry). e.0 == i) (entries_for vs keep (labels_for k vs labels) i) then v else none) (crossed i h (told-numbers k o.first d s.numbers))
+      ap (λ l. if is_for_all k || list_any (λ (e : Entry). e.0 == sid_in sids i) l then cross k l (sid_in sids i) (numbers i) else none) (listed i h)
+      ∙ ap (λ b. if is_for_all k || b then cross k list (sid_in sids i) (numbers i) else none) (any_same i (counting i) h (among i))
+      ∙ ap (λ v. if is_for_all k || list_any (λ (e : Entry). e.0 == i) (entries_for vs keep (labels_for k vs labels) i) then v else none) (crossed i h (told-numbers k o.first d s.numbers))
+      ∙ ap (λ b. if b || list_any (λ (e : Entry). e.0 == i) (entries_for vs keep (labels_for k vs labels) i) then cross k (entries_for vs keep (labels_for k vs labels) i) i (array_at vs i) else none)
+      (sym (ap (λ b. is_for_all k && b) kept ∙ and-true (is_for_all k)))
 
 -- ---- values of terms
 
@@ -198,20 +201,24 @@ module _ (w : World) (names : List (List ℕ)) (k : CrossKind) (size : ℕ) (o :
   abbrev list : ℕ → List Entry
   list i = eligible w k o (sid_in sids i) d
 
-  kept-value : (i : ℕ) → i < length sids → kind_value w names (Cross k) size o (sid_in sids i) d ≡ Number (section_at k vs keep labels i)
+  kept-value : (i : ℕ) → i < length sids → is_true (array_at keep i) ≡ true → kind_value w names (Cross k) size o (sid_in sids i) d ≡ Number (section_at k vs keep labels i)
   unfolding kind_value
-  kept-value i h =
-      ap (λ v. if list_any (λ (e : Entry). e.0 == sid i) (list i) then Number (cross k (list i) (sid i) (number_of (value_of_part o.first (sid i) d))) else v) (empty-is k)
-      ∙ inside (list_any (λ (e : Entry). e.0 == sid i) (list i)) (cross k (list i) (sid i) (number_of (value_of_part o.first (sid i) d))) (empty_number k)
-      ∙ ap Number (section_is w k o d sids vs keep labels s i (empty_number k) h)
+  kept-value i h kept =
+      ap (λ v. if is_for_all k || list_any (λ (e : Entry). e.0 == sid i) (list i) then Number (cross k (list i) (sid i) (number_of (value_of_part o.first (sid i) d))) else v) (empty-is k)
+      ∙ inside (is_for_all k || list_any (λ (e : Entry). e.0 == sid i) (list i)) (cross k (list i) (sid i) (number_of (value_of_part o.first (sid i) d))) (empty_number k)
+      ∙ ap Number (section_is w k o d sids vs keep labels s i (empty_number k) h kept)
     where
       inside : (b : Bool) (u v : ℤ) → (if b then Number u else Number v) ≡ Number (if b then u else v)
       inside true u v = refl
       inside false u v = refl
 
+  none-for-all : (a b : Bool) → b ≡ false → (a && b) ≡ false
+  none-for-all true b e = e
+  none-for-all false b e = refl
+
   -- an asset that is not kept is not listed
   left-out : (i : ℕ) → i < length sids → (exists w (sid_in sids i) d && passes o.mask (sid_in sids i) d) ≡ false → section_at k vs keep labels i ≡ empty_number k
-  left-out i h out = not-own k (empty_number k) vs keep (labels_for k vs labels) i (ap (λ b. b && (is_present (array_at vs i) && is_present (group_at (labels_for k vs labels) i))) (s.keep i h ∙ out))
+  left-out i h out = not-own k (empty_number k) vs keep (labels_for k vs labels) i (none-for-all (is_for_all k) (is_true (array_at keep i)) (s.keep i h ∙ out)) (ap (λ b. b && (is_present (array_at vs i) && is_present (group_at (labels_for k vs labels) i))) (s.keep i h ∙ out))
 
   pub part-value : (i : ℕ) → i < length sids
       → (if exists w (sid_in sids i) d && passes o.mask (sid_in sids i) d then kind_value w names (Cross k) size o (sid_in sids i) d else empty (Cross k))
@@ -220,7 +227,7 @@ module _ (w : World) (names : List (List ℕ)) (k : CrossKind) (size : ℕ) (o :
     where
       here : (b : Bool) → (exists w (sid_in sids i) d && passes o.mask (sid_in sids i) d) ≡ b
           → (if b then kind_value w names (Cross k) size o (sid_in sids i) d else empty (Cross k)) ≡ Number (section_at k vs keep labels i)
-      here true e = kept-value i h
+      here true e = kept-value i h (s.keep i h ∙ e)
       here false e = empty-is k ∙ ap Number (sym (left-out i h e))
 
 pub term-value : (w : World) (names : List (List ℕ)) (k : CrossKind) (size : ℕ) (x y z mask group : Term) (d : ℤ) (c : Columns)

@@ -1,10 +1,12 @@
 -- The cross-sections of the code as kinds of the definitions.
-use Rattle.std.specs.Prelude.{◌≡◌, ℕ, ◌≤◌, Bool, true, false, not, ℤ, neg_ℤ}
+use Rattle.std.specs.Prelude.{◌≡◌, ℕ, ◌<◌, ◌≤◌, Bool, true, false, not, ℤ, neg_ℤ}
 use Rattle.pl_pipeline.specs.declared.RankOrder.{RankOrder}
 use Rattle.pl_pipeline.specs.declared.RankOrder.TheVariants.{Ascending, Descending}
+use Rattle.pl_pipeline.specs.declared.Summary.TheVariants.{Percentile}
+use Rattle.pl_spec.specs.Rounding.{MILLION}
 use Rattle.pl_pipeline.specs.Kind.{Kind, CrossKind}
 use Rattle.pl_pipeline.specs.Kind.Kind.{Cross}
-use Rattle.pl_pipeline.specs.Kind.CrossKind.{Rank, Demean, ZScore, Quantiles, Top, Bottom, PercentileBetween, PeerCount}
+use Rattle.pl_pipeline.specs.Kind.CrossKind.{Rank, Demean, ZScore, Quantiles, Top, Bottom, PercentileBetween, PeerCount, Winsorize, Scale, Summarize}
 use Rattle.pl_pipeline.specs.Value.{is_cross_filter}
 use Rattle.pl_terms.specs.Sorts.{has_parameters}
 use Rattle.pl_cross.specs.declared.section.Section.{Section}
@@ -19,12 +21,15 @@ cross_of (code.Top n) = Top n
 cross_of (code.Bottom n) = Bottom n
 cross_of (code.PercentileBetween low high) = PercentileBetween low high
 cross_of code.PeerCount = PeerCount
+cross_of (code.Winsorize low high) = Winsorize low high
+cross_of code.Scale = Scale
+cross_of (code.Summarize s) = Summarize s
 
 abbrev pub is_section : Kind → Bool
 is_section (Cross k) = true
 is_section k = false
 
--- a rank, demeaned values, z-scores, quantiles or peer counts
+-- what gives numbers: ranks, demeaned values, summaries and others
 abbrev pub is_measure : Kind → Bool
 is_measure (Cross k) = not (is_cross_filter k)
 is_measure k = false
@@ -38,6 +43,8 @@ is_choice k = false
 abbrev pub IsRight : CrossKind → Type 0
 IsRight (Quantiles bins) = (2 ≤ bins) × (bins ≤ 100)
 IsRight (PercentileBetween low high) = (low ≤ high) × (high ≤ 10000)
+IsRight (Winsorize low high) = (low < high) × (high ≤ MILLION)
+IsRight (Summarize (Percentile percent)) = percent ≤ 10000
 IsRight k = Unit {0}
 
 abbrev pub HasParameters : Kind → Type 0
@@ -69,4 +76,7 @@ turned Descending v = neg_ℤ v
 abbrev pub is_ranked : CrossKind → Bool
 is_ranked Demean = false
 is_ranked ZScore = false
+is_ranked (Winsorize low high) = false
+is_ranked Scale = false
+is_ranked (Summarize s) = false
 is_ranked k = true

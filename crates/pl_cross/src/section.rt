@@ -4,11 +4,12 @@ ghost use Rattle.pl_pipeline.specs.Kind.Kind.{Cross};
 ghost use Rattle.pl_terms.specs.Kinds.{kind_of};
 ghost use Rattle.pl_cross.specs.Section.{cross_of, is_section, order_of};
 
-use pl_pipeline::{RankMethod, RankOrder};
+use pl_pipeline::{RankMethod, RankOrder, Summary};
 use pl_terms::TermKind;
 
-/// What is computed over a session's assets. The bounds of `PercentileBetween` are hundredths of a percent.
-#[derive(Clone, Copy, PartialEq, Eq)]
+/// What is computed over a session's assets. The bounds of `PercentileBetween` are hundredths of a percent,
+/// those of `Winsorize` millionths.
+#[derive(Clone, Copy)]
 pub(crate) enum Section {
     Rank {
         method: RankMethod,
@@ -30,6 +31,14 @@ pub(crate) enum Section {
         high: u32,
     },
     PeerCount,
+    Winsorize {
+        low: u32,
+        high: u32,
+    },
+    Scale,
+    Summarize {
+        summary: Summary,
+    },
 }
 
 /// The cross-section that a kind is.
@@ -53,6 +62,12 @@ pub(crate) fn section_of(kind: &TermKind) -> Section
             high: *high,
         },
         TermKind::PeerCount => Section::PeerCount,
+        TermKind::Winsorize { low, high } => Section::Winsorize {
+            low: *low,
+            high: *high,
+        },
+        TermKind::Scale => Section::Scale,
+        TermKind::Summarize { summary } => Section::Summarize { summary: *summary },
         _ => unreachable!(),
     }
 }

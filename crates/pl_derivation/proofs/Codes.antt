@@ -1,5 +1,5 @@
 -- Over the numbers of the world itself the single step of a value is the value.
-use Rattle.std.proofs.Common.{◌≡◌, ℕ, ◌+◌, ◌<◌, Bool, true, false, ◌&&◌, if◌then◌else◌, ℤ, List, [], ◌∷◌, length, Option, Some, None, refl, sym, ap, arith, slice_get, get_or, ◌==◌, inl, inr}
+use Rattle.std.proofs.Common.{◌||◌, ◌≡◌, ℕ, ◌+◌, ◌<◌, Bool, true, false, ◌&&◌, if◌then◌else◌, ℤ, List, [], ◌∷◌, length, Option, Some, None, refl, sym, ap, arith, slice_get, get_or, ◌==◌, inl, inr}
 use Rattle.std.specs.List.{list_any, position_or_len}
 use Rattle.std.specs.Str.{bytes_eq}
 use Rattle.std.proofs.Math.Path.{fun_ext}
@@ -12,6 +12,7 @@ use Rattle.pl_spec.specs.declared.Column.{Column}
 use Rattle.pl_spec.specs.World.{World, exists}
 use Rattle.pl_spec.specs.Window.{downward, seen_cell}
 use Rattle.pl_spec.specs.Periods.{period_start}
+use Rattle.pl_pipeline.specs.Cross.{is_for_all}
 use Rattle.pl_pipeline.specs.Kind.{Kind, LabelKind, CrossKind}
 use Rattle.pl_pipeline.specs.declared.WindowKind.{WindowKind}
 use Rattle.pl_pipeline.specs.Kind.Kind.{Label, Window, Point, LabelTest, Cross, Downsample}
@@ -80,7 +81,7 @@ module _ (w : World) (known : HasTexts w) (names : List (List ℕ)) where
 
   section_kept : (k : CrossKind) (size : ℕ) (o : Operands) (a : ℕ) (d : ℤ) → IsKept w.texts (Cross k) (kind_value w names (Cross k) size o a d)
   unfolding kind_value
-  section_kept k size o a d = gate (Cross k) (list_any (λ e. e.0 == a) (eligible w k o a d)) _ refl
+  section_kept k size o a d = gate (Cross k) (is_for_all k || list_any (λ e. e.0 == a) (eligible w k o a d)) _ refl
 
   now_kept : (x : Term) (a : ℕ) (d : ℤ) → IsKept w.texts (sort_kind x) (value w names x a d) → IsKept w.texts (sort_kind x) (value_of_part (part_of x (value w names x)) a d)
   now_kept absent a d h = refl

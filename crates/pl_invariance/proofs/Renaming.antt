@@ -20,7 +20,7 @@ use Rattle.pl_pipeline.specs.declared.RankOrder.{RankOrder}
 use Rattle.pl_pipeline.specs.Kind as kinds
 use Rattle.pl_pipeline.specs.Kind.{Kind, CrossKind}
 use Rattle.pl_pipeline.specs.Kind.Kind.{Constant, Label, StaticSids, Window, Point, LabelTest, Cross, Downsample}
-use Rattle.pl_pipeline.specs.Kind.CrossKind.{Rank, Demean, ZScore, Quantiles, Top, Bottom, PercentileBetween, PeerCount}
+use Rattle.pl_pipeline.specs.Kind.CrossKind.{Rank, Demean, ZScore, Quantiles, Top, Bottom, PercentileBetween, PeerCount, Winsorize, Scale, Summarize}
 use Rattle.pl_pipeline.specs.Cross.{Entry, values, earlier_same, ordinal, rank, cross}
 use Rattle.pl_pipeline.specs.Term.{Term, Input, Node, Graph, tree_at, input_tree, number_tree, tree_over, trees_after, term_at}
 use Rattle.pl_pipeline.specs.Term.Term.{absent, column, node}
@@ -110,6 +110,9 @@ module _ (f : ℕ → ℕ) (rises : Rises f) where
   same_cross (Bottom n) list a x = rw (same_ordinal _ list a x) refl
   same_cross (PercentileBetween low high) list a x = rw (same_values list) refl
   same_cross PeerCount list a x = rw (length-map list named) refl
+  same_cross (Winsorize low high) list a x = rw (same_values list) refl
+  same_cross Scale list a x = rw (same_values list) refl
+  same_cross (Summarize told) list a x = rw (same_values list) refl
 
   -- ---- terms
 
@@ -212,6 +215,9 @@ module _ (f : ℕ → ℕ) (rises : Rises f) where
       in_same (Top n) a d b = group_same Own g group a d b
       in_same (Bottom n) a d b = group_same Own g group a d b
       in_same (PercentileBetween low high) a d b = group_same Own g group a d b
+      in_same (Winsorize low high) a d b = group_same Own g group a d b
+      in_same Scale a d b = group_same Own g group a d b
+      in_same (Summarize told) a d b = group_same Own g group a d b
 
       counts_same : (k : CrossKind) (a : ℕ) (d : ℤ) (b : ℕ) → counts_for k (theirs view x y z m g) (f a) d (f b) ≡ counts_for k (ours view x y z m g) a d b
       counts_same k a d b = rw (passes_same m mask b d, now_same view x first b d, in_same k a d b) refl

@@ -1,17 +1,20 @@
 -- The cross-sections: the place of one asset's value among those of a session, by counting.
-use Rattle.std.specs.Prelude.{ℕ, ◌+◌, ◌-◌, ◌*◌, ◌/◌, Bool, true, ◌&&◌, if◌then◌else◌, ◌==◌, nat_lt, nat_le, ℤ, pos, ◌+ℤ◌, ◌-ℤ◌, ◌*ℤ◌, List, [], ◌∷◌, length, map, filter, find, Option, Some, None, unwrap_or, count_by, get_or}
+use Rattle.std.specs.Prelude.{ℕ, ◌+◌, ◌-◌, ◌*◌, ◌/◌, Bool, true, ◌&&◌, ◌||◌, false, if◌then◌else◌, ◌==◌, nat_lt, nat_le, ℤ, pos, ◌+ℤ◌, ◌-ℤ◌, ◌*ℤ◌, List, [], ◌∷◌, length, map, filter, find, Option, Some, None, unwrap_or, count_by, get_or, sum_by}
 use Rattle.std.specs.List.{list_any, range_with_len}
-use Rattle.std.specs.Int.RustNames.{int_lt, int_le}
+use Rattle.std.specs.Int.{int_max, int_min}
+use Rattle.std.specs.Int.RustNames.{int_lt, int_le, unsigned_abs}
 use Rattle.std.specs.Ordering.{int_eq}
 use Rattle.pl_pipeline.specs.declared.RankMethod.{RankMethod}
 use Rattle.pl_pipeline.specs.declared.RankMethod.TheVariants.{Ordinal, Min, Max, Dense, Average}
 use Rattle.pl_pipeline.specs.declared.RankOrder.{RankOrder}
 use Rattle.pl_pipeline.specs.declared.RankOrder.TheVariants.{Ascending, Descending}
-use Rattle.pl_spec.specs.Rounding.{MISSING, MILLION, is_present, quot, sub, div_round}
+use Rattle.pl_pipeline.specs.declared.Summary.{Summary}
+use Rattle.pl_pipeline.specs.declared.Summary.TheVariants.{Mean, StdDev, Sum, Least, Greatest, Median, Percentile, NotNullCount}
+use Rattle.pl_spec.specs.Rounding.{MISSING, MILLION, is_present, quot, sub, div_round, to_cell}
 use Rattle.pl_spec.specs.Cells.{total, truth, is_true}
 use Rattle.pl_pipeline.specs.Formula.{spread}
 use Rattle.pl_pipeline.specs.Kind.{CrossKind}
-use Rattle.pl_pipeline.specs.Kind.CrossKind.{Rank, Demean, ZScore, Quantiles, Top, Bottom, PercentileBetween, PeerCount}
+use Rattle.pl_pipeline.specs.Kind.CrossKind.{Rank, Demean, ZScore, Quantiles, Top, Bottom, PercentileBetween, PeerCount, Winsorize, Scale, Summarize}
 
 -- a sid and its value
 abbrev pub Entry : Type 0
@@ -80,6 +83,40 @@ is_percentile_between low high vs x =
 abbrev pub center : List ℤ → ℤ
 center vs = div_round (total vs) (length vs)
 
+-- x, but not below the value low millionths of the way through the sorted values, nor above that at high
+abbrev pub winsorized : ℕ → ℕ → List ℤ → ℤ → ℤ
+winsorized low high vs x =
+    let n = length vs in
+    int_max (value_at vs (low * n / MILLION)) (int_min (value_at vs ((high * n + MILLION - 1) / MILLION - 1)) x)
+
+-- x over the sum of the magnitudes
+abbrev pub scaled_to_one : List ℤ → ℤ → ℤ
+scaled_to_one vs x = quot (x *ℤ pos MILLION) (pos (sum_by unsigned_abs vs))
+
+-- v, where the list has a value
+abbrev pub if_some : List ℤ → ℤ → ℤ
+if_some [] v = MISSING
+if_some vs v = v
+
+-- the point `percent` hundredths of a percent of the way from the least value to the greatest
+abbrev pub percentile : ℕ → List ℤ → ℤ
+percentile percent vs = quot (edge vs (percent * (length vs - 1)) 10000) (pos 10000)
+
+unfoldable pub summary : Summary → List ℤ → ℤ
+summary Mean vs = quot (total vs) (pos (length vs))
+summary StdDev vs = if_some vs (to_cell (pos (spread vs)))
+summary Sum vs = if_some vs (to_cell (total vs))
+summary Least vs = if_some vs (value_at vs 0)
+summary Greatest vs = if_some vs (value_at vs (length vs - 1))
+summary Median vs = if_some vs (percentile 5000 vs)
+summary (Percentile percent) vs = if_some vs (percentile percent vs)
+summary NotNullCount vs = pos (length vs * MILLION)
+
+-- a summary is given to each asset, whether it is in the list or not
+abbrev pub is_for_all : CrossKind → Bool
+is_for_all (Summarize s) = true
+is_for_all k = false
+
 -- list has the entries that count, and x is the value of asset a among them
 unfoldable pub cross : CrossKind → List Entry → ℕ → ℤ → ℤ
 cross (Rank method order) list a x = pos (rank method order list a x)
@@ -90,6 +127,9 @@ cross (Top n) list a x = truth (nat_le (ordinal Descending list a x) n)
 cross (Bottom n) list a x = truth (nat_le (ordinal Ascending list a x) n)
 cross (PercentileBetween low high) list a x = truth (is_percentile_between low high (values list) x)
 cross PeerCount list a x = pos (length list * MILLION)
+cross (Winsorize low high) list a x = winsorized low high (values list) x
+cross Scale list a x = scaled_to_one (values list) x
+cross (Summarize s) list a x = summary s (values list)
 
 -- ---- one session's cross-section as arrays have it, asset by asset
 
@@ -108,8 +148,11 @@ counts_at vs keep labels i j = is_true (array_at keep j) && is_present (array_at
 abbrev pub entries_for : List ℤ → List ℤ → Option (List ℤ) → ℕ → List Entry
 entries_for vs keep labels i = map (λ j. (j, array_at vs j)) (filter (counts_at vs keep labels i) (range_with_len 0 (length vs)))
 
--- what a cross-section gives at place i, and the empty value where the asset is not in its own list
+-- what a cross-section gives at place i, and the empty value where it gives none: the asset is not in its own
+-- list, or, of what is for all, it is not kept
 abbrev pub cross_at : CrossKind → ℤ → List ℤ → List ℤ → Option (List ℤ) → ℕ → ℤ
 cross_at k none vs keep labels i =
     let list = entries_for vs keep labels i in
-    if list_any (λ e. e.0 == i) list then cross k list i (array_at vs i) else none
+    if (is_for_all k && is_true (array_at keep i)) || list_any (λ e. e.0 == i) list
+    then cross k list i (array_at vs i)
+    else none

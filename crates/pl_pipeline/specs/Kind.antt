@@ -3,6 +3,7 @@ use Rattle.std.specs.Prelude.{ℕ, ℤ, List}
 use Rattle.pl_spec.specs.declared.Compare.{Compare}
 use Rattle.pl_pipeline.specs.declared.WindowKind.{WindowKind}
 use Rattle.pl_pipeline.specs.declared.RankMethod.{RankMethod}
+use Rattle.pl_pipeline.specs.declared.Summary.{Summary}
 use Rattle.pl_pipeline.specs.declared.RankOrder.{RankOrder}
 use Rattle.pl_spec.specs.declared.Frequency.{Frequency}
 
@@ -13,13 +14,13 @@ pub data PointKind : Type 0 where
   Clip : (low high : ℤ) → PointKind
   FillNa IsNull NotNull IfElse : PointKind
   NumberIs NumberIsNot : (number : ℤ) → PointKind
-  Log Exp Sqrt Sign Maximum Minimum : PointKind
+  Log Exp Sqrt Sign Maximum Minimum Where : PointKind
 
 pub data LabelKind : Type 0 where
   LabelIs LabelIsNot StartsWith EndsWith : (text : List ℕ) → LabelKind
   ElementOf : (texts : List (List ℕ)) → LabelKind
 
--- the bounds of PercentileBetween are hundredths of a percent
+-- the bounds of PercentileBetween are hundredths of a percent, those of Winsorize millionths
 pub data CrossKind : Type 0 where
   Rank : RankMethod → RankOrder → CrossKind
   Demean ZScore : CrossKind
@@ -27,6 +28,9 @@ pub data CrossKind : Type 0 where
   Top Bottom : (n : ℕ) → CrossKind
   PercentileBetween : (low high : ℕ) → CrossKind
   PeerCount : CrossKind
+  Winsorize : (low high : ℕ) → CrossKind
+  Scale : CrossKind
+  Summarize : Summary → CrossKind
 
 -- the name of a Label or of a Number is its number among the pipeline's names
 pub data Kind : Type 0 where

@@ -8,7 +8,7 @@ use Rattle.pl_spec.specs.Rounding.{MISSING, MILLION, is_missing, is_present, add
 use Rattle.pl_spec.specs.Cells.{truth, is_true, comparison}
 use Rattle.pl_pipeline.specs.Elementary.{log, exp, sqrt, sign, maximum, minimum}
 use Rattle.pl_pipeline.specs.Kind.{PointKind, LabelKind}
-use Rattle.pl_pipeline.specs.Kind.PointKind.{Add, Sub, Mul, Div, Neg, Comparison, And, Or, Not, Abs, Clip, FillNa, IsNull, NotNull, IfElse, NumberIs, NumberIsNot, Log, Exp, Sqrt, Sign, Maximum, Minimum}
+use Rattle.pl_pipeline.specs.Kind.PointKind.{Add, Sub, Mul, Div, Neg, Comparison, And, Or, Not, Abs, Clip, FillNa, IsNull, NotNull, IfElse, NumberIs, NumberIsNot, Log, Exp, Sqrt, Sign, Maximum, Minimum, Where}
 use Rattle.pl_pipeline.specs.Kind.LabelKind.{LabelIs, LabelIsNot, StartsWith, EndsWith, ElementOf}
 
 -- the number of a numbered classifier is a whole number, and compared with one in millionths
@@ -39,6 +39,7 @@ pointwise Sqrt x y z = sqrt x
 pointwise Sign x y z = sign x
 pointwise Maximum x y z = maximum x y
 pointwise Minimum x y z = minimum x y
+pointwise Where x y z = if is_true y then x else MISSING
 
 -- what is asked of a label's text
 unfoldable pub label_test : LabelKind → List ℕ → Bool

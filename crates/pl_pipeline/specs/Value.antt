@@ -13,12 +13,12 @@ use Rattle.pl_pipeline.specs.Kind.{Kind, PointKind, LabelKind, CrossKind}
 use Rattle.pl_pipeline.specs.declared.WindowKind.{WindowKind}
 use Rattle.pl_pipeline.specs.Kind.Kind.{Constant, Label, StaticSids, Window, Point, LabelTest, Cross, Downsample}
 use Rattle.pl_pipeline.specs.declared.WindowKind.TheVariants.{Returns, PercentChange, RateOfChangePercentage, RSI, FastStochasticOscillator, AroonUp, AroonDown, Correlation, All, Any, AtLeastN, AllPresent}
-use Rattle.pl_pipeline.specs.Kind.PointKind.{Add, Sub, Mul, Div, Neg, Abs, Clip, FillNa, IfElse, Log, Exp, Sqrt, Sign, Maximum, Minimum}
+use Rattle.pl_pipeline.specs.Kind.PointKind.{Add, Sub, Mul, Div, Neg, Abs, Clip, FillNa, IfElse, Log, Exp, Sqrt, Sign, Maximum, Minimum, Where}
 use Rattle.pl_pipeline.specs.Kind.CrossKind.{Top, Bottom, PercentileBetween, PeerCount}
 use Rattle.pl_spec.specs.Cells.{truth, is_true}
 use Rattle.pl_pipeline.specs.Formula.{formula}
 use Rattle.pl_pipeline.specs.Pointwise.{pointwise, label_test}
-use Rattle.pl_pipeline.specs.Cross.{Entry, cross}
+use Rattle.pl_pipeline.specs.Cross.{Entry, cross, is_for_all}
 use Rattle.pl_pipeline.specs.Term.{Term}
 use Rattle.pl_pipeline.specs.Term.Term.{absent, column, node}
 
@@ -145,6 +145,7 @@ is_point_filter Sqrt = false
 is_point_filter Sign = false
 is_point_filter Maximum = false
 is_point_filter Minimum = false
+is_point_filter Where = false
 is_point_filter k = true
 
 abbrev pub is_cross_filter : CrossKind → Bool
@@ -232,7 +233,7 @@ kind_value w names (Point k) size operands a d =
 kind_value w names (LabelTest k) size operands a d = test_value k (value_of_part operands.first a d)
 kind_value w names (Cross k) size operands a d =
     let list = eligible w k operands a d in
-    if list_any (λ e. e.0 == a) list
+    if is_for_all k || list_any (λ e. e.0 == a) list
     then Number (cross k list a (number_of (value_of_part operands.first a d)))
     else empty (Cross k)
 kind_value w names (Downsample f) size operands a d = value_of_part operands.first a (period_start f w.days d)

@@ -25,6 +25,19 @@ pub enum RankOrder {
     Descending,
 }
 
+/// What is told of the values of a list; docs/TERMS.md has the formulas. `percent` is hundredths of a percent.
+#[derive(Clone, Copy, Debug)]
+pub enum Summary {
+    Mean,
+    StdDev,
+    Sum,
+    Least,
+    Greatest,
+    Median,
+    Percentile { percent: u32 },
+    NotNullCount,
+}
+
 /// A formula or a filter over a window, with its parameters; docs/TERMS.md has the formulas. `k` and `decay` are
 /// millionths.
 #[derive(Clone, Copy, Debug)]

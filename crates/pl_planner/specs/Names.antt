@@ -2,6 +2,8 @@
 use Rattle.std.specs.Prelude.{ℕ, List, codes}
 use Rattle.pl_spec.specs.declared.Compare.{Compare}
 use Rattle.pl_spec.specs.declared.Compare.TheVariants.{Less, LessEqual, Greater, GreaterEqual, Equal, NotEqual}
+use Rattle.pl_pipeline.specs.declared.Summary.{Summary}
+use Rattle.pl_pipeline.specs.declared.Summary.TheVariants as summary
 use Rattle.pl_pipeline.specs.Kind as kind
 use Rattle.pl_terms.specs.Windows.{row_of}
 use Rattle.pl_pipeline.specs.Kind.{Kind, PointKind, LabelKind, CrossKind}
@@ -35,6 +37,7 @@ point_name kind.Sqrt = codes "Sqrt"
 point_name kind.Sign = codes "Sign"
 point_name kind.Maximum = codes "Maximum"
 point_name kind.Minimum = codes "Minimum"
+point_name kind.Where = codes "Where"
 point_name (kind.Comparison c) = compare_name c
 point_name (kind.NumberIs number) = codes "LabelIs"
 point_name (kind.NumberIsNot number) = codes "LabelIsNot"
@@ -46,6 +49,16 @@ label_name (kind.StartsWith text) = codes "StartsWith"
 label_name (kind.EndsWith text) = codes "EndsWith"
 label_name (kind.ElementOf texts) = codes "ElementOf"
 
+abbrev pub summary_name : Summary → List ℕ
+summary_name summary.Mean = codes "Mean"
+summary_name summary.StdDev = codes "StdDev"
+summary_name summary.Sum = codes "Sum"
+summary_name summary.Least = codes "Min"
+summary_name summary.Greatest = codes "Max"
+summary_name summary.Median = codes "Median"
+summary_name (summary.Percentile percent) = codes "Percentile"
+summary_name summary.NotNullCount = codes "NotNullCount"
+
 abbrev pub cross_name : CrossKind → List ℕ
 cross_name (kind.Rank method order) = codes "Rank"
 cross_name kind.Demean = codes "Demean"
@@ -55,6 +68,9 @@ cross_name (kind.Quantiles bins) = codes "Quantiles"
 cross_name (kind.Top n) = codes "Top"
 cross_name (kind.Bottom n) = codes "Bottom"
 cross_name (kind.PercentileBetween low high) = codes "PercentileBetween"
+cross_name (kind.Winsorize low high) = codes "Winsorize"
+cross_name kind.Scale = codes "Scale"
+cross_name (kind.Summarize s) = summary_name s
 
 unfoldable pub kind_name : Kind → List ℕ
 kind_name (kind.Constant cell) = codes "Const"

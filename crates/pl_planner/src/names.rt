@@ -4,10 +4,10 @@ ghost use Rattle.std.specs.Prelude.{◌≡◌, None};
 ghost use Rattle.pl_spec.specs.Names.{column_name};
 ghost use Rattle.pl_terms.specs.Kinds.{kind_of};
 ghost use Rattle.pl_terms.specs.Windows.{window_in};
-ghost use Rattle.pl_planner.specs.Names.{kind_name};
+ghost use Rattle.pl_planner.specs.Names.{kind_name, summary_name};
 
 use pl_spec::Column;
-use pl_terms::{LabelValue, TermKind, window_kind, window_row};
+use pl_terms::{LabelValue, Summary, TermKind, window_kind, window_row};
 
 pub(crate) fn column_name(column: Column) -> &'static str
     ensures { result.now ≡ column_name column }
@@ -81,6 +81,7 @@ fn other_name(kind: &TermKind) -> &'static str
         TermKind::Sign => "Sign",
         TermKind::Maximum => "Maximum",
         TermKind::Minimum => "Minimum",
+        TermKind::Where => "Where",
         TermKind::Rank { .. } => "Rank",
         TermKind::Demean => "Demean",
         TermKind::ZScore => "ZScore",
@@ -89,10 +90,29 @@ fn other_name(kind: &TermKind) -> &'static str
         TermKind::Bottom { .. } => "Bottom",
         TermKind::PercentileBetween { .. } => "PercentileBetween",
         TermKind::PeerCount => "PeerCount",
+        TermKind::Winsorize { .. } => "Winsorize",
+        TermKind::Scale => "Scale",
+        TermKind::Summarize { summary } => summary_name(*summary),
         TermKind::StartsWith { .. } => "StartsWith",
         TermKind::EndsWith { .. } => "EndsWith",
         TermKind::ElementOf { .. } => "ElementOf",
         TermKind::Downsample { .. } => "Downsample",
         _ => "",
+    }
+}
+
+// The name of a summary.
+fn summary_name(summary: Summary) -> &'static str
+    ensures { result.now ≡ summary_name summary }
+{
+    match summary {
+        Summary::Mean => "Mean",
+        Summary::StdDev => "StdDev",
+        Summary::Sum => "Sum",
+        Summary::Least => "Min",
+        Summary::Greatest => "Max",
+        Summary::Median => "Median",
+        Summary::Percentile { .. } => "Percentile",
+        Summary::NotNullCount => "NotNullCount",
     }
 }

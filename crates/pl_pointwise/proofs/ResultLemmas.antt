@@ -8,7 +8,7 @@ use Rattle.pl_spec.specs.Rounding.{IsCell, MISSING, of_both, add, mul, div, neg,
 use Rattle.pl_spec.specs.Cells.{truth}
 use Rattle.pl_pipeline.specs.Kind.{Kind, PointKind}
 use Rattle.pl_pipeline.specs.Kind.Kind.{Point}
-use Rattle.pl_pipeline.specs.Kind.PointKind.{Add, Sub, Mul, Div, Neg, Comparison, And, Or, Not, Abs, Clip, FillNa, IsNull, NotNull, IfElse, NumberIs, NumberIsNot, Log, Exp, Sqrt, Sign, Maximum, Minimum}
+use Rattle.pl_pipeline.specs.Kind.PointKind.{Add, Sub, Mul, Div, Neg, Comparison, And, Or, Not, Abs, Clip, FillNa, IsNull, NotNull, IfElse, NumberIs, NumberIsNot, Log, Exp, Sqrt, Sign, Maximum, Minimum, Where}
 use Rattle.pl_pipeline.specs.Pointwise.{pointwise}
 use Rattle.pl_pipeline.specs.Value.{is_filter, is_point_filter}
 use Rattle.pl_spec.proofs.Signed.{unsigned_abs-neg}
@@ -16,7 +16,7 @@ use Rattle.pl_pipeline.proofs.Cells.{chosen-has, to_cell-cell, quot-cell, sub-ce
 use Rattle.pl_elementary.proofs.Cells.{log-cell, exp-cell, sqrt-cell, sign-cell, maximum-cell, minimum-cell}
 use Rattle.pl_lanes.specs.Flags.{IsFlag}
 use Rattle.pl_lanes.proofs.Cells.{is_within}
-use Rattle.pl_pointwise.specs.Operands.{HasCells, IsOperation, AreCells, AreOperands, AreOperandsOf, operation}
+use Rattle.pl_pointwise.specs.Operands.{HasCells, IsOperation, AreCells, AreFlags, AreOperands, AreOperandsOf, operation}
 
 add-cell : (x y : ℤ) → IsCell (add x y)
 unfolding add
@@ -41,6 +41,10 @@ truth-flag false = inl refl
 flag-cell : (x : ℤ) → IsFlag x → IsCell x
 flag-cell x (inl e) = inr (rw e (omega arith))
 flag-cell x (inr e) = inr (rw e (omega arith))
+
+-- the values of a filter are cells
+pub flags-cells : (n : ℕ) (xs : List ℤ) → AreFlags n xs → AreCells n xs
+flags-cells n xs h = record { cells = λ k d l. flag-cell (get_or xs k d) (h.flags k d l); many = h.many }
 
 at : (xs : List ℤ) (n i : ℕ) → AreCells n xs → i < n → IsCell (get_or xs i (pos 0))
 at xs n i h p = h.cells i (pos 0) (omega (arith, h.many))
@@ -67,6 +71,7 @@ result-cell Sqrt a b c n i h o p = sqrt-cell _ (at a n i o.0 p)
 result-cell Sign a b c n i h o p = sign-cell _
 result-cell Maximum a b c n i h o p = maximum-cell _ _ (at a n i o.0 p) (at b n i o.1 p)
 result-cell Minimum a b c n i h o p = minimum-cell _ _ (at a n i o.0 p) (at b n i o.1 p)
+result-cell Where a b c n i h o p = chosen-has IsCell _ _ _ (at a n i o.0 p) (inl refl)
 result-cell op a b c n i h o p = flag-cell _ (truth-flag _)
 
 -- a filter gives 0 or 1

@@ -47,6 +47,13 @@ pub(crate) fn fill(x: i64, y: i64) -> i64
     if x == MISSING { y } else { x }
 }
 
+// x where a filter is true.
+pub(crate) fn kept(x: i64, y: i64) -> i64
+    ensures { result ≡ (if is_true y then x else MISSING) }
+{
+    if y == 1 { x } else { MISSING }
+}
+
 // Whether there is no value.
 pub(crate) fn missing(x: i64) -> i64
     ensures { result ≡ truth (is_missing x) }

@@ -1,5 +1,5 @@
 -- A filter is worth 0 or 1.
-use Rattle.std.proofs.Common.{◌≡◌, ℕ, Bool, true, false, if◌then◌else◌, ℤ, pos, List, [], Some, refl, ◌∙◌, slice_get, ◌==◌, ◌&&◌, sym, ap, true≢false}
+use Rattle.std.proofs.Common.{◌||◌, ◌≡◌, ℕ, Bool, true, false, if◌then◌else◌, ℤ, pos, List, [], Some, refl, ◌∙◌, slice_get, ◌==◌, ◌&&◌, sym, ap, true≢false}
 use Rattle.std.specs.List.{list_any}
 use Rattle.pl_spec.specs.World.{World, exists}
 use Rattle.pl_pipeline.specs.Kind.{Kind, PointKind, LabelKind, CrossKind}
@@ -11,7 +11,7 @@ use Rattle.pl_pipeline.specs.Kind.CrossKind.{Top, Bottom, PercentileBetween}
 use Rattle.pl_spec.specs.Cells.{truth}
 use Rattle.pl_pipeline.specs.Formula.{formula}
 use Rattle.pl_pipeline.specs.Pointwise.{pointwise, label_test}
-use Rattle.pl_pipeline.specs.Cross.{cross}
+use Rattle.pl_pipeline.specs.Cross.{cross, is_for_all}
 use Rattle.pl_pipeline.specs.Term.{Node, input_tree, trees}
 use Rattle.pl_pipeline.specs.Value.{Value, Operands, value_of_part, passes, eligible, test_value, empty, number_of, sort_over, sort_kind, Own, view_of, kind_value}
 use Rattle.pl_pipeline.specs.Value.Value.{Number, Text}
@@ -76,7 +76,7 @@ step_truth w names (Point k) size o a d h = (point_truth k _ _ _ h).0
 step_truth w names (LabelTest k) size o a d h = test_truth k (value_of_part o.first a d)
 step_truth w names (Cross k) size o a d h =
     let t = cross_truth k (eligible w k o a d) a (number_of (value_of_part o.first a d)) h in
-    either_truth (list_any (λ e. e.0 == a) (eligible w k o a d)) _ (empty (Cross k)) t.0 t.1
+    either_truth (is_for_all k || list_any (λ e. e.0 == a) (eligible w k o a d)) _ (empty (Cross k)) t.0 t.1
 step_truth w names k size o a d h = absurd (true≢false (sym (ap is_filters h)))
 
 empty_truth : (k : Kind) → sort_of k ≡ Filters → IsTruth (empty k)

@@ -1,7 +1,8 @@
 -- Which terms are worth numbers, and which labels of the world.
-use Rattle.std.proofs.Common.{◌≡◌, ℕ, Bool, true, false, ◌&&◌, if◌then◌else◌, ℤ, pos, List, Option, Some, refl, sym, subst, ◌∙◌, slice_get, ◌==◌, inl, ap, true≢false}
+use Rattle.std.proofs.Common.{◌||◌, ◌≡◌, ℕ, Bool, true, false, ◌&&◌, if◌then◌else◌, ℤ, pos, List, Option, Some, refl, sym, subst, ◌∙◌, slice_get, ◌==◌, inl, ap, true≢false}
 use Rattle.std.specs.List.{list_any}
 use Rattle.pl_spec.specs.World.{World, exists}
+use Rattle.pl_pipeline.specs.Cross.{is_for_all}
 use Rattle.pl_pipeline.specs.Kind.{Kind, PointKind, LabelKind, CrossKind}
 use Rattle.pl_pipeline.specs.declared.WindowKind.{WindowKind}
 use Rattle.pl_pipeline.specs.declared.WindowKind.TheVariants.{All}
@@ -51,7 +52,7 @@ step_number w names (Label n) size o a d h = absurd (true≢false (sym h))
 step_number w names (Downsample f) size o a d h = absurd (true≢false (sym h))
 step_number w names (LabelTest k) size o a d h = test_number k (value_of_part o.first a d)
 step_number w names (Cross k) size o a d h =
-    either_number (list_any (λ e. e.0 == a) (eligible w k o a d)) _ (empty (Cross k)) (_, refl) (number_of (empty (Cross k)), empty_is (Cross k))
+    either_number (is_for_all k || list_any (λ e. e.0 == a) (eligible w k o a d)) _ (empty (Cross k)) (_, refl) (number_of (empty (Cross k)), empty_is (Cross k))
 step_number w names k size o a d h = (_, refl)
 
 -- the kind of a term that is neither downsampled nor a label

@@ -62,7 +62,8 @@ pub fn family_of(kind: &TermKind) -> Family
         | TermKind::Sqrt
         | TermKind::Sign
         | TermKind::Maximum
-        | TermKind::Minimum => Family::Point,
+        | TermKind::Minimum
+        | TermKind::Where => Family::Point,
         TermKind::Rank { .. }
         | TermKind::Demean
         | TermKind::ZScore
@@ -70,7 +71,10 @@ pub fn family_of(kind: &TermKind) -> Family
         | TermKind::Top { .. }
         | TermKind::Bottom { .. }
         | TermKind::PercentileBetween { .. }
-        | TermKind::PeerCount => Family::Section,
+        | TermKind::PeerCount
+        | TermKind::Winsorize { .. }
+        | TermKind::Scale
+        | TermKind::Summarize { .. } => Family::Section,
         TermKind::StartsWith { .. } | TermKind::EndsWith { .. } | TermKind::ElementOf { .. } => {
             Family::LabelTest
         }

@@ -491,6 +491,88 @@ class Factor(Term):
         """`quantiles(10)`."""
         return self.quantiles(10, mask)
 
+    def winsorize(
+        self, min_percentile: float, max_percentile: float, mask: Mask = None, groupby: Group = None
+    ) -> Factor:
+        """x, drawn in to the value `min_percentile` of the way through the session's sorted values where it is below
+        it, and to that at `max_percentile` where it is above.
+
+        Percentiles are shares of 1, to the millionth, as 0.05 and 0.95. The two are values themselves: of n values
+        number floor(min n), from 0, and ceil(max n) - 1, where Zipline's products are floats. Missing outside of the
+        mask. Exact.
+        """
+        for share in (min_percentile, max_percentile):
+            if not 0 <= as_decimal(share) <= 1:
+                raise ValueError(f"winsorize: {share!r} is no share of 1: write {share / 100!r} for {share!r} percent")
+        return Factor(MEMBER, "winsorize", self, min_percentile, max_percentile, mask=mask, groupby=groupby)
+
+    def scale(self, mask: Mask = None, groupby: Group = None) -> Factor:
+        """x over the sum of the magnitudes of the session's values, so that magnitudes add up to 1. Units: 1.
+
+        Missing where all values are 0. Ours, as scale of the formulaic alphas. Rounds once.
+        """
+        return Factor(MEMBER, "scale", self, mask=mask, groupby=groupby)
+
+    def where(self, condition: Filter) -> Factor:
+        """x where the condition is true, else missing. Ours, as pandas' of the same name. Exact."""
+        if not isinstance(condition, Filter):
+            raise TypeError(f"where: {condition!r} is no filter: write a comparison, or notnull()")
+        return Factor(MEMBER, "where", self, condition)
+
+    def mean(self, mask: Mask = None, groupby: Group = None) -> Factor:
+        """Mean of the session's values where the mask is true, of the asset's own label with `groupby`.
+
+        Each asset that exists has it, as in Zipline: also where it has no value, and where the mask is false. Missing
+        where there is no value. Rounds once.
+        """
+        return self._told("mean", mask, groupby)
+
+    def stddev(self, mask: Mask = None, groupby: Group = None) -> Factor:
+        """Standard deviation over n of the values, as `mean` is of them. Rounded down to millionths."""
+        return self._told("stddev", mask, groupby)
+
+    def sum(self, mask: Mask = None, groupby: Group = None) -> Factor:
+        """Sum of the values, as `mean` is of them; of none it is missing, where Zipline's is 0. Exact."""
+        return self._told("sum", mask, groupby)
+
+    def min(self, mask: Mask = None, groupby: Group = None) -> Factor:
+        """The least of the values, as `mean` is of them. Exact."""
+        return self._told("min", mask, groupby)
+
+    def max(self, mask: Mask = None, groupby: Group = None) -> Factor:
+        """The greatest of the values, as `mean` is of them. Exact."""
+        return self._told("max", mask, groupby)
+
+    def median(self, mask: Mask = None, groupby: Group = None) -> Factor:
+        """The value in the middle of the sorted ones, or the mean of the two there, as `mean` is of them. Rounds once."""
+        return self._told("median", mask, groupby)
+
+    def percentile(self, percent: float, mask: Mask = None, groupby: Group = None) -> Factor:
+        """The point `percent` of the way from the least of the values to the greatest, on a line between neighbors.
+
+        As `mean` is of them; `percent` is whole hundredths from 0 to 100. Ours, as numpy's nanpercentile. Rounds once.
+        """
+        return self._told("percentile", mask, groupby, percent)
+
+    def notnull_count(self, mask: Mask = None, groupby: Group = None) -> Factor:
+        """How many values there are, as `mean` is of them; 0 where there is none. Units: assets. Exact."""
+        return self._told("notnull_count", mask, groupby)
+
+    def _told(self, name: str, mask: Mask, groupby: Group, *args: Number) -> Factor:
+        """What is told of the session's values where the mask is true: in the language, of `where`."""
+        if mask is not None and not isinstance(mask, Filter):
+            raise TypeError(f"mask of {name} has to be a filter, and is {mask!r}")
+        return Factor(MEMBER, name, self if mask is None else self.where(mask), *args, groupby=groupby)
+
+    def __getitem__(self, asset: object) -> Factor:
+        """The value of one asset, by its sid, for each asset that exists: ``returns[8554]``.
+
+        Missing where that asset does not exist. Exact.
+        """
+        from .filters import SingleAsset
+
+        return self.max(mask=SingleAsset(asset))
+
     def top(self, N: int, mask: Mask = None, groupby: Group = None) -> Filter:
         """True of the N greatest values of the session; equal ones by ascending sid. Exact."""
         return Filter(MEMBER, "top", self, N, mask=mask, groupby=groupby)
@@ -661,18 +743,18 @@ _P_VALUE = Absent(
 _MONOTONE = "y itself where its order counts: rank, top and quantiles of y and of a rising function of it are the same"
 _ABSENT = {
     Factor: {
-        "winsorize": "clip(low, high) between numbers, or mask=y.percentile_between(low, high), which drops the tails",
         "spearmanr": "pearsonr, and the ranks over the table in pandas",
-        "mean sum stddev min max median notnull_count": (
-            "y - y.demean(), which is the mean of the session; zscore; rank"
-        ),
         "__mod__ __floordiv__": "/ and clip",
         "sinh tanh arctan arcsinh": _MONOTONE,
         "sin cos tan cosh arcsin arccos arccosh arctanh": "arithmetic",
     },
-    Classifier: {"relabel": "labels of another name in the labels file", "fillna": "isnull()"},
+    Classifier: {
+        "relabel": "labels of another name in the labels file",
+        "fillna": "isnull()",
+        "__getitem__": "a filter of the label, and the asset's rows of the table",
+    },
     Text: {"matches has_substring": "startswith, endswith, element_of"},
-    Term: {"__getitem__": "StaticSids(sids) as a mask, and the asset's rows of the table"},
+    Filter: {"__getitem__": "f.if_else(1, 0)[asset], which is 1 where the filter is true of the asset"},
 }
 _SIGNS = {"__getitem__": "y[asset]", "__mod__": "y % z", "__floordiv__": "y // z"}
 for _sort, _names in _ABSENT.items():

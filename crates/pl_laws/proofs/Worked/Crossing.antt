@@ -6,7 +6,8 @@ use Rattle.pl_pipeline.specs.declared.RankMethod.TheVariants as method
 use Rattle.pl_pipeline.specs.declared.RankOrder.TheVariants.{Ascending, Descending}
 use Rattle.pl_pipeline.specs.Kind.{CrossKind as kind}
 use Rattle.pl_pipeline.specs.declared.WindowKind.TheVariants as WindowKind
-use Rattle.pl_pipeline.specs.Cross.{Entry, values, value_at, cross}
+use Rattle.pl_pipeline.specs.declared.Summary.TheVariants as summaries
+use Rattle.pl_pipeline.specs.Cross.{Entry, values, value_at, cross, summary}
 use Rattle.pl_pipeline.specs.Term.Term.{absent}
 use Rattle.pl_pipeline.specs.Value.{Value}
 use Rattle.pl_pipeline.specs.Value.Value.{Number}
@@ -110,3 +111,31 @@ what_has_no_value_has_no_rank = refl
 ranks_are_among_those_that_exist : by_session leaving (window WindowKind.WindowSum 2 (across (kind.Rank method.Ordinal Ascending) (latest Close) absent ∷ [])) (4 ∷ 5 ∷ []) ≡ Number (units 3) ∷ Number (units 2) ∷ []
 unfolding opened
 ranks_are_among_those_that_exist = refl
+
+-- ---- summaries
+
+five : List Entry
+five = (1, units 1) ∷ (2, units 2) ∷ (3, units 3) ∷ (4, units 4) ∷ (5, units 100) ∷ []
+
+told : List ℤ → List ℤ
+told vs = map (λ s. summary s vs) (summaries.Mean ∷ summaries.StdDev ∷ summaries.Sum ∷ summaries.Least ∷ summaries.Greatest ∷ summaries.Median ∷ summaries.Percentile 1000 ∷ summaries.NotNullCount ∷ [])
+
+five_are_told : told (values five) ≡ units 22 ∷ pos 39012818 ∷ units 110 ∷ units 1 ∷ units 100 ∷ units 3 ∷ pos 1400000 ∷ units 5 ∷ []
+unfolding told five summary opened
+five_are_told = refl
+
+of_none_there_is_nothing_but_the_count : told [] ≡ MISSING ∷ MISSING ∷ MISSING ∷ MISSING ∷ MISSING ∷ MISSING ∷ MISSING ∷ pos 0 ∷ []
+unfolding told summary opened
+of_none_there_is_nothing_but_the_count = refl
+
+-- a fifth is cut off at each end, and the values by sid are 5, 1, 4, 2 and 3
+mixed : List Entry
+mixed = (1, units 5) ∷ (2, units 1) ∷ (3, units 4) ∷ (4, units 2) ∷ (5, units 3) ∷ []
+
+ends_are_drawn_in : all_of (kind.Winsorize 200000 800000) mixed ≡ units 4 ∷ units 2 ∷ units 4 ∷ units 2 ∷ units 3 ∷ []
+unfolding all_of mixed opened
+ends_are_drawn_in = refl
+
+shares_of_magnitudes : all_of kind.Scale ((1, units 1) ∷ (2, units 2) ∷ (3, negsuc 4999999) ∷ []) ≡ pos 125000 ∷ pos 250000 ∷ negsuc 624999 ∷ []
+unfolding all_of opened
+shares_of_magnitudes = refl

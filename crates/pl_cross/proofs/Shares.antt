@@ -1,0 +1,108 @@
+-- Summaries of groups, found in the sorted list.
+use Rattle.std.proofs.Common.{◌≡◌, ◌≢◌, ℕ, suc, ◌+◌, ◌-◌, ◌*◌, ◌/◌, ◌<◌, ◌≤◌, Bool, true, false, cond, ℤ, pos, ◌*ℤ◌, ◌≤ℤ◌, unsigned_abs, List, [], ◌∷◌, length, filter, get_or, refl, sym, ◌∙◌, ap, arith, inl, inr, sum_by, set, w64, to_z, of_z, FitsSigned, get_or-set_other, get_or-set_same}
+use Rattle.std.specs.List.Sorted.{IsPartitionedBy, IsPartitionPoint}
+use Rattle.std.specs.Int.{int_max, int_min}
+use Rattle.std.specs.Int.RustNames.{int_lt}
+use Rattle.std.specs.Ordering.{int_eq}
+use Rattle.std.proofs.lemmas.Bool.{cases_lt}
+use Rattle.std.specs.Int.{w128}
+use Rattle.std.proofs.lemmas.Int.{ints, to_z-of_z, fits_signed_from_abs, fits_signed_mul}
+use Rattle.std.proofs.lemmas.List.{get_or_default}
+use Rattle.pl_spec.specs.Limits.{most_assets}
+use Rattle.pl_spec.specs.Rounding.{MISSING, LIMIT, MILLION, quot}
+use Rattle.pl_pipeline.specs.declared.Summary.{Summary}
+use Rattle.pl_pipeline.specs.Kind.CrossKind.{Winsorize, Scale, Summarize}
+use Rattle.pl_pipeline.specs.Cross.{array_at, values, value_at, if_some, summary, cross}
+use Rattle.pl_cross.specs.declared.listing.Listed.{Listed}
+use Rattle.pl_cross.specs.Listing.{entries_of, members, AreInOrder, AreAnswers}
+use Rattle.pl_cross.proofs.Distinct.{length-values}
+
+-- ---- groups in the sorted list
+
+groups-rise : (entries : List Listed) (i j : ℕ) (d : Listed) → AreInOrder entries → i ≤ j → j < length entries → (get_or entries i d).group ≤ℤ (get_or entries j d).group
+groups-rise entries i j d up h l = elim (cases_lt i j) [
+  | inl lt ↦ elim (up i j d lt l) [ inl less ↦ omega (arith, ints, less) | inr rest ↦ (let same : (get_or entries i d).group ≡ (get_or entries j d).group = rest.0 in omega (arith, ints, same)) ]
+  | inr ge ↦ (let same : i ≡ j = omega arith in let one : (get_or entries i d).group ≡ (get_or entries j d).group = ap (λ k. (get_or entries k d).group) same in omega (arith, ints, one))
+]
+
+pub parted : (g : ℤ) (entries : List Listed) → AreInOrder entries → IsPartitionedBy (λ (e : Listed). int_lt e.group g) entries
+parted g entries up i j d h l t =
+    let rise : (get_or entries i d).group ≤ℤ (get_or entries j d).group = groups-rise entries i j d up h l in
+    grind (arith, ints)
+
+pub told-group : (told : Summary) (entries : List Listed) (answers : List ℤ) (k : ℕ) (g : ℤ) (d : Listed) → AreAnswers (Summarize told) (λ e. members e.group entries) entries answers
+    → k < length entries → (get_or entries k d).group ≡ g → array_at answers k ≡ summary told (values (members g entries))
+unfolding cross
+told-group told entries answers k g d h l e = h k d l ∙ ap (λ x. summary told (values (members x entries))) e
+
+filter-none : (p : Listed → Bool) (xs : List Listed) → ((k : ℕ) (d : Listed) → k < length xs → p (get_or xs k d) ≡ false) → filter p xs ≡ []
+filter-none p [] h = refl
+filter-none p (x ∷ xs) h =
+    let fails : p x ≡ false = h 0 x (omega arith) in
+    ap (λ b. cond b (x ∷ filter p xs) (filter p xs)) fails ∙ filter-none p xs (λ k d l. h (suc k) d (omega arith))
+
+-- a group that does not begin where it would has no members
+pub no-members : (g : ℤ) (entries : List Listed) (first : ℕ) → AreInOrder entries → IsPartitionPoint (λ (e : Listed). int_lt e.group g ≡ true) (λ (e : Listed). int_lt e.group g ≡ false) entries first
+    → ((d : Listed) → first < length entries → (get_or entries first d).group ≢ g) → members g entries ≡ []
+no-members g entries first up point other = ap entries_of (filter-none (λ (e : Listed). int_eq g e.group) entries apart)
+  where
+    below : (x : ℤ) → int_lt x g ≡ true → int_eq g x ≡ false
+    below x t = grind (arith, ints)
+
+    above : (x y : ℤ) → int_lt x g ≡ false → x ≢ g → x ≤ℤ y → int_eq g y ≡ false
+    above x y t ne le = grind (arith, ints)
+
+    apart : (k : ℕ) (d : Listed) → k < length entries → int_eq g (get_or entries k d).group ≡ false
+    apart k d l = elim (cases_lt k first) [
+      | inl lt ↦ below (get_or entries k d).group (point.0 k d (omega arith) lt)
+      | inr ge ↦ above (get_or entries first d).group (get_or entries k d).group (point.1 first d (omega arith) (omega arith)) (other d (omega arith)) (groups-rise entries first k d up (omega arith) l)
+    ]
+
+-- ---- values
+
+pub some-is : (group : List Listed) (v : ℤ) → 0 < length group → v ≡ if_some (values (entries_of group)) v
+some-is [] v h = absurd (omega arith)
+some-is (e ∷ es) v h = refl
+
+pub drawn-in : (low high : ℕ) (group : List Listed) (i : ℕ) (e : Listed) (least greatest answer : ℤ) → i < length group
+    → least ≡ value_at (values (entries_of group)) (low * length group / MILLION)
+    → greatest ≡ value_at (values (entries_of group)) ((high * length group + MILLION - 1) / MILLION - 1)
+    → answer ≡ int_max least (int_min greatest (get_or group i e).value)
+    → (d : Listed) → answer ≡ cross (Winsorize low high) (entries_of group) (get_or group i d).place (get_or group i d).value
+unfolding cross
+drawn-in low high group i e least greatest answer inside under over h d =
+    let vs : List ℤ = values (entries_of group) in
+    let x : ℤ = (get_or group i d).value in
+    h ∙ ap (λ v. int_max least (int_min greatest v)) (ap (λ (f : Listed). f.value) (get_or_default group i e d inside))
+    ∙ ap (λ v. int_max v (int_min greatest x)) (under ∙ ap (λ n. value_at vs (low * n / MILLION)) (sym (length-values group)))
+    ∙ ap (λ v. int_max (value_at vs (low * length vs / MILLION)) (int_min v x)) (over ∙ ap (λ n. value_at vs ((high * n + MILLION - 1) / MILLION - 1)) (sym (length-values group)))
+
+pub share-is : (group : List Listed) (i : ℕ) (e : Listed) (whole answer : ℤ) → i < length group → whole ≡ pos (sum_by unsigned_abs (values (entries_of group)))
+    → answer ≡ quot ((get_or group i e).value *ℤ pos MILLION) whole
+    → (d : Listed) → answer ≡ cross Scale (entries_of group) (get_or group i d).place (get_or group i d).value
+unfolding cross
+share-is group i e whole answer inside sum h d =
+    h ∙ ap (λ v. quot (v *ℤ pos MILLION) whole) (ap (λ (f : Listed). f.value) (get_or_default group i e d inside))
+    ∙ ap (quot ((get_or group i d).value *ℤ pos MILLION)) sum
+
+-- the quotient as the code has it
+pub portion : (v whole : ℤ) (group : List Listed) → unsigned_abs v ≤ LIMIT → length group ≤ most_assets → unsigned_abs whole ≤ length group * LIMIT
+    → quot (to_z w128 (of_z w128 (to_z w128 (of_z w128 (to_z w64 (of_z w64 v))) *ℤ pos MILLION))) (to_z w128 (of_z w128 whole)) ≡ quot (v *ℤ pos MILLION) whole
+portion v whole group few short size =
+    let fv : FitsSigned w64 v = fits_signed_from_abs w64 v (omega arith) in
+    let wv : FitsSigned w128 v = fits_signed_from_abs w128 v (omega arith) in
+    let wp : FitsSigned w128 (v *ℤ pos MILLION) = fits_signed_mul w128 v (pos MILLION) LIMIT MILLION few (omega arith) (omega arith) in
+    let ww : FitsSigned w128 whole = fits_signed_from_abs w128 whole (omega (arith, size, short)) in
+    rw (to_z-of_z w64 v fv, to_z-of_z w128 v wv, to_z-of_z w128 (v *ℤ pos MILLION) wp, to_z-of_z w128 whole ww) refl
+
+-- ---- values that are written one after the other
+
+pub written-more : (f : ℕ → ℤ) (out : List ℤ) (place : ℕ) (v : ℤ) → FitsSigned w64 v → place < length out → ((k : ℕ) → k < place → array_at out k ≡ f k) → v ≡ f place
+    → (k : ℕ) → k < place + 1 → array_at (set out place (to_z w64 (of_z w64 v))) k ≡ f k
+written-more f out place v fits inside before now k h = elim (cases_lt k place) [
+  | inl lt ↦ (let other : k ≢ place = omega arith in get_or-set_other out place k (to_z w64 (of_z w64 v)) MISSING other ∙ before k lt)
+  | inr ge ↦
+      let here : place ≡ k = omega arith in
+      ap (λ i. array_at (set out place (to_z w64 (of_z w64 v))) i) (sym here) ∙ get_or-set_same out place (to_z w64 (of_z w64 v)) MISSING inside
+      ∙ to_z-of_z w64 v fits ∙ now ∙ ap f here
+]
