@@ -8,7 +8,12 @@ import pytest
 from tohmeril import PipelineError, check, program, run_pipeline
 from tohmeril.pipeline import Inexpressible, Pipeline
 from tohmeril.pipeline.data import EquityPricing, Labels
-from tohmeril.pipeline.factors import RegressionSlope, Returns
+from tohmeril.pipeline.factors import (
+    Returns,
+    RollingLinearRegressionOfReturns,
+    RollingPearsonOfReturns,
+    SimpleBeta,
+)
 
 price, change = EquityPricing.close.latest, Returns(window_length=5)
 dear, sector = price > 60, Labels.sector.latest
@@ -40,6 +45,17 @@ def test_term(term, text):
     assert check(f"pipeline 4;\ncolumn x = {text};\n") == check(Pipeline({"x": term}))
 
 
+def test_terms_of_one_asset():
+    daily = Returns(window_length=2)
+    beta = SimpleBeta(24, 252)
+    assert beta.name == "RegressionSlope" and beta.args[:2] == (daily, daily[24])
+    assert str(dict(beta.options)["mask"]).endswith("252, 189)")
+    assert not SimpleBeta(24, 252, 1).options and "252, 252)" in str(SimpleBeta(24, 252, 0).options)
+    assert RollingPearsonOfReturns(24, 2, 20) is daily.pearsonr(daily[24], 20)
+    assert RollingLinearRegressionOfReturns(24, 2, 20).beta is daily.linear_regression(daily[24], 20).beta
+    check(Pipeline({"x": beta}))
+
+
 @pytest.mark.parametrize(
     "short, long",
     [
@@ -62,6 +78,7 @@ def test_short_forms_of_the_language(short, long):
         (lambda: change.mean(mask=price), TypeError, "mask of mean has to be a filter"),
         (lambda: change.mean(groupby=dear), TypeError, "groupby of mean has to be a classifier"),
         (lambda: change.where(1), TypeError, "where: 1 is no filter"),
+        (lambda: SimpleBeta(24, 252, 25), ValueError, "25 is no share of 1: write 0.25 for 25 percent"),
         (lambda: check(Pipeline({"x": change.winsorize(0.5, 0.5)})), PipelineError, "winsorize"),
         (lambda: check(Pipeline({"x": change.percentile(0.005)})), PipelineError, "percentile"),
         (lambda: EquityPricing.close.mean(), AttributeError, "has no mean: write close.latest"),
@@ -91,7 +108,7 @@ def test_values(market):
             "drawn": change.winsorize(0.1, 0.9),
             "share": change.scale(),
             "one": change[sid],
-            "beta": RegressionSlope(change, change[sid], window_length=20),
+            "beta": SimpleBeta(sid, 20),
         }
     )
     frame = run_pipeline(pipe, "2023-06-01", "2023-06-30", market)
