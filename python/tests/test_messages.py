@@ -124,10 +124,8 @@ class Fundamentals(DataSet):
                 f"the language has no {name}; nearest: ",
             )
             for name in (
-                "SimpleBeta",
                 "RollingSpearman",
-                "RollingPearsonOfReturns",
-                "RollingLinearRegressionOfReturns",
+                "RollingSpearmanOfReturns",
                 "EWMSTD",
                 "BusinessDaysUntilNextEvent",
                 "MaxDrawdown",

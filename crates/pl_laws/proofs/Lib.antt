@@ -23,3 +23,4 @@ pub mod Tops
 pub mod OneSession
 pub mod Calendars
 pub mod Texts
+pub mod Winsorized

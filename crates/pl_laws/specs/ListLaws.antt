@@ -1,17 +1,17 @@
 -- The laws of cross-sections and of windows on lists, each the contract of a function.
-use Rattle.std.specs.Prelude.{◌≡◌, ◌≢◌, ◌⊎◌, ◌↔◌, true, ℕ, ◌+◌, ◌-◌, ◌*◌, ◌<◌, ◌≤◌, min, ℤ, pos, neg_ℤ, ◌*ℤ◌, ◌<ℤ◌, ◌≤ℤ◌, List, [], ◌∷◌, length, map, Some, slice_get, count_by, All, AllPairs, Contains, IsPermutation}
+use Rattle.std.specs.Prelude.{◌≡◌, ◌≢◌, ◌⊎◌, ◌↔◌, true, ℕ, ◌+◌, ◌-◌, ◌*◌, ◌/◌, ◌<◌, ◌≤◌, min, ℤ, pos, neg_ℤ, ◌*ℤ◌, ◌<ℤ◌, ◌≤ℤ◌, List, [], ◌∷◌, length, map, Some, slice_get, count_by, All, AllPairs, Contains, IsPermutation}
 use Rattle.std.specs.List.{range_with_len}
 use Rattle.pl_pipeline.specs.declared.RankMethod.{RankMethod}
 use Rattle.pl_pipeline.specs.declared.RankOrder.{RankOrder}
 use Rattle.pl_pipeline.specs.declared.RankOrder.TheVariants.{Ascending, Descending}
-use Rattle.pl_spec.specs.Rounding.{IsCell, neg}
+use Rattle.pl_spec.specs.Rounding.{IsCell, MILLION, neg}
 use Rattle.pl_spec.specs.Cells.{is_true, count, least, greatest}
 use Rattle.pl_pipeline.specs.Formula.{mean, formula}
 use Rattle.pl_pipeline.specs.declared.WindowKind.{WindowKind}
 use Rattle.pl_pipeline.specs.declared.WindowKind.TheVariants as window
-use Rattle.pl_pipeline.specs.Kind.CrossKind.{Top, Bottom, PercentileBetween}
+use Rattle.pl_pipeline.specs.Kind.CrossKind.{Top, Bottom, PercentileBetween, Winsorize}
 use Rattle.pl_pipeline.specs.CrossFacts.{IsValueAt, edge_of, AreRanks, negated}
-use Rattle.pl_pipeline.specs.Cross.{Entry, values, precedes, ordinal, rank, value_at, edge, bin_of, cross}
+use Rattle.pl_pipeline.specs.Cross.{Entry, values, precedes, ordinal, rank, value_at, edge, bin_of, cross, winsorized}
 
 -- the values in ascending order are those that value_at counts out
 abbrev pub ValuesAreSorted : Type 0
@@ -74,6 +74,16 @@ TopsAreMany = (n : ℕ) (list : List Entry) → AllPairs (λ e f. e.0 ≢ f.0) l
 abbrev pub FiltersCount : Type 0
 FiltersCount = (xs ys zs : List ℤ) → (formula (window.AtLeastN 1) xs ys zs ≡ formula window.Any xs ys zs)
     × (formula (window.AtLeastN (length xs)) xs ys zs ≡ formula window.All xs ys zs)
+
+-- drawn in to the least and the greatest value no value of the list changes
+abbrev pub WholeWinsorizingIsNone : Type 0
+WholeWinsorizingIsNone = (list : List Entry) (a : ℕ) (x : ℤ) → Contains (values list) x → cross (Winsorize 0 MILLION) list a x ≡ x
+
+-- a winsorized value lies from one value of the list to another, which is not below that
+abbrev pub WinsorizedAreBetween : Type 0
+WinsorizedAreBetween = (low high : ℕ) (vs : List ℤ) (x : ℤ) → low < high → high ≤ MILLION → 0 < length vs
+    → (value_at vs (low * length vs / MILLION) ≤ℤ winsorized low high vs x)
+    × (winsorized low high vs x ≤ℤ value_at vs ((high * length vs + MILLION - 1) / MILLION - 1))
 
 -- the greatest of cells is the least of their negatives, negated
 abbrev pub GreatestIsLeast : Type 0

@@ -2,6 +2,7 @@
 //! law.
 ghost use Rattle.pl_laws.specs.ListLaws.{ValuesAreSorted, ValuesAreCounted, OrdinalsAreNumbers, OrdinalsArePlaces};
 ghost use Rattle.pl_laws.specs.ListLaws.{MeanIsBetween, BinsAreFew, EdgesAscend, BinsLieBetweenEdges, WholeRangeIsAll};
+ghost use Rattle.pl_laws.specs.ListLaws.{WholeWinsorizingIsNone, WinsorizedAreBetween};
 ghost use Rattle.pl_laws.specs.ListLaws.{RanksAreBetween, DescendingIsNegated, TopsAreMany, FiltersCount};
 ghost use Rattle.pl_laws.specs.ListLaws.{GreatestIsLeast, OneIsItself};
 
@@ -49,6 +50,16 @@ pub fn bins_lie_between_edges()
 /// `percentile_between(0, 100)` keeps each asset.
 pub fn whole_range_is_all()
     ensures { WholeRangeIsAll }
+{}
+
+/// `winsorize(0, 1)` changes no value.
+pub fn whole_winsorizing_is_none()
+    ensures { WholeWinsorizingIsNone }
+{}
+
+/// A winsorized value lies between two values of the list.
+pub fn winsorized_are_between()
+    ensures { WinsorizedAreBetween }
 {}
 
 /// The ordinal rank lies between the min and the max rank, the average in their middle, and the dense rank is

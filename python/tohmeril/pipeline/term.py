@@ -210,7 +210,7 @@ class Term:
         if name == "window_safe":
             raise AttributeError(
                 "terms do not change, nor does what may be in a window: a window can be over Returns, ranks, "
-                'zscores and what docs/LANGUAGE.md, "Windows over terms", lists'
+                'zscores and what the column "In a window" of docs/TERMS.md says'
             )
         raise AttributeError("terms do not change")
 

@@ -381,9 +381,41 @@ def RollingLinearRegression(dependent: Factor, independent: Factor, regression_l
     return dependent.linear_regression(independent, regression_length, mask)
 
 
-_ONE_ASSET = (
-    "RegressionSlope or Correlation with a factor that has a value for every asset, as a number of the numbers file"
-)
+def SimpleBeta(target: object, regression_length: int, allowed_missing_percentage: float = 0.25) -> Factor:
+    """Slope of the line of least squares that gives an asset's daily returns from those of one asset, `target`.
+
+    Over so many sessions, 2 or more; missing where one of the two returns is missing on more than that share of them.
+    Units: 1. Missing where `target` does not move, where Zipline has noise. Rounds once.
+
+    >>> SimpleBeta(24, 252).args[1]
+    Returns(close, 2).where(StaticSids(24)).max()
+    """
+    if not 0 <= allowed_missing_percentage <= 1:
+        raise ValueError(
+            f"SimpleBeta: allowed_missing_percentage={allowed_missing_percentage!r} is no share of 1: write "
+            f"{allowed_missing_percentage / 100!r} for {allowed_missing_percentage!r} percent"
+        )
+    daily = Returns(window_length=2)
+    market = daily[target]
+    least = regression_length - int(allowed_missing_percentage * regression_length)
+    present = Filter(CALL, "AtLeastN", daily.notnull() & market.notnull(), regression_length, least) if least else None
+    return Factor(CALL, "RegressionSlope", daily, market, regression_length, mask=present)
+
+
+def RollingPearsonOfReturns(target: object, returns_length: int, correlation_length: int, mask: Mask = None) -> Factor:
+    """`pearsonr` of an asset's returns over `returns_length` sessions with those of one asset, `target`."""
+    returns = Returns(window_length=returns_length)
+    return returns.pearsonr(returns[target], correlation_length, mask)
+
+
+def RollingLinearRegressionOfReturns(
+    target: object, returns_length: int, regression_length: int, mask: Mask = None
+) -> Any:
+    """`linear_regression` of an asset's returns over `returns_length` sessions on those of one asset, `target`."""
+    returns = Returns(window_length=returns_length)
+    return returns.linear_regression(returns[target], regression_length, mask)
+
+
 EWMSTD, ExponentialWeightedMovingStdDev = Absent.each(
     "EWMSTD ExponentialWeightedMovingStdDev", "WindowStd, with equal weights"
 )
@@ -393,10 +425,9 @@ MaxDrawdown = Absent(
 IchimokuKinkoHyo = Absent(
     "IchimokuKinkoHyo", "(WindowMax([high], window_length=W) + WindowMin([low], window_length=W)) / 2"
 )
-SimpleBeta, RollingLinearRegressionOfReturns, RollingPearsonOfReturns, RollingSpearmanOfReturns = Absent.each(
-    "SimpleBeta RollingLinearRegressionOfReturns RollingPearsonOfReturns RollingSpearmanOfReturns", _ONE_ASSET
+RollingSpearman, RollingSpearmanOfReturns = Absent.each(
+    "RollingSpearman RollingSpearmanOfReturns", "RollingPearson, and the ranks over the table in pandas"
 )
-RollingSpearman = Absent("RollingSpearman", "RollingPearson, and the ranks over the table in pandas")
 BusinessDaysSincePreviousEvent, BusinessDaysUntilNextEvent = Absent.each(
     "BusinessDaysSincePreviousEvent BusinessDaysUntilNextEvent", "a label that changes on the day of the event"
 )
