@@ -1,5 +1,5 @@
 -- The cross-sections: the place of one asset's value among those of a session, by counting.
-use Rattle.std.specs.Prelude.{ℕ, ◌+◌, ◌-◌, ◌*◌, ◌/◌, Bool, true, ◌&&◌, if◌then◌else◌, ◌==◌, nat_lt, nat_le, ℤ, pos, ◌+ℤ◌, ◌-ℤ◌, ◌*ℤ◌, List, [], ◌∷◌, length, map, filter, find, Option, Some, None, unwrap_or, count_by, get_or}
+use Rattle.std.specs.Prelude.{ℕ, ◌+◌, ◌-◌, ◌*◌, ◌/◌, Bool, true, ◌&&◌, if◌then◌else◌, ◌==◌, nat_lt, nat_le, ℤ, pos, ◌-ℤ◌, ◌*ℤ◌, List, [], ◌∷◌, length, map, filter, Option, Some, None, count_by, get_or}
 use Rattle.std.specs.List.{list_any, range_with_len}
 use Rattle.std.specs.Int.RustNames.{int_lt, int_le}
 use Rattle.std.specs.Ordering.{int_eq}
@@ -10,6 +10,7 @@ use Rattle.pl_pipeline.specs.declared.RankOrder.TheVariants.{Ascending, Descendi
 use Rattle.pl_spec.specs.Rounding.{MISSING, MILLION, is_present, quot, sub, div_round}
 use Rattle.pl_spec.specs.Cells.{total, truth, is_true}
 use Rattle.pl_pipeline.specs.Formula.{spread}
+use Rattle.pl_pipeline.specs.Order.{preceding, count_equal, edge}
 use Rattle.pl_pipeline.specs.Kind.{CrossKind}
 use Rattle.pl_pipeline.specs.Kind.CrossKind.{Rank, Demean, ZScore, Quantiles, Top, Bottom, PercentileBetween, PeerCount}
 
@@ -19,18 +20,6 @@ Entry = ℕ × ℤ
 
 abbrev pub values : List Entry → List ℤ
 values list = map (λ e. e.1) list
-
--- v comes before x
-abbrev pub precedes : RankOrder → ℤ → ℤ → Bool
-precedes Ascending v x = int_lt v x
-precedes Descending v x = int_lt x v
-
--- how many values come before x
-abbrev pub preceding : RankOrder → ℤ → List ℤ → ℕ
-preceding order x vs = count_by (λ v. precedes order v x) vs
-
-abbrev pub count_equal : ℤ → List ℤ → ℕ
-count_equal x vs = count_by (int_eq x) vs
 
 -- the equal values of smaller sids
 abbrev pub earlier_same : ℕ → ℤ → List Entry → ℕ
@@ -52,19 +41,6 @@ rank Min order list a x = (preceding order x (values list) + 1) * MILLION
 rank Max order list a x = (preceding order x (values list) + count_equal x (values list)) * MILLION
 rank Dense order list a x = (preceding order x (distinct_values (values list)) + 1) * MILLION
 rank Average order list a x = preceding order x (values list) * MILLION + (count_equal x (values list) + 1) * MILLION / 2
-
-abbrev pub count_less : ℤ → List ℤ → ℕ
-count_less x vs = preceding Ascending x vs
-
--- the value with at most i values below it and more than i at most it: the place i from 0 in ascending order
-abbrev pub value_at : List ℤ → ℕ → ℤ
-value_at vs i = unwrap_or (find (λ v. nat_le (count_less v vs) i && nat_lt i (count_less v vs + count_equal v vs)) vs) (pos 0)
-
--- n times the point that lies p / n places above the least value, on the lines between neighbors
-abbrev pub edge : List ℤ → ℕ → ℕ → ℤ
-edge vs p n =
-    let i = p / n in let r = p - i * n in
-    value_at vs i *ℤ pos (n - r) +ℤ value_at vs (i + 1) *ℤ pos r
 
 -- how many of the edges between the bins lie below x
 abbrev pub bin_of : ℕ → List ℤ → ℤ → ℕ

@@ -12,7 +12,8 @@ use Rattle.pl_pipeline.specs.Kind.CrossKind.{Rank, Demean, ZScore, Quantiles, Pe
 use Rattle.pl_pipeline.specs.declared.RankMethod.{RankMethod}
 use Rattle.pl_pipeline.specs.declared.RankMethod.TheVariants.{Ordinal, Min, Max, Dense, Average}
 use Rattle.pl_pipeline.specs.declared.RankOrder.{RankOrder}
-use Rattle.pl_pipeline.specs.Cross.{Entry, values, precedes, preceding, count_equal, earlier_same, distinct_values, rank, bin_of, cross, counts_at, entries_for, array_at}
+use Rattle.pl_pipeline.specs.Cross.{Entry, values, earlier_same, distinct_values, rank, bin_of, cross, counts_at, entries_for, array_at}
+use Rattle.pl_pipeline.specs.Order.{precedes, preceding, count_equal}
 use Rattle.pl_pipeline.specs.Value.{is_cross_filter}
 use Rattle.pl_pipeline.proofs.Cells.{truth-cell, chosen-has, quot-cell, sub-cell}
 use Rattle.pl_cross.specs.Section.{IsRight}

@@ -6,7 +6,8 @@ use Rattle.pl_pipeline.specs.declared.RankMethod.TheVariants as method
 use Rattle.pl_pipeline.specs.declared.RankOrder.TheVariants.{Ascending, Descending}
 use Rattle.pl_pipeline.specs.Kind.{CrossKind as kind}
 use Rattle.pl_pipeline.specs.declared.WindowKind.TheVariants as WindowKind
-use Rattle.pl_pipeline.specs.Cross.{Entry, values, value_at, cross}
+use Rattle.pl_pipeline.specs.Cross.{Entry, values, cross}
+use Rattle.pl_pipeline.specs.Order.{value_at}
 use Rattle.pl_pipeline.specs.Term.Term.{absent}
 use Rattle.pl_pipeline.specs.Value.{Value}
 use Rattle.pl_pipeline.specs.Value.Value.{Number}
