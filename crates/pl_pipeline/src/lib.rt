@@ -26,7 +26,7 @@ pub enum RankOrder {
 }
 
 /// A formula or a filter over a window, with its parameters; docs/TERMS.md has the formulas. `k` and `decay` are
-/// millionths.
+/// millionths, `percent` hundredths of a percent.
 #[derive(Clone, Copy, Debug)]
 pub enum WindowKind {
     Latest,
@@ -56,6 +56,13 @@ pub enum WindowKind {
     RegressionSlope,
     RegressionIntercept,
     RegressionError,
+    WindowPercentile { percent: u32 },
+    WindowRank,
+    WindowArgMax,
+    WindowArgMin,
+    WindowFirst,
+    MaxDrawdown,
+    RankCorrelation,
     All,
     Any,
     AtLeastN { n: u32 },
