@@ -41,6 +41,12 @@ ahead-next x z l e = rw e (omega arith)
 unlike-eq : (x y : ℤ) → x ≢ y → int_eq x y ≡ false
 unlike-eq x y h = grind (arith, ints)
 
+pub place-few : (x : ℤ) (xs : List ℤ) → first_place x xs ≤ length xs
+place-few x xs = elim (cases_lt (ahead x xs) (length xs)) [
+  | inl h ↦ let p = place-in x xs h in omega arith
+  | inr h ↦ let p = place-out x xs h in omega arith
+]
+
 place-first : (x : ℤ) (l : List ℤ) → first_place x (x ∷ l) ≡ 0
 place-first x l = let e = ahead-here x x l (int_eq-itself x) in place-in x (x ∷ l) (omega arith) ∙ e
 
