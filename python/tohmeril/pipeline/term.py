@@ -510,6 +510,15 @@ class Factor(Term):
         mask = _all_present(self, target, correlation_length, mask)
         return Factor(CALL, "Correlation", self, target, correlation_length, mask=mask)
 
+    def spearmanr(self, target: Factor, correlation_length: int, mask: Mask = None) -> Factor:
+        """`pearsonr` of the ranks of both, equal values having the average of their ranks: Spearman's. Units: 1.
+
+        Missing where one of the two does not change. `factors.RankCorrelation` takes the pairs of which both are
+        present.
+        """
+        mask = _all_present(self, target, correlation_length, mask)
+        return Factor(CALL, "RankCorrelation", self, target, correlation_length, mask=mask)
+
     def linear_regression(self, target: Factor, regression_length: int, mask: Mask = None) -> Regression:
         """`alpha`, `beta`, `r_value`, `p_value`, `stderr` of the line that gives the values from those of `target`.
 
@@ -620,7 +629,6 @@ _MONOTONE = "y itself where its order counts: rank, top and quantiles of y and o
 _ABSENT = {
     Factor: {
         "winsorize": "clip(low, high) between numbers, or mask=y.percentile_between(low, high), which drops the tails",
-        "spearmanr": "pearsonr, and the ranks over the table in pandas",
         "mean sum stddev min max median notnull_count": (
             "y - y.demean(), which is the mean of the session; zscore; rank"
         ),
