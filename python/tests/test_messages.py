@@ -125,12 +125,10 @@ class Fundamentals(DataSet):
             )
             for name in (
                 "SimpleBeta",
-                "RollingSpearman",
                 "RollingPearsonOfReturns",
                 "RollingLinearRegressionOfReturns",
                 "EWMSTD",
                 "BusinessDaysUntilNextEvent",
-                "MaxDrawdown",
             )
         ),
         *(

@@ -1,6 +1,6 @@
 -- The deepest of the first falls of a window, cell by cell.
-use Rattle.std.proofs.Common.{◌≡◌, ◌≢◌, ℕ, zero, suc, ◌+◌, ◌*◌, ◌<◌, ◌≤◌, Bool, true, false, cond, ℤ, pos, ◌-ℤ◌, ◌*ℤ◌, ◌≤ℤ◌, ◌<ℤ◌, List, [], ◌∷◌, ◌++◌, length, map, take, get_or, fold, unwrap_or, nat_eq, ne_eqb, unsigned_abs, refl, sym, ap, ap₂, subst, ◌∙◌, arith, inl, inr, ◌⊎◌, append-nil, FitsSigned, w64, to_z, of_z}
-use Rattle.std.specs.List.{All, range_with_len, reduce}
+use Rattle.std.proofs.Common.{◌≡◌, ℕ, zero, suc, ◌+◌, ◌*◌, ◌<◌, ◌≤◌, Bool, true, false, cond, ℤ, pos, ◌-ℤ◌, ◌*ℤ◌, ◌≤ℤ◌, ◌<ℤ◌, List, [], ◌∷◌, ◌++◌, length, take, get_or, fold, unwrap_or, nat_eq, ne_eqb, unsigned_abs, refl, sym, ap, ap₂, subst, ◌∙◌, arith, inl, inr, ◌⊎◌, append-nil, FitsSigned, w64}
+use Rattle.std.specs.List.{All, reduce}
 use Rattle.std.specs.Int.{int_max}
 use Rattle.std.specs.Int.RustNames.{int_lt}
 use Rattle.std.proofs.lemmas.Bool.{cases_eq}
@@ -13,7 +13,7 @@ use Rattle.pl_spec.specs.Rounding.{MISSING, MILLION, LIMIT, IsCell, is_missing, 
 use Rattle.pl_spec.specs.Cells.{present_values, count, greatest}
 use Rattle.pl_pipeline.specs.Formula.{fall, falls, drawdown}
 use Rattle.pl_lanes.proofs.Bits.{at-cell, cell-fits}
-use Rattle.pl_lanes.proofs.Cells.{is_within, missing-is}
+use Rattle.pl_lanes.proofs.Cells.{is_within}
 use Rattle.pl_lanes.proofs.Heights.{best-known}
 use Rattle.pl_factors.specs.declared.order.Falls.{Falls}
 use Rattle.pl_factors.specs.Falls.{AreFalls}

@@ -358,20 +358,29 @@ class IchimokuKinkoHyo(Windowed):
 
     @classmethod
     def term(  # type: ignore[override]
-        cls, inputs: Inputs, window: int, mask: Mask, tenkan_sen_length: int, kijun_sen_length: int, chikou_span_length: int
+        cls,
+        inputs: Inputs,
+        window: int,
+        mask: Mask,
+        tenkan_sen_length: int,
+        kijun_sen_length: int,
+        chikou_span_length: int,
     ) -> Ichimoku:
         lengths = {"tenkan_sen_length": tenkan_sen_length, "kijun_sen_length": kijun_sen_length}
         for name, length in {**lengths, "chikou_span_length": chikou_span_length + 1}.items():
             if length > window:
                 most = window if name in lengths else window - 1
-                raise ValueError(f"IchimokuKinkoHyo: {name} has to be at most {most}, for a window of {window} sessions")
+                raise ValueError(
+                    f"IchimokuKinkoHyo: {name} has to be at most {most}, for a window of {window} sessions"
+                )
 
         def middle(length: int) -> Factor:
             whole = Filter(CALL, "AllPresent", _HIGH, length) & Filter(CALL, "AllPresent", _LOW, length)
             whole = whole if mask is None else whole & mask
             high = WindowMax([_HIGH], window_length=length, mask=whole)
             low = WindowMin([_LOW], window_length=length, mask=whole)
-            return (high + low) / 2
+            line: Factor = (high + low) / 2
+            return line
 
         tenkan_sen, kijun_sen = middle(tenkan_sen_length), middle(kijun_sen_length)
         chikou_span = WindowFirst([_CLOSE], window_length=window - chikou_span_length, mask=mask)

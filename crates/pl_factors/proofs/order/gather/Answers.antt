@@ -1,4 +1,4 @@
-use Rattle.std.proofs.Common.{◌≡◌, ◌≤◌, ◌<◌, ◌+◌, ◌++◌, ◌∷◌, [], ℤ, List, true, false, refl, ap, ap₂, sym, ◌∙◌, arith, rules, length, take, w64, to_z, of_z, pos, get_or, append-nil}
+use Rattle.std.proofs.Common.{◌≡◌, ◌≤◌, ◌<◌, ◌+◌, ◌++◌, ◌∷◌, [], true, false, ap, sym, ◌∙◌, arith, rules, length, take, w64, to_z, of_z, pos, get_or, append-nil}
 use Rattle.std.proofs.lemmas.List.{take_more_set}
 use Rattle.pl_spec.specs.Cells.{present_values}
 use Rattle.pl_lanes.proofs.Bits.{at-exact}

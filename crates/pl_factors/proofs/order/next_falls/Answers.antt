@@ -4,7 +4,7 @@ use Rattle.std.proofs.lemmas.Int.{to_z-of_z, ints}
 use Rattle.pl_lanes.proofs.Bits.{at-cell, at-exact, cell-fits}
 use Rattle.pl_lanes.proofs.Cells.{is_gone}
 use Rattle.pl_fixed.proofs.CellLemmas.{is_missing-not}
-use Rattle.pl_factors.proofs.Falling.{gone, deeper, as-deep, peak-cell, deep-fits, top-cell, fall-fits}
+use Rattle.pl_factors.proofs.Falling.{gone, deeper, as-deep, peak-cell, deep-fits, fall-fits}
 use Rattle.pl_factors.proofs.order.next_falls.Goals as goal
 
 pub returns-then-x : goal.returns-then-x

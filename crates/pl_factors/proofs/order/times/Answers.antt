@@ -1,4 +1,4 @@
-use Rattle.std.proofs.Common.{◌≡◌, ◌≤◌, ◌*◌, ◌*ℤ◌, ap, ap₂, ◌∙◌, arith, pos, unsigned_abs, FitsSigned, w64, get_or, inr}
+use Rattle.std.proofs.Common.{◌≤◌, arith, pos, unsigned_abs, get_or, inr}
 use Rattle.std.specs.Int.{w128}
 use Rattle.std.proofs.lemmas.Int.{to_z-of_z, to_z_pos, unsigned_abs-mul}
 use Rattle.std.proofs.lemmas.Nat.{mul-le}
