@@ -124,11 +124,8 @@ class Fundamentals(DataSet):
                 f"the language has no {name}; nearest: ",
             )
             for name in (
-                "RollingSpearman",
-                "RollingSpearmanOfReturns",
                 "EWMSTD",
                 "BusinessDaysUntilNextEvent",
-                "MaxDrawdown",
             )
         ),
         *(

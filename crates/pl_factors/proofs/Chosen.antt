@@ -1,5 +1,5 @@
 -- What is kept of the windows of one kind, and its formula, where more than a name is asked.
-use Rattle.std.proofs.Common.{◌≡◌, ◌↔◌, ◌⊎◌, true, false, nat_le, ℤ, List, length, inl, inr, ◌∙◌}
+use Rattle.std.proofs.Common.{◌≡◌, Bool, ◌↔◌, ◌⊎◌, true, false, nat_le, ℤ, List, length, inl, inr, ◌∙◌}
 use Rattle.std.specs.List.{All, count_by}
 use Rattle.pl_spec.specs.Rounding.{IsCell, is_missing}
 use Rattle.pl_pipeline.specs.Formula.{formula}
@@ -35,19 +35,34 @@ extreme-cell t k a b c cells h s = elim h [
   | inr e ↦ main-has IsCell k (kept_best true a) (rw e at s) (best-cell true a cells)
 ]
 
-pub placed-cell : (t : TermKind) (k : Kept) (a b c : List ℤ) → All IsCell a → (t ≡ kind.AroonUp) ⊎ (t ≡ kind.AroonDown) → k ≡ kept_of (kind_of t) a b c → IsCell k.main
+-- a kind that keeps the first place of the least or of the greatest cell
+placed-by : (t : TermKind) (k : Kept) (a b c : List ℤ) → (t ≡ kind.AroonUp) ⊎ (t ≡ kind.AroonDown) → k ≡ kept_of (kind_of t) a b c → (low : Bool) × (k ≡ placed_best low a)
 unfolding kind_of kept_of
-placed-cell t k a b c cells h s = elim h [
-  | inl e ↦ main-has IsCell k (placed_best false a) (rw e at s) (best-cell false a cells)
-  | inr e ↦ main-has IsCell k (placed_best true a) (rw e at s) (best-cell true a cells)
-]
+placed-by t k a b c (inl e) s = (false, rw e at s)
+placed-by t k a b c (inr e) s = (true, rw e at s)
+
+numbered-by : (t : TermKind) (k : Kept) (a b c : List ℤ) → (t ≡ kind.WindowArgMax) ⊎ (t ≡ kind.WindowArgMin) → k ≡ kept_of (kind_of t) a b c → (low : Bool) × (k ≡ placed_best low a)
+unfolding kind_of kept_of
+numbered-by t k a b c (inl e) s = (false, rw e at s)
+numbered-by t k a b c (inr e) s = (true, rw e at s)
+
+best-there : (k : Kept) (a : List ℤ) → All IsCell a → (low : Bool) × (k ≡ placed_best low a) → IsCell k.main
+best-there k a cells p = main-has IsCell k (placed_best p.0 a) p.1 (best-cell p.0 a cells)
+
+best-told : (k : Kept) (a : List ℤ) → All IsCell a → (low : Bool) × (k ≡ placed_best low a) → (is_missing k.main ≡ true) ↔ (count a ≡ 0)
+best-told k a cells p = main-has (λ x. (is_missing x ≡ true) ↔ (count a ≡ 0)) k (placed_best p.0 a) p.1 (best-known p.0 a cells)
+
+pub placed-cell : (t : TermKind) (k : Kept) (a b c : List ℤ) → All IsCell a → (t ≡ kind.AroonUp) ⊎ (t ≡ kind.AroonDown) → k ≡ kept_of (kind_of t) a b c → IsCell k.main
+placed-cell t k a b c cells h s = best-there k a cells (placed-by t k a b c h s)
 
 pub placed-known : (t : TermKind) (k : Kept) (a b c : List ℤ) → All IsCell a → (t ≡ kind.AroonUp) ⊎ (t ≡ kind.AroonDown) → k ≡ kept_of (kind_of t) a b c → (is_missing k.main ≡ true) ↔ (count a ≡ 0)
-unfolding kind_of kept_of
-placed-known t k a b c cells h s = elim h [
-  | inl e ↦ main-has (λ x. (is_missing x ≡ true) ↔ (count a ≡ 0)) k (placed_best false a) (rw e at s) (best-known false a cells)
-  | inr e ↦ main-has (λ x. (is_missing x ≡ true) ↔ (count a ≡ 0)) k (placed_best true a) (rw e at s) (best-known true a cells)
-]
+placed-known t k a b c cells h s = best-told k a cells (placed-by t k a b c h s)
+
+pub numbered-cell : (t : TermKind) (k : Kept) (a b c : List ℤ) → All IsCell a → (t ≡ kind.WindowArgMax) ⊎ (t ≡ kind.WindowArgMin) → k ≡ kept_of (kind_of t) a b c → IsCell k.main
+numbered-cell t k a b c cells h s = best-there k a cells (numbered-by t k a b c h s)
+
+pub numbered-known : (t : TermKind) (k : Kept) (a b c : List ℤ) → All IsCell a → (t ≡ kind.WindowArgMax) ⊎ (t ≡ kind.WindowArgMin) → k ≡ kept_of (kind_of t) a b c → (is_missing k.main ≡ true) ↔ (count a ≡ 0)
+numbered-known t k a b c cells h s = best-told k a cells (numbered-by t k a b c h s)
 
 pub range-cells : (t : TermKind) (k : Kept) (a b c : List ℤ) → All IsCell b → All IsCell c → t ≡ kind.FastStochasticOscillator → k ≡ kept_of (kind_of t) a b c → IsCell k.main × IsCell k.beside
 unfolding kind_of kept_of

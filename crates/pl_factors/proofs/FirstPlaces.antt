@@ -1,5 +1,5 @@
 -- The first place of a cell in a list that loses its first cell and gains a last one.
-use Rattle.std.proofs.Common.{◌≡◌, ◌≢◌, ◌≤◌, ◌<◌, ◌+◌, ◌-◌, ℕ, suc, ℤ, pos, List, [], ◌∷◌, ◌++◌, length, map, take, get_or, max, Bool, true, false, nat_lt, eqb, ◌⊎◌, inl, inr, refl, ap, ap₂, arith, sym, subst, ◌∙◌, length-append, ne_eqb}
+use Rattle.std.proofs.Common.{◌≡◌, ◌≢◌, ◌≤◌, ◌<◌, ◌+◌, ◌-◌, ℕ, zero, suc, ℤ, pos, List, [], ◌∷◌, ◌++◌, length, map, take, get_or, max, Bool, true, false, nat_lt, eqb, ◌⊎◌, inl, inr, refl, ap, ap₂, arith, sym, subst, ◌∙◌, length-append, ne_eqb}
 use Rattle.std.specs.List.{All, position_or_len}
 use Rattle.std.specs.Ordering.{int_eq}
 use Rattle.std.proofs.lemmas.Bool.{cases_lt}
@@ -40,6 +40,24 @@ ahead-next x z l e = rw e (omega arith)
 
 unlike-eq : (x y : ℤ) → x ≢ y → int_eq x y ≡ false
 unlike-eq x y h = grind (arith, ints)
+
+pub place-few : (x : ℤ) (xs : List ℤ) → first_place x xs ≤ length xs
+place-few x xs = elim (cases_lt (ahead x xs) (length xs)) [
+  | inl h ↦ let p = place-in x xs h in omega arith
+  | inr h ↦ let p = place-out x xs h in omega arith
+]
+
+ahead-is : (v : ℤ) (xs : List ℤ) (p : ℕ) → p < length xs → get_or xs p (pos 0) ≡ v → ((j : ℕ) → j < p → get_or xs j (pos 0) ≢ v) → ahead v xs ≡ p
+ahead-is v [] p h e each = absurd (omega arith)
+ahead-is v (z ∷ l) zero h e each = ahead-here v z l (ap (λ y. int_eq y v) e ∙ int_eq-itself v)
+ahead-is v (z ∷ l) (suc p) h e each =
+    ahead-next v z l (unlike-eq z v (each 0 (omega arith))) ∙ ap suc (ahead-is v l p (omega arith) e (λ j k. each (suc j) (omega arith)))
+
+-- a number has its first place where no number before is it
+pub place-is : (v : ℤ) (xs : List ℤ) (p : ℕ) → p < length xs → get_or xs p (pos 0) ≡ v → ((j : ℕ) → j < p → get_or xs j (pos 0) ≢ v) → first_place v xs ≡ p
+place-is v xs p h e each =
+    let a = ahead-is v xs p h e each in
+    place-in v xs (omega arith) ∙ a
 
 place-first : (x : ℤ) (l : List ℤ) → first_place x (x ∷ l) ≡ 0
 place-first x l = let e = ahead-here x x l (int_eq-itself x) in place-in x (x ∷ l) (omega arith) ∙ e

@@ -5,7 +5,7 @@ use Rattle.std.proofs.lemmas.List.Elements.{All-get_or}
 use Rattle.pl_spec.specs.Rounding.{IsCell, MISSING}
 use Rattle.pl_pipeline.specs.Formula.{formula, oldest}
 use Rattle.pl_pipeline.specs.Kind.Kind.{Window}
-use Rattle.pl_pipeline.specs.declared.WindowKind.TheVariants.{Latest}
+use Rattle.pl_pipeline.specs.declared.WindowKind.TheVariants.{Latest, WindowFirst}
 use Rattle.pl_factors.specs.Lanes.{AreValues, window_at}
 
 any_default : (xs : List ℤ) (x y : ℤ) → 0 < length xs → get_or xs 0 x ≡ get_or xs 0 y
@@ -28,3 +28,7 @@ module _ (size n : ℕ) (a : List ℤ) (cells : All IsCell a) (some : 1 ≤ size
     each = λ j h. copied j h ∙ sym (oldest_at j h);
     cell = λ j h. subst IsCell (sym (copied j h)) (All-get_or IsCell a j (pos 0) (omega (arith, h, some, room)) cells);
   }
+
+  pub first_are : (b c : List ℤ) → AreValues (Window WindowFirst) size a b c n out
+  unfolding formula
+  first_are b c = record { each = (latest_are b c).each; cell = (latest_are b c).cell }

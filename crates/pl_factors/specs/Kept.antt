@@ -8,7 +8,7 @@ use Rattle.pl_pipeline.specs.Formula.{products, places, differences, gains, loss
 use Rattle.pl_pipeline.specs.Kind.{Kind}
 use Rattle.pl_pipeline.specs.declared.WindowKind.{WindowKind}
 use Rattle.pl_pipeline.specs.Kind.Kind.{Window}
-use Rattle.pl_pipeline.specs.declared.WindowKind.TheVariants.{SimpleMovingAverage, LinearWeightedMovingAverage, WindowSum, WindowMax, WindowMin, FastStochasticOscillator, AroonUp, AroonDown, WindowStd, BollingerMiddle, BollingerLower, BollingerUpper, RSI, VWAP, AverageDollarVolume, WeightedAverageValue, All, Any, AtLeastN, AllPresent}
+use Rattle.pl_pipeline.specs.declared.WindowKind.TheVariants.{SimpleMovingAverage, LinearWeightedMovingAverage, WindowSum, WindowMax, WindowMin, FastStochasticOscillator, AroonUp, AroonDown, WindowArgMax, WindowArgMin, WindowStd, BollingerMiddle, BollingerLower, BollingerUpper, RSI, VWAP, AverageDollarVolume, WeightedAverageValue, All, Any, AtLeastN, AllPresent}
 
 -- two sums and a count; which they are depends on the kind
 pub record Kept : Type 0 where
@@ -73,6 +73,8 @@ kept_of_window WindowMin a b c = kept_best true a
 kept_of_window FastStochasticOscillator a b c = range b c
 kept_of_window AroonUp a b c = placed_best false a
 kept_of_window AroonDown a b c = placed_best true a
+kept_of_window WindowArgMax a b c = placed_best false a
+kept_of_window WindowArgMin a b c = placed_best true a
 kept_of_window k a b c = nothing
 
 unfoldable pub kept_of : Kind → List ℤ → List ℤ → List ℤ → Kept

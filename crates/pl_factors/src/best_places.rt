@@ -6,13 +6,13 @@ ghost use Rattle.std.specs.List.{All};
 ghost use Rattle.pl_spec.specs.Limits.{most_window};
 ghost use Rattle.pl_spec.specs.Rounding.{IsCell, MISSING, is_missing};
 ghost use Rattle.pl_spec.specs.Cells.{count};
-ghost use Rattle.pl_pipeline.specs.Formula.{place_of};
+ghost use Rattle.pl_pipeline.specs.Formula.{place_of, place_number};
 ghost use Rattle.pl_lanes.specs.Heights.{rank, best_of};
 ghost use Rattle.pl_factors.specs.Terms.{first_place};
 ghost use Rattle.pl_factors.specs.Kept.{placed_best};
 ghost use Rattle.pl_factors.specs.Spans.{before, after};
 
-use crate::places::{first_place, place_of};
+use crate::places::{first_place, place_number, place_of};
 use crate::running::Running;
 use pl_fixed::MISSING;
 use pl_lanes::best_present;
@@ -101,4 +101,16 @@ pub(crate) fn place_value(kept: &Running, a: &[i64]) -> i64
     ensures cell { IsCell result }
 {
     place_of(kept.main as i64, kept.number, a)
+}
+
+// A place from 1 for the oldest cell.
+pub(crate) fn numbered_place(kept: &Running, a: &[i64]) -> i64
+    requires few { length a.now ≤ most_window }
+    requires cell { IsCell kept.now.main }
+    requires known { (is_missing kept.now.main ≡ true) ↔ (count a.now ≡ 0) }
+    requires place { kept.now.number ≡ first_place kept.now.main a.now }
+    ensures value { result ≡ place_number kept.now.main a.now }
+    ensures cell { IsCell result }
+{
+    place_number(kept.main as i64, kept.number, a)
 }

@@ -1,11 +1,11 @@
 //! The values of a formula over windows that follow on each other, each a cell later than the one before.
-ghost use Rattle.std.specs.Prelude.{◌≡◌, ◌+◌, ◌*◌, ◌<◌, ◌≤◌, ℤ, pos, ◌≤ℤ◌, unsigned_abs, List, true, All, IsTrue, length};
+ghost use Rattle.std.specs.Prelude.{◌≡◌, ◌⊎◌, ◌+◌, ◌*◌, ◌<◌, ◌≤◌, ℤ, pos, ◌≤ℤ◌, unsigned_abs, List, true, All, IsTrue, length};
 ghost use Rattle.pl_spec.specs.Limits.{most_window};
 ghost use Rattle.pl_spec.specs.Rounding.{IsCell, MILLION};
 ghost use Rattle.pl_spec.specs.Cells.{total};
 ghost use Rattle.pl_pipeline.specs.Kind.Kind.{Window};
 ghost use Rattle.pl_pipeline.specs.declared.WindowKind.TheVariants.{ExponentialWeightedMovingAverage, Latest};
-ghost use Rattle.pl_pipeline.specs.declared.WindowKind.TheVariants.{SimpleMovingAverage};
+ghost use Rattle.pl_pipeline.specs.declared.WindowKind.TheVariants.{SimpleMovingAverage, WindowFirst};
 ghost use Rattle.pl_terms.specs.Kinds.{kind_of};
 ghost use Rattle.pl_factors.specs.Kinds.{formula_of};
 ghost use Rattle.pl_factors.specs.Kept.{kept_of};
@@ -31,12 +31,12 @@ fn least_of(kind: &TermKind) -> usize {
     }
 }
 
-// Is the kind the latest value?
+// Is the kind the first value of the window?
 #[tactic(auto, unfolding(pl_terms::specs::Kinds::kind_of))]
-fn is_latest(kind: &TermKind) -> bool
-    ensures { result ≡ true → kind_of kind.now ≡ Window Latest }
+fn is_first(kind: &TermKind) -> bool
+    ensures { result ≡ true → (kind_of kind.now ≡ Window Latest) ⊎ (kind_of kind.now ≡ Window WindowFirst) }
 {
-    matches!(kind, TermKind::Latest)
+    matches!(kind, TermKind::Latest | TermKind::WindowFirst)
 }
 
 // Do the windows of a kind slide, and has each input that it reads windows?
@@ -146,12 +146,13 @@ fn fill_means(size: usize, a: &[i64], out: &mut [i64])
     }
 }
 
-// The latest values, which are the first cells of the windows.
-fn fill_latest(size: usize, a: &[i64], out: &mut [i64])
+// The first cells of the windows.
+fn fill_first(size: usize, a: &[i64], out: &mut [i64])
     requires cells { All IsCell a.now }
     requires some { 1 ≤ size }
     requires long { size + length out.old ≤ length a.now + 1 }
-    ensures { (b c : List ℤ) → AreValues (Window Latest) size a.now b c (length out.old) out.new }
+    ensures latest { (b c : List ℤ) → AreValues (Window Latest) size a.now b c (length out.old) out.new }
+    ensures first { (b c : List ℤ) → AreValues (Window WindowFirst) size a.now b c (length out.old) out.new }
 {
     let count = out.len();
     out.copy_from_slice(&a[..count]);
@@ -219,8 +220,8 @@ pub fn fill_values(kind: &TermKind, size: usize, a: &[i64], b: &[i64], c: &[i64]
     ensures long { length out.new ≡ length out.old }
     ensures values { AreValues (kind_of kind.now) size a.now b.now c.now (length out.old) out.new }
 {
-    if is_latest(kind) && size > 0 && !a.is_empty() {
-        fill_latest(size, a, out);
+    if is_first(kind) && size > 0 && !a.is_empty() {
+        fill_first(size, a, out);
     } else if !out.is_empty() && slides(kind, size, a, b, c) {
         match kind {
             TermKind::SimpleMovingAverage => fill_means(size, a, out),

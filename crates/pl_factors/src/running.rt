@@ -7,7 +7,7 @@ ghost use Rattle.pl_factors.specs.Kinds.{formula_of};
 ghost use Rattle.pl_factors.specs.Kept.{Kept, nothing, kept_of};
 ghost use Rattle.pl_factors.specs.Spans.{TakesWindows, TakesSpans, before, after};
 
-use crate::best_places::{next_placed_best, place_value, placed_best};
+use crate::best_places::{next_placed_best, numbered_place, place_value, placed_best};
 use crate::extremes::{best_kept, next_kept, next_range, range_of};
 use crate::formula;
 use crate::spreads::{bollinger, deviation};
@@ -58,8 +58,8 @@ impl Running {
             TermKind::WindowMax => best_kept(false, a),
             TermKind::WindowMin => best_kept(true, a),
             TermKind::FastStochasticOscillator => range_of(b, c),
-            TermKind::AroonUp => placed_best(false, a),
-            TermKind::AroonDown => placed_best(true, a),
+            TermKind::AroonUp | TermKind::WindowArgMax => placed_best(false, a),
+            TermKind::AroonDown | TermKind::WindowArgMin => placed_best(true, a),
             _ => nothing(),
         }
     }
@@ -88,8 +88,8 @@ impl Running {
             TermKind::WindowMax => next_kept(false, self, a),
             TermKind::WindowMin => next_kept(true, self, a),
             TermKind::FastStochasticOscillator => next_range(self, b, c),
-            TermKind::AroonUp => next_placed_best(false, self, a),
-            TermKind::AroonDown => next_placed_best(true, self, a),
+            TermKind::AroonUp | TermKind::WindowArgMax => next_placed_best(false, self, a),
+            TermKind::AroonDown | TermKind::WindowArgMin => next_placed_best(true, self, a),
             _ => nothing(),
         };
     }
@@ -120,6 +120,7 @@ impl Running {
             TermKind::WindowMax | TermKind::WindowMin => extreme(self),
             TermKind::FastStochasticOscillator => stochastic(self, a),
             TermKind::AroonUp | TermKind::AroonDown => place_value(self, a),
+            TermKind::WindowArgMax | TermKind::WindowArgMin => numbered_place(self, a),
             _ => formula(kind, a, b, c),
         }
     }
@@ -153,6 +154,11 @@ pub fn keeps(kind: &TermKind) -> bool
         | TermKind::RegressionSlope
         | TermKind::RegressionIntercept
         | TermKind::RegressionError
+        | TermKind::WindowPercentile { .. }
+        | TermKind::WindowRank
+        | TermKind::WindowFirst
+        | TermKind::MaxDrawdown
+        | TermKind::RankCorrelation
         | TermKind::TrueRange => false,
         _ => true,
     }

@@ -8,7 +8,7 @@ use Rattle.std.proofs.Math.Nat.{div-le_of_le-mul}
 use Rattle.pl_spec.specs.Rounding.{MISSING, MILLION, LIMIT, IsRoot, isqrt, neg, to_cell}
 use Rattle.pl_spec.proofs.Roots.{isqrt-is_root}
 use Rattle.pl_spec.proofs.Signed.{unsigned_abs-neg}
-use Rattle.pl_pipeline.specs.Formula.{present_pairs, pair_sums, spread_x, spread_y, joint_spread, square, near_root, root_quot, correlation}
+use Rattle.pl_pipeline.specs.Formula.{present_pairs, sums_of_pairs, spread_x, spread_y, joint_spread, square, near_root, root_quot, correlation}
 use Rattle.pl_invariance.specs.Paired.{IsWithinOne, CorrelationsAreBounded}
 use Rattle.pl_invariance.proofs.Schwarz.{cauchy-schwarz}
 
@@ -51,12 +51,12 @@ turned-by v true (inr k) = let few = k.few in inr (rw k.is (omega (arith, unsign
 turned-by v false (inl e) = inl e
 turned-by v false (inr k) = let few = k.few in inr (rw k.is (omega arith))
 
-bounded : (xs ys : List ℤ) → IsWithinOne (correlation (pair_sums xs ys))
+pub bounded-pairs : (ps : List (ℤ × ℤ)) → IsWithinOne (correlation (sums_of_pairs ps))
 unfolding correlation
-bounded xs ys =
-    let s = pair_sums xs ys in
+bounded-pairs ps =
+    let s = sums_of_pairs ps in
     let d = unsigned_abs (spread_x s) * unsigned_abs (spread_y s) in
-    turned-by (root_quot (square (joint_spread s) * 10 ^ 12) d) (int_lt (joint_spread s) (pos 0)) (quotient-small (square (joint_spread s)) d (cauchy-schwarz (present_pairs xs ys)))
+    turned-by (root_quot (square (joint_spread s) * 10 ^ 12) d) (int_lt (joint_spread s) (pos 0)) (quotient-small (square (joint_spread s)) d (cauchy-schwarz ps))
 
 pub correlations-are-bounded : CorrelationsAreBounded
-correlations-are-bounded = bounded
+correlations-are-bounded xs ys = bounded-pairs (present_pairs xs ys)

@@ -12,7 +12,8 @@ use Rattle.pl_spec.specs.Rounding.{MISSING, MILLION, Fraction, is_missing, is_pr
 use Rattle.pl_spec.specs.declared.Compare.{Compare}
 use Rattle.pl_spec.specs.declared.Compare.TheVariants.{Less, LessEqual, Greater, GreaterEqual, Equal, NotEqual}
 use Rattle.pl_spec.proofs.Each.{Each, each_more}
-use Rattle.pl_pipeline.specs.Cross.{Entry, values, count_less, count_equal, value_at, edge, bin_of, is_percentile_between, center, cross}
+use Rattle.pl_pipeline.specs.Cross.{Entry, values, bin_of, is_percentile_between, center, cross}
+use Rattle.pl_pipeline.specs.Order.{count_less, count_equal, value_at, edge}
 use Rattle.pl_pipeline.specs.Formula.{spread}
 use Rattle.pl_pipeline.specs.declared.RankOrder.TheVariants.{Ascending}
 use Rattle.pl_invariance.specs.Crossed.{AreUnrounded, CrossesHaveNoUnit, ScreensHaveNoUnit}

@@ -12,6 +12,7 @@ pub mod Ring
 pub mod Schwarz
 pub mod Bounded
 pub mod Paired
+pub mod Ordered
 pub mod Worked
 pub mod Units
 pub mod Formulas

@@ -14,7 +14,8 @@ use Rattle.pl_pipeline.specs.declared.RankMethod.{RankMethod}
 use Rattle.pl_pipeline.specs.declared.RankMethod.TheVariants.{Ordinal, Min, Max, Dense, Average}
 use Rattle.pl_pipeline.specs.declared.RankOrder.{RankOrder}
 use Rattle.pl_pipeline.specs.declared.RankOrder.TheVariants.{Ascending, Descending}
-use Rattle.pl_pipeline.specs.Cross.{Entry, values, precedes, preceding, count_equal, earlier_same, distinct_values, ordinal, rank, cross}
+use Rattle.pl_pipeline.specs.Cross.{Entry, values, earlier_same, distinct_values, ordinal, rank, cross}
+use Rattle.pl_pipeline.specs.Order.{precedes, preceding, count_equal}
 use Rattle.pl_pipeline.proofs.Bins.{times-le}
 use Rattle.pl_invariance.specs.Ranked.{IsExact, scaled_entry, RanksHaveNoUnit}
 use Rattle.pl_invariance.proofs.Exact.{cancel}

@@ -7,5 +7,6 @@ pub mod Compared
 pub mod Ranked
 pub mod Restated
 pub mod Paired
+pub mod Ordered
 pub mod Units
 pub mod Crossed

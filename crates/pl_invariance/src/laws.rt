@@ -1,6 +1,7 @@
 //! The laws. The functions do nothing: the contract of each is a law.
 ghost use Rattle.pl_invariance.specs.Alone.{NumbersStandAlone};
 ghost use Rattle.pl_invariance.specs.Compared.{ChangesHaveNoUnit};
+ghost use Rattle.pl_invariance.specs.Ordered.{MediansAreMiddles, PercentilesAreBetween, RankCorrelationsAreBounded, WindowRanksAreRanks};
 ghost use Rattle.pl_invariance.specs.Paired.{CorrelationsAreBounded, PairsHaveNoOrder, ValuesExplainThemselves};
 ghost use Rattle.pl_invariance.specs.Crossed.{CrossesHaveNoUnit, ScreensHaveNoUnit};
 ghost use Rattle.pl_invariance.specs.Priced.{PricesHaveUnits};
@@ -66,6 +67,29 @@ pub fn pairs_have_no_order()
 /// guards the sign of the root, and which of the two inputs a regression divides by.
 pub fn values_explain_themselves()
     ensures { ValuesExplainThemselves }
+{}
+
+/// So does a correlation of ranks.
+pub fn rank_correlations_are_bounded()
+    ensures { RankCorrelationsAreBounded }
+{}
+
+/// A percentile of a window lies between its least present value and its greatest, in every hundredth of a
+/// percent. It guards the points between neighbors.
+pub fn percentiles_are_between()
+    ensures { PercentilesAreBetween }
+{}
+
+/// The percentile 50 of an odd number of present values is the middle one in ascending order. It guards where
+/// the way from the least to the greatest begins and ends.
+pub fn medians_are_middles()
+    ensures { MediansAreMiddles }
+{}
+
+/// The rank in a window is that of the newest value by the average method of a cross-section of the same
+/// values, over their number. It guards how ties are ranked.
+pub fn window_ranks_are_ranks()
+    ensures { WindowRanksAreRanks }
 {}
 
 /// What is of the price's unit is scaled with the prices: the latest, the least and the greatest, sums and

@@ -12,7 +12,8 @@ use Rattle.std.proofs.lemmas.Option.{slice_get_within, get_or_from_slice_get}
 use Rattle.std.proofs.lemmas.Simd.{map-map}
 use Rattle.pl_pipeline.specs.declared.RankOrder.{RankOrder}
 use Rattle.pl_pipeline.specs.declared.RankOrder.TheVariants.{Ascending, Descending}
-use Rattle.pl_pipeline.specs.Cross.{Entry, values, precedes, preceding, earlier_same, ordinal}
+use Rattle.pl_pipeline.specs.Cross.{Entry, values, earlier_same, ordinal}
+use Rattle.pl_pipeline.specs.Order.{precedes, preceding}
 use Rattle.pl_laws.specs.ListLaws.{ComesBefore}
 use Rattle.pl_spec.proofs.Counts.{count-cons, count-within, count-fewer, map-agree}
 use Rattle.pl_spec.proofs.Members.{In, in-contains}

@@ -8,7 +8,8 @@ use Rattle.std.proofs.lemmas.List.Sums.{count_by-le-length}
 use Rattle.std.proofs.lemmas.Nat.{mul-le}
 use Rattle.pl_spec.specs.Rounding.{MILLION}
 use Rattle.pl_pipeline.specs.Kind.CrossKind.{Winsorize}
-use Rattle.pl_pipeline.specs.Cross.{Entry, values, value_at, count_less, count_equal, winsorized, cross}
+use Rattle.pl_pipeline.specs.Cross.{Entry, values, winsorized, cross}
+use Rattle.pl_pipeline.specs.Order.{value_at, count_less, count_equal}
 use Rattle.pl_spec.proofs.Counts.{count-fewer}
 use Rattle.pl_spec.proofs.Members.{In, contains-in}
 use Rattle.pl_pipeline.proofs.SortedValues.{at_most-below, value_at-counted, value_at-le}

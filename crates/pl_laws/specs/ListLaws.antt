@@ -11,7 +11,8 @@ use Rattle.pl_pipeline.specs.declared.WindowKind.{WindowKind}
 use Rattle.pl_pipeline.specs.declared.WindowKind.TheVariants as window
 use Rattle.pl_pipeline.specs.Kind.CrossKind.{Top, Bottom, PercentileBetween, Winsorize}
 use Rattle.pl_pipeline.specs.CrossFacts.{IsValueAt, edge_of, AreRanks, negated}
-use Rattle.pl_pipeline.specs.Cross.{Entry, values, precedes, ordinal, rank, value_at, edge, bin_of, cross, winsorized}
+use Rattle.pl_pipeline.specs.Cross.{Entry, values, ordinal, rank, bin_of, cross, winsorized}
+use Rattle.pl_pipeline.specs.Order.{precedes, value_at, edge}
 
 -- the values in ascending order are those that value_at counts out
 abbrev pub ValuesAreSorted : Type 0

@@ -7,7 +7,8 @@ use Rattle.std.proofs.lemmas.List.Sums.{count_by-le-length}
 use Rattle.std.proofs.lemmas.Nat.{mul-le}
 use Rattle.std.proofs.lemmas.List.FromFn.{length-range_with_len}
 use borrow.Author.Differences.{up, down}
-use Rattle.pl_pipeline.specs.Cross.{edge, bin_of}
+use Rattle.pl_pipeline.specs.Cross.{bin_of}
+use Rattle.pl_pipeline.specs.Order.{edge}
 use Rattle.pl_spec.proofs.Counts.{count-within}
 
 pub times-le : (x y : ℤ) (n : ℕ) → x ≤ℤ y → (x *ℤ pos n) ≤ℤ (y *ℤ pos n)

@@ -11,7 +11,8 @@ use Rattle.std.proofs.Math.Nat.{div-mul-le_self, lt-div-mul-add}
 use Rattle.std.proofs.lemmas.List.FromFn.{length-range_with_len}
 use Rattle.pl_spec.specs.Cells.{truth}
 use Rattle.pl_pipeline.specs.Kind.CrossKind.{PercentileBetween}
-use Rattle.pl_pipeline.specs.Cross.{Entry, values, count_less, count_equal, value_at, edge, bin_of, is_percentile_between, cross}
+use Rattle.pl_pipeline.specs.Cross.{Entry, values, bin_of, is_percentile_between, cross}
+use Rattle.pl_pipeline.specs.Order.{count_less, count_equal, value_at, edge}
 use Rattle.pl_pipeline.specs.CrossFacts.{edge_of}
 use Rattle.pl_pipeline.proofs.Bins.{times-le, bins-few}
 use Rattle.pl_spec.proofs.Counts.{count-cons, count-fewer}

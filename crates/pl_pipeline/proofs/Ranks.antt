@@ -12,7 +12,8 @@ use Rattle.pl_pipeline.specs.declared.RankMethod.{RankMethod}
 use Rattle.pl_pipeline.specs.declared.RankMethod.TheVariants.{Ordinal, Min, Max, Dense, Average}
 use Rattle.pl_pipeline.specs.declared.RankOrder.{RankOrder}
 use Rattle.pl_pipeline.specs.declared.RankOrder.TheVariants.{Ascending, Descending}
-use Rattle.pl_pipeline.specs.Cross.{Entry, values, precedes, preceding, count_equal, earlier_same, distinct_values, rank}
+use Rattle.pl_pipeline.specs.Cross.{Entry, values, earlier_same, distinct_values, rank}
+use Rattle.pl_pipeline.specs.Order.{precedes, preceding, count_equal}
 use Rattle.pl_pipeline.specs.CrossFacts.{AreRanks, negated}
 use Rattle.pl_spec.proofs.Counts.{count-cons, count-fewer, count-agree, count-map}
 use Rattle.pl_spec.proofs.Members.{contains-in}

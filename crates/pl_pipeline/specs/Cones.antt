@@ -5,7 +5,7 @@ use Rattle.pl_pipeline.specs.Kind.{Kind}
 use Rattle.pl_pipeline.specs.Kind.Kind.{Window}
 use Rattle.pl_pipeline.specs.Term.{Node, Graph, term_at}
 use Rattle.pl_pipeline.specs.Term.Input.{TermInput}
-use Rattle.pl_pipeline.specs.Graph.{input_number, contains, mentions_at}
+use Rattle.pl_pipeline.specs.Graph.{input_number, mentions_at}
 use Rattle.pl_pipeline.specs.Value.{is_steady}
 
 -- the values of a term depend on the session from which they are seen

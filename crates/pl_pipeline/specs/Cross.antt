@@ -13,6 +13,7 @@ use Rattle.pl_pipeline.specs.declared.Summary.TheVariants.{Mean, StdDev, Sum, Le
 use Rattle.pl_spec.specs.Rounding.{MISSING, MILLION, is_present, quot, sub, div_round, to_cell}
 use Rattle.pl_spec.specs.Cells.{total, truth, is_true}
 use Rattle.pl_pipeline.specs.Formula.{spread}
+use Rattle.pl_pipeline.specs.Order.{preceding, count_equal, edge, percentile, value_at}
 use Rattle.pl_pipeline.specs.Kind.{CrossKind}
 use Rattle.pl_pipeline.specs.Kind.CrossKind.{Rank, Demean, ZScore, Quantiles, Top, Bottom, PercentileBetween, PeerCount, Winsorize, Scale, Summarize}
 
@@ -22,18 +23,6 @@ Entry = ℕ × ℤ
 
 abbrev pub values : List Entry → List ℤ
 values list = map (λ e. e.1) list
-
--- v comes before x
-abbrev pub precedes : RankOrder → ℤ → ℤ → Bool
-precedes Ascending v x = int_lt v x
-precedes Descending v x = int_lt x v
-
--- how many values come before x
-abbrev pub preceding : RankOrder → ℤ → List ℤ → ℕ
-preceding order x vs = count_by (λ v. precedes order v x) vs
-
-abbrev pub count_equal : ℤ → List ℤ → ℕ
-count_equal x vs = count_by (int_eq x) vs
 
 -- the equal values of smaller sids
 abbrev pub earlier_same : ℕ → ℤ → List Entry → ℕ
@@ -55,19 +44,6 @@ rank Min order list a x = (preceding order x (values list) + 1) * MILLION
 rank Max order list a x = (preceding order x (values list) + count_equal x (values list)) * MILLION
 rank Dense order list a x = (preceding order x (distinct_values (values list)) + 1) * MILLION
 rank Average order list a x = preceding order x (values list) * MILLION + (count_equal x (values list) + 1) * MILLION / 2
-
-abbrev pub count_less : ℤ → List ℤ → ℕ
-count_less x vs = preceding Ascending x vs
-
--- the value with at most i values below it and more than i at most it: the place i from 0 in ascending order
-abbrev pub value_at : List ℤ → ℕ → ℤ
-value_at vs i = unwrap_or (find (λ v. nat_le (count_less v vs) i && nat_lt i (count_less v vs + count_equal v vs)) vs) (pos 0)
-
--- n times the point that lies p / n places above the least value, on the lines between neighbors
-abbrev pub edge : List ℤ → ℕ → ℕ → ℤ
-edge vs p n =
-    let i = p / n in let r = p - i * n in
-    value_at vs i *ℤ pos (n - r) +ℤ value_at vs (i + 1) *ℤ pos r
 
 -- how many of the edges between the bins lie below x
 abbrev pub bin_of : ℕ → List ℤ → ℤ → ℕ
@@ -97,10 +73,6 @@ scaled_to_one vs x = quot (x *ℤ pos MILLION) (pos (sum_by unsigned_abs vs))
 abbrev pub if_some : List ℤ → ℤ → ℤ
 if_some [] v = MISSING
 if_some vs v = v
-
--- the point `percent` hundredths of a percent of the way from the least value to the greatest
-abbrev pub percentile : ℕ → List ℤ → ℤ
-percentile percent vs = quot (edge vs (percent * (length vs - 1)) 10000) (pos 10000)
 
 unfoldable pub summary : Summary → List ℤ → ℤ
 summary Mean vs = quot (total vs) (pos (length vs))

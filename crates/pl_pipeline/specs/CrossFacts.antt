@@ -2,7 +2,8 @@
 use Rattle.std.specs.Prelude.{◌≡◌, ℕ, ◌+◌, ◌-◌, ◌*◌, ◌<◌, ◌≤◌, ℤ, neg_ℤ, List, length, map, Contains}
 use Rattle.pl_pipeline.specs.declared.RankMethod.TheVariants.{Ordinal, Min, Max, Dense, Average}
 use Rattle.pl_pipeline.specs.declared.RankOrder.{RankOrder}
-use Rattle.pl_pipeline.specs.Cross.{Entry, rank, count_less, count_equal, edge}
+use Rattle.pl_pipeline.specs.Cross.{Entry, rank}
+use Rattle.pl_pipeline.specs.Order.{count_less, count_equal, edge}
 
 -- v is a value, with at most i values below it and more than i at most it
 pub record IsValueAt (vs : List ℤ) (i : ℕ) (v : ℤ) : Type 0 where

@@ -1,6 +1,6 @@
 -- The logarithm, the exponential, the root and the sign of a cell, the greater and the lesser of two cells.
 -- Each result is rounded once, to the nearest millionth.
-use Rattle.std.specs.Prelude.{ℕ, zero, suc, ◌+◌, ◌-◌, ◌*◌, ◌/◌, ◌^◌, nat_lt, Bool, ◌||◌, if◌then◌else◌, ℤ, pos, ◌-ℤ◌, ◌*ℤ◌, neg_ℤ}
+use Rattle.std.specs.Prelude.{ℕ, zero, suc, ◌+◌, ◌-◌, ◌*◌, ◌/◌, ◌^◌, nat_lt, ◌||◌, if◌then◌else◌, ℤ, pos, ◌-ℤ◌, ◌*ℤ◌, neg_ℤ}
 use Rattle.std.specs.Int.RustNames.{unsigned_abs, int_lt, int_le}
 use Rattle.std.specs.Int.{int_max, int_min}
 use Rattle.pl_spec.specs.Rounding.{MISSING, MILLION, is_missing, div_round, quot, isqrt, of_both}

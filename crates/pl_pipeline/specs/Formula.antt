@@ -1,14 +1,15 @@
 -- The formulas over a window: each is a sum, a greatest or least, a count or a quotient over plain lists,
 -- oldest first.
-use Rattle.std.specs.Prelude.{ℕ, zero, suc, ◌+◌, ◌-◌, ◌*◌, ◌/◌, ◌^◌, ◌&&◌, if◌then◌else◌, ◌==◌, nat_le, ℤ, pos, ◌+ℤ◌, ◌-ℤ◌, ◌*ℤ◌, neg_ℤ, List, [], ◌∷◌, length, map, filter, drop, unwrap_or, sum_by, count_by, get_or, position, zip}
+use Rattle.std.specs.Prelude.{ℕ, zero, suc, ◌+◌, ◌-◌, ◌*◌, ◌/◌, ◌^◌, ◌&&◌, if◌then◌else◌, ◌==◌, nat_le, ℤ, pos, ◌+ℤ◌, ◌-ℤ◌, ◌*ℤ◌, neg_ℤ, List, [], ◌∷◌, length, map, filter, drop, take, unwrap_or, sum_by, count_by, get_or, position, zip}
 use Rattle.std.specs.List.{list_any, list_all, range_with_len}
 use Rattle.std.specs.Int.RustNames.{unsigned_abs, int_lt}
 use Rattle.std.specs.Ordering.{int_eq}
 use Rattle.pl_spec.specs.Rounding.{MISSING, MILLION, is_missing, is_present, to_cell, quot, of_both, add, sub, mul, neg, div_round, isqrt}
 use Rattle.pl_spec.specs.Window.{downward}
 use Rattle.pl_pipeline.specs.declared.WindowKind.{WindowKind}
-use Rattle.pl_pipeline.specs.declared.WindowKind.TheVariants.{Latest, SimpleMovingAverage, LinearWeightedMovingAverage, WindowSum, WindowMax, WindowMin, WindowStd, BollingerMiddle, BollingerLower, BollingerUpper, Returns, PercentChange, RateOfChangePercentage, RSI, VWAP, AverageDollarVolume, WeightedAverageValue, FastStochasticOscillator, TrueRange, ExponentialWeightedMovingAverage, AroonUp, AroonDown, Correlation, Covariance, RegressionSlope, RegressionIntercept, RegressionError, All, Any, AtLeastN, AllPresent}
+use Rattle.pl_pipeline.specs.declared.WindowKind.TheVariants.{Latest, SimpleMovingAverage, LinearWeightedMovingAverage, WindowSum, WindowMax, WindowMin, WindowStd, BollingerMiddle, BollingerLower, BollingerUpper, Returns, PercentChange, RateOfChangePercentage, RSI, VWAP, AverageDollarVolume, WeightedAverageValue, FastStochasticOscillator, TrueRange, ExponentialWeightedMovingAverage, AroonUp, AroonDown, Correlation, Covariance, RegressionSlope, RegressionIntercept, RegressionError, WindowPercentile, WindowRank, WindowArgMax, WindowArgMin, WindowFirst, MaxDrawdown, RankCorrelation, All, Any, AtLeastN, AllPresent}
 use Rattle.pl_spec.specs.Cells.{truth, is_true, present_values, total, count, greatest, least}
+use Rattle.pl_pipeline.specs.Order.{twice_rank, percentile}
 
 -- a hundred, in millionths
 abbrev pub HUNDRED : ℤ
@@ -165,6 +166,40 @@ slope_error s =
     let yy = unsigned_abs (spread_y s) in
     root_quot ((xx * yy - square (joint_spread s)) * 10 ^ 12) (xx * xx * (s.number - 2))
 
+-- ---- the places of values, and the ranks of them
+
+-- the place of the first value that equals x, from 1 for the oldest
+abbrev pub place_number : ℤ → List ℤ → ℤ
+place_number x xs =
+    let place : ℕ = unwrap_or (position (λ y. int_eq y x) xs) 0 in
+    if_any xs (pos ((place + 1) * MILLION))
+
+-- the average rank of x among the values, which are one at least, over their number
+abbrev pub rank_among : ℤ → List ℤ → ℤ
+rank_among x vs = quot (pos (twice_rank x vs * MILLION)) (pos (2 * length vs))
+
+-- how far the value in a place lies below the greatest one up to it
+abbrev pub fall : List ℤ → ℕ → ℤ
+fall xs n =
+    let x = get_or xs n MISSING in
+    if is_missing x then MISSING else greatest (take (n + 1) xs) -ℤ x
+
+abbrev pub falls : List ℤ → List ℤ
+falls xs = map (fall xs) (range_with_len 0 (length xs))
+
+-- the deepest fall, over the value at its end; of equal falls the first counts
+unfoldable pub drawdown : List ℤ → ℤ
+drawdown xs =
+    let deepest = greatest (falls xs) in
+    let end : ℕ = unwrap_or (position (λ y. int_eq y deepest) (falls xs)) 0 in
+    if_any xs (quot (deepest *ℤ pos MILLION) (get_or xs end MISSING))
+
+-- twice the average ranks of the values of each pair, among the first and among the second values
+abbrev pub ranked : List (ℤ × ℤ) → List (ℤ × ℤ)
+ranked ps =
+    let ranks : (ℤ × ℤ) → ℤ × ℤ =
+    λ p. (pos (twice_rank p.0 (map (λ q. q.0) ps)), pos (twice_rank p.1 (map (λ q. q.1) ps))) in map ranks ps
+
 -- a, b and c are the windows of the kind's inputs, in order
 unfoldable pub formula : WindowKind → List ℤ → List ℤ → List ℤ → ℤ
 formula Latest a b c = oldest a
@@ -200,6 +235,13 @@ formula Covariance y x c = covariance (pair_sums x y)
 formula RegressionSlope y x c = slope (pair_sums x y)
 formula RegressionIntercept y x c = intercept (pair_sums x y)
 formula RegressionError y x c = slope_error (pair_sums x y)
+formula (WindowPercentile percent) a b c = if_any a (percentile percent (present_values a))
+formula WindowRank a b c = if is_missing (newest a) then MISSING else rank_among (newest a) (present_values a)
+formula WindowArgMax a b c = place_number (greatest a) a
+formula WindowArgMin a b c = place_number (least a) a
+formula WindowFirst a b c = oldest a
+formula MaxDrawdown a b c = drawdown a
+formula RankCorrelation y x c = correlation (sums_of_pairs (ranked (present_pairs x y)))
 formula All a b c = truth (list_all is_true a)
 formula Any a b c = truth (list_any is_true a)
 formula (AtLeastN n) a b c = truth (nat_le n (count_by is_true a))

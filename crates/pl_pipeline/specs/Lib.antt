@@ -1,5 +1,6 @@
 -- What the contracts of the project cite of pipelines. docs/DEFINITIONS.md has the heart of it.
 pub mod Kind
+pub mod Order
 pub mod Formula
 pub mod Elementary
 pub mod Pointwise

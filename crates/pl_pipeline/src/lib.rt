@@ -39,7 +39,7 @@ pub enum Summary {
 }
 
 /// A formula or a filter over a window, with its parameters; docs/TERMS.md has the formulas. `k` and `decay` are
-/// millionths.
+/// millionths, `percent` hundredths of a percent.
 #[derive(Clone, Copy, Debug)]
 pub enum WindowKind {
     Latest,
@@ -69,6 +69,13 @@ pub enum WindowKind {
     RegressionSlope,
     RegressionIntercept,
     RegressionError,
+    WindowPercentile { percent: u32 },
+    WindowRank,
+    WindowArgMax,
+    WindowArgMin,
+    WindowFirst,
+    MaxDrawdown,
+    RankCorrelation,
     All,
     Any,
     AtLeastN { n: u32 },

@@ -1,8 +1,10 @@
-//! The correlation and the regression of the values of two windows.
+//! The correlation and the regression of the values of two windows, and the correlation of their ranks.
 #![tactic(auto)]
 
 mod formulas;
 mod pairs;
+mod ranks;
 
 pub use formulas::{correlation, covariance, intercept, slope, slope_error};
 pub use pairs::PairSums;
+pub use ranks::{rank_correlation, twice_rank};

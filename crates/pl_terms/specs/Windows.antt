@@ -4,7 +4,7 @@ use Rattle.pl_spec.specs.declared.Column.{Column}
 use Rattle.pl_spec.specs.declared.Column.TheVariants.{High, Low, Close, Volume}
 use Rattle.pl_pipeline.specs.Kind.{Kind, Window}
 use Rattle.pl_pipeline.specs.declared.WindowKind.{WindowKind}
-use Rattle.pl_pipeline.specs.declared.WindowKind.TheVariants.{Latest, SimpleMovingAverage, LinearWeightedMovingAverage, WindowSum, WindowMax, WindowMin, WindowStd, BollingerMiddle, BollingerLower, BollingerUpper, Returns, PercentChange, RateOfChangePercentage, RSI, VWAP, AverageDollarVolume, WeightedAverageValue, FastStochasticOscillator, TrueRange, ExponentialWeightedMovingAverage, AroonUp, AroonDown, Correlation, Covariance, RegressionSlope, RegressionIntercept, RegressionError, All, Any, AtLeastN, AllPresent}
+use Rattle.pl_pipeline.specs.declared.WindowKind.TheVariants.{Latest, SimpleMovingAverage, LinearWeightedMovingAverage, WindowSum, WindowMax, WindowMin, WindowStd, BollingerMiddle, BollingerLower, BollingerUpper, Returns, PercentChange, RateOfChangePercentage, RSI, VWAP, AverageDollarVolume, WeightedAverageValue, FastStochasticOscillator, TrueRange, ExponentialWeightedMovingAverage, AroonUp, AroonDown, Correlation, Covariance, RegressionSlope, RegressionIntercept, RegressionError, WindowPercentile, WindowRank, WindowArgMax, WindowArgMin, WindowFirst, MaxDrawdown, RankCorrelation, All, Any, AtLeastN, AllPresent}
 use Rattle.pl_terms.specs.declared.kind.WindowForm.{WindowForm}
 use Rattle.pl_terms.specs.declared.kind.WindowForm.TheVariants.{Bar, Series, LongSeries, Weighted, Pairs, Regression, Filter, Columns, LongColumns, TwoColumns}
 
@@ -46,6 +46,13 @@ row_of Covariance = row (codes "Covariance") [] Pairs false
 row_of RegressionSlope = row (codes "RegressionSlope") [] Regression false
 row_of RegressionIntercept = row (codes "RegressionIntercept") [] Regression false
 row_of RegressionError = row (codes "RegressionError") [] Regression false
+row_of (WindowPercentile percent) = row (codes "WindowPercentile") [] Series false
+row_of WindowRank = row (codes "WindowRank") [] Series true
+row_of WindowArgMax = row (codes "WindowArgMax") [] Series true
+row_of WindowArgMin = row (codes "WindowArgMin") [] Series true
+row_of WindowFirst = row (codes "WindowFirst") [] Series false
+row_of MaxDrawdown = row (codes "MaxDrawdown") [] Series true
+row_of RankCorrelation = row (codes "RankCorrelation") [] Pairs true
 row_of All = row (codes "All") [] Filter true
 row_of Any = row (codes "Any") [] Filter true
 row_of (AtLeastN n) = row (codes "AtLeastN") [] Filter true
@@ -67,7 +74,9 @@ formulas =
 
 -- and those since version 4 of the language
 abbrev pub later_formulas : List WindowKind
-later_formulas = Correlation ∷ Covariance ∷ RegressionSlope ∷ RegressionIntercept ∷ RegressionError ∷ []
+later_formulas =
+    Correlation ∷ Covariance ∷ RegressionSlope ∷ RegressionIntercept ∷ RegressionError ∷
+    WindowPercentile 0 ∷ WindowRank ∷ WindowArgMax ∷ WindowArgMin ∷ WindowFirst ∷ MaxDrawdown ∷ RankCorrelation ∷ []
 
 abbrev pub formulas_of : ℕ → List WindowKind
 formulas_of version = if nat_le 4 version then formulas ++ later_formulas else formulas

@@ -18,7 +18,8 @@ use Rattle.pl_spec.specs.Cells.{is_true}
 use Rattle.pl_pipeline.specs.declared.RankMethod.{RankMethod}
 use Rattle.pl_pipeline.specs.declared.RankMethod.TheVariants.{Ordinal, Min, Max, Dense, Average}
 use Rattle.pl_pipeline.specs.declared.RankOrder.{RankOrder}
-use Rattle.pl_pipeline.specs.Cross.{Entry, values, precedes, preceding, count_equal, earlier_same, distinct_values, rank, bin_of, cross, counts_at, entries_for, array_at, value_at, if_some, summary, is_for_all}
+use Rattle.pl_pipeline.specs.Cross.{Entry, values, earlier_same, distinct_values, rank, bin_of, cross, counts_at, entries_for, array_at, if_some, summary, is_for_all}
+use Rattle.pl_pipeline.specs.Order.{precedes, preceding, count_equal, value_at}
 use Rattle.pl_pipeline.specs.Value.{is_cross_filter}
 use Rattle.pl_pipeline.proofs.Cells.{truth-cell, chosen-has, quot-cell, sub-cell, to_cell-cell}
 use Rattle.pl_pipeline.proofs.SortedValues.{value_at-counted}

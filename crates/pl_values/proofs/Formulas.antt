@@ -12,7 +12,7 @@ use Rattle.pl_spec.specs.Window.{before, downward, seen_cell}
 use Rattle.pl_pipeline.specs.Kind.{Kind}
 use Rattle.pl_pipeline.specs.declared.WindowKind.{WindowKind}
 use Rattle.pl_pipeline.specs.Kind.Kind.{Window}
-use Rattle.pl_pipeline.specs.declared.WindowKind.TheVariants.{Latest, BollingerLower, BollingerUpper, VWAP, AverageDollarVolume, WeightedAverageValue, ExponentialWeightedMovingAverage, Correlation, Covariance, RegressionSlope, RegressionIntercept, RegressionError, All as AllTrue, Any, AtLeastN, AllPresent}
+use Rattle.pl_pipeline.specs.declared.WindowKind.TheVariants.{Latest, BollingerLower, BollingerUpper, VWAP, AverageDollarVolume, WeightedAverageValue, ExponentialWeightedMovingAverage, Correlation, Covariance, RegressionSlope, RegressionIntercept, RegressionError, All as AllTrue, Any, AtLeastN, AllPresent, TrueRange, WindowPercentile, RankCorrelation}
 use Rattle.pl_pipeline.specs.Formula.{formula}
 use Rattle.pl_pipeline.specs.Term.{Node, Input}
 use Rattle.pl_pipeline.specs.Term.Input.{BarColumn, TermInput}
@@ -170,6 +170,7 @@ takes-kind AllPresent w names a h flags cells = inr (tt, cells)
 takes-kind (BollingerLower k) w names a h flags cells = inl (positive-cell k h)
 takes-kind (BollingerUpper k) w names a h flags cells = inl (positive-cell k h)
 takes-kind (ExponentialWeightedMovingAverage d) w names a h flags cells = inl (decay-range d h)
+takes-kind (WindowPercentile percent) w names a h flags cells = inl (let most : nat_le percent 10000 ≡ true = h in grind (arith, nat_tests))
 takes-kind f w names a h flags cells = inl tt
 
 -- the kinds that take pairs have two windows
@@ -182,6 +183,7 @@ paired-places Covariance h = (_, _, refl, refl)
 paired-places RegressionSlope h = (_, _, refl, refl)
 paired-places RegressionIntercept h = (_, _, refl, refl)
 paired-places RegressionError h = (_, _, refl, refl)
+paired-places RankCorrelation h = (_, _, refl, refl)
 paired-places f h = absurd (let bad : false ≡ true = h in cc)
 
 module _ (w : World) (p : Pipeline) (sids : List ℕ) (k : ℕ) (n : Node) (own : IsNode p k n) (f : WindowKind) (e : n.kind ≡ Window f) (i s : ℕ) (a b c : List ℤ) (g : AreSeen w p sids n i s a b c) where

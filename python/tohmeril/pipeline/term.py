@@ -605,6 +605,15 @@ class Factor(Term):
         mask = _all_present(self, target, correlation_length, mask)
         return Factor(CALL, "Correlation", self, target, correlation_length, mask=mask)
 
+    def spearmanr(self, target: Factor, correlation_length: int, mask: Mask = None) -> Factor:
+        """`pearsonr` of the ranks of both, equal values having the average of their ranks: Spearman's. Units: 1.
+
+        Missing where one of the two does not change. `factors.RankCorrelation` takes the pairs of which both are
+        present.
+        """
+        mask = _all_present(self, target, correlation_length, mask)
+        return Factor(CALL, "RankCorrelation", self, target, correlation_length, mask=mask)
+
     def linear_regression(self, target: Factor, regression_length: int, mask: Mask = None) -> Regression:
         """`alpha`, `beta`, `r_value`, `p_value`, `stderr` of the line that gives the values from those of `target`.
 
@@ -743,7 +752,6 @@ _P_VALUE = Absent(
 _MONOTONE = "y itself where its order counts: rank, top and quantiles of y and of a rising function of it are the same"
 _ABSENT = {
     Factor: {
-        "spearmanr": "pearsonr, and the ranks over the table in pandas",
         "__mod__ __floordiv__": "/ and clip",
         "sinh tanh arctan arcsinh": _MONOTONE,
         "sin cos tan cosh arcsin arccos arccosh arctanh": "arithmetic",

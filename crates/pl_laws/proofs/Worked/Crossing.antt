@@ -7,7 +7,8 @@ use Rattle.pl_pipeline.specs.declared.RankOrder.TheVariants.{Ascending, Descendi
 use Rattle.pl_pipeline.specs.Kind.{CrossKind as kind}
 use Rattle.pl_pipeline.specs.declared.WindowKind.TheVariants as WindowKind
 use Rattle.pl_pipeline.specs.declared.Summary.TheVariants as summaries
-use Rattle.pl_pipeline.specs.Cross.{Entry, values, value_at, cross, summary}
+use Rattle.pl_pipeline.specs.Cross.{Entry, values, cross, summary}
+use Rattle.pl_pipeline.specs.Order.{value_at}
 use Rattle.pl_pipeline.specs.Term.Term.{absent}
 use Rattle.pl_pipeline.specs.Value.{Value}
 use Rattle.pl_pipeline.specs.Value.Value.{Number}

@@ -3,7 +3,7 @@ use Rattle.std.specs.Prelude.{◌≡◌, pos, negsuc, refl, [], ◌∷◌, map, 
 use Rattle.pl_spec.specs.Rounding.{MISSING, LIMIT}
 use Rattle.pl_spec.specs.declared.Column.TheVariants.{High, Low, Close, Volume}
 use Rattle.pl_pipeline.specs.declared.WindowKind.TheVariants as kind
-use Rattle.pl_pipeline.specs.Formula.{formula, correlation, covariance, slope, intercept, slope_error}
+use Rattle.pl_pipeline.specs.Formula.{formula, correlation, covariance, slope, intercept, slope_error, drawdown}
 use Rattle.pl_pipeline.specs.Term.Term.{column}
 use Rattle.pl_pipeline.specs.Value.Value.{Number}
 use Rattle.pl_laws.proofs.Worked.Worlds.{opened, units, bar, alone, plain, gap, no_tables, window, at_close, by_session, on}
@@ -154,3 +154,36 @@ by_one_that_stands = refl
 correlation_below_zero : formula kind.Correlation (pos 0 ∷ units 1 ∷ pos 0 ∷ units 1 ∷ units 1 ∷ []) (units 1 ∷ pos 0 ∷ units 1 ∷ pos 0 ∷ units 1 ∷ []) [] ≡ neg_ℤ (pos 666667)
 unfolding opened correlation
 correlation_below_zero = refl
+
+-- ---- by order
+
+-- of 100, 50, a missing value, 10 and 14
+values_by_order : map (λ k. formula k (units 100 ∷ units 50 ∷ MISSING ∷ units 10 ∷ units 14 ∷ []) [] [])
+    (kind.WindowPercentile 5000 ∷ kind.WindowPercentile 3333 ∷ kind.WindowRank ∷ kind.WindowArgMax ∷ kind.WindowArgMin ∷ kind.WindowFirst ∷ kind.MaxDrawdown ∷ [])
+    ≡ units 32 ∷ pos 13999600 ∷ pos 500000 ∷ units 1 ∷ units 4 ∷ units 100 ∷ units 9 ∷ []
+unfolding opened drawdown
+values_by_order = refl
+
+-- equal values share a rank, and the first of equal extremes and falls counts
+ties_by_order : map (λ k. formula k (units 100 ∷ units 120 ∷ units 90 ∷ units 120 ∷ units 90 ∷ []) [] [])
+    (kind.WindowRank ∷ kind.WindowArgMax ∷ kind.WindowArgMin ∷ kind.MaxDrawdown ∷ [])
+    ≡ pos 300000 ∷ units 2 ∷ units 3 ∷ pos 333333 ∷ []
+unfolding opened drawdown
+ties_by_order = refl
+
+-- the oldest and the newest value are missing
+gaps_at_the_ends : map (λ k. formula k (MISSING ∷ units 10 ∷ MISSING ∷ []) [] [])
+    (kind.WindowPercentile 0 ∷ kind.WindowRank ∷ kind.WindowArgMax ∷ kind.WindowFirst ∷ kind.MaxDrawdown ∷ [])
+    ≡ units 10 ∷ MISSING ∷ units 2 ∷ MISSING ∷ pos 0 ∷ []
+unfolding opened drawdown
+gaps_at_the_ends = refl
+
+-- a fall to 0 has no measure, and nothing has no fall
+falls_to_nothing : map (λ xs. formula kind.MaxDrawdown xs [] []) ((units 1 ∷ pos 0 ∷ []) ∷ (MISSING ∷ MISSING ∷ []) ∷ []) ≡ MISSING ∷ MISSING ∷ []
+unfolding opened drawdown
+falls_to_nothing = refl
+
+-- 1, 1, 2, 2 and 3 with 5, 6, 5, 6 and 6
+correlation_of_ranks : formula kind.RankCorrelation (units 5 ∷ units 6 ∷ units 5 ∷ units 6 ∷ units 6 ∷ []) (units 1 ∷ units 1 ∷ units 2 ∷ units 2 ∷ units 3 ∷ []) [] ≡ pos 304290
+unfolding opened correlation
+correlation_of_ranks = refl

@@ -150,6 +150,13 @@ RegressionError = windowed(
     "those of the slope",
     **_PAIRS,
 )
+RankCorrelation = windowed(
+    "RankCorrelation",
+    "`Correlation` of the ranks of the x_k of the pairs and of the ranks of the y_k, equal ones having the average of "
+    "their ranks: Spearman's",
+    "1, from -1 to 1",
+    **_PAIRS,
+)
 WindowSum = windowed("WindowSum", "sum of the present x_k; missing where n is 0", **_OURS)
 WindowMax = windowed("WindowMax", "greatest present x_k; missing where n is 0", **_OURS)
 WindowMin = windowed("WindowMin", "least present x_k; missing where n is 0", **_OURS)
@@ -158,6 +165,39 @@ WindowStd = windowed(
     "sqrt(sum of (x_k - mean)^2 over the present x_k / n); missing where n is 0",
     source="ours, as numpy's nanstd",
     rounding="down, of the variance and of the root: up to a millionth below a float",
+)
+WindowPercentile = windowed(
+    "WindowPercentile",
+    "the point percent / 100 of the way through the sorted present x_k, on a line between neighbors; missing where n "
+    "is 0. `percent` is a whole number of hundredths from 0 to 100",
+    source="ours, as numpy's nanpercentile",
+    params=("percent",),
+)
+WindowRank = windowed(
+    "WindowRank",
+    "rank of x_W among the present x_k, from 1 for the least, equal ones having the average of their ranks / n; "
+    "missing where x_W is",
+    "1, above 0 and up to 1",
+    source="ours, as pandas' rank(pct=True)",
+)
+WindowArgMax = windowed(
+    "WindowArgMax",
+    "place, from 1 for the oldest, of the first greatest present x_k; missing where n is 0",
+    "sessions",
+    **_OURS,
+)
+WindowArgMin = windowed(
+    "WindowArgMin",
+    "place, from 1 for the oldest, of the first least present x_k; missing where n is 0",
+    "sessions",
+    **_OURS,
+)
+WindowFirst = windowed("WindowFirst", "x_1, the value W - 1 sessions ago; missing where it is", **_OURS)
+MaxDrawdown = windowed(
+    "MaxDrawdown",
+    "(p - v) / v, v the value that lies deepest below p, the greatest one up to it, the first of equal ones; missing "
+    "where n is 0 or v is",
+    "1, as 0.25 where the peak is 1.25 times the value",
 )
 Returns = windowed(
     "Returns", "(x_W - x_1) / x_1; missing where either is", "1, as 0.05 for 5 percent", inputs=(_CLOSE,)
@@ -279,6 +319,78 @@ class BollingerBands(Windowed):
         )
 
 
+class WindowMedian(Windowed):
+    """middle one of the sorted present x_k, of an even number the mean of the two middle ones; missing where n is 0
+
+    Units: those of the input. Source: ours, as numpy's nanmedian. Rounding: once, to the nearest millionth.
+
+    >>> WindowMedian(inputs=[EquityPricing.close], window_length=20)
+    WindowPercentile(close, 20, 50)
+    """
+
+    @classmethod
+    def term(cls, inputs: Inputs, window: int, mask: Mask) -> Any:  # type: ignore[override]
+        return WindowPercentile.term(inputs, window, mask, 50)
+
+
+class Ichimoku(NamedTuple):
+    """The outputs of `IchimokuKinkoHyo`."""
+
+    tenkan_sen: Factor
+    kijun_sen: Factor
+    senkou_span_a: Factor
+    senkou_span_b: Factor
+    chikou_span: Factor
+
+
+class IchimokuKinkoHyo(Windowed):
+    """`tenkan_sen`, `kijun_sen`: (greatest high + least low) / 2 of that many sessions; `senkou_span_a`: their mean;
+    `senkou_span_b`: the same of the window; `chikou_span`: the close that has `chikou_span_length` of the window
+    before it
+
+    A line is missing where a high or a low of its sessions is. Units: those of the close. Source: Zipline. Rounding:
+    each quotient once, to the nearest millionth.
+
+    >>> IchimokuKinkoHyo().chikou_span
+    WindowFirst(close, 26)
+    """
+
+    inputs = (_HIGH, _LOW, _CLOSE)
+    window_length = 52
+    params = {"tenkan_sen_length": 9, "kijun_sen_length": 26, "chikou_span_length": 26}
+    fixed = True
+
+    @classmethod
+    def term(  # type: ignore[override]
+        cls,
+        inputs: Inputs,
+        window: int,
+        mask: Mask,
+        tenkan_sen_length: int,
+        kijun_sen_length: int,
+        chikou_span_length: int,
+    ) -> Ichimoku:
+        lengths = {"tenkan_sen_length": tenkan_sen_length, "kijun_sen_length": kijun_sen_length}
+        for name, length in {**lengths, "chikou_span_length": chikou_span_length + 1}.items():
+            if length > window:
+                most = window if name in lengths else window - 1
+                raise ValueError(
+                    f"IchimokuKinkoHyo: {name} has to be at most {most}, for a window of {window} sessions"
+                )
+
+        def middle(length: int) -> Factor:
+            whole = Filter(CALL, "AllPresent", _HIGH, length) & Filter(CALL, "AllPresent", _LOW, length)
+            whole = whole if mask is None else whole & mask
+            high = WindowMax([_HIGH], window_length=length, mask=whole)
+            low = WindowMin([_LOW], window_length=length, mask=whole)
+            line: Factor = (high + low) / 2
+            return line
+
+        tenkan_sen, kijun_sen = middle(tenkan_sen_length), middle(kijun_sen_length)
+        chikou_span = WindowFirst([_CLOSE], window_length=window - chikou_span_length, mask=mask)
+        return Ichimoku(tenkan_sen, kijun_sen, (tenkan_sen + kijun_sen) / 2, middle(window), chikou_span)
+
+
 class DownUp(NamedTuple):
     """The outputs of `Aroon`."""
 
@@ -376,6 +488,11 @@ def RollingPearson(base_factor: Factor, target: Factor, correlation_length: int,
     return base_factor.pearsonr(target, correlation_length, mask)
 
 
+def RollingSpearman(base_factor: Factor, target: Factor, correlation_length: int, mask: Mask = None) -> Factor:
+    """`base_factor.spearmanr(target, correlation_length, mask)`."""
+    return base_factor.spearmanr(target, correlation_length, mask)
+
+
 def RollingLinearRegression(dependent: Factor, independent: Factor, regression_length: int, mask: Mask = None) -> Any:
     """`dependent.linear_regression(independent, regression_length, mask)`."""
     return dependent.linear_regression(independent, regression_length, mask)
@@ -404,29 +521,26 @@ def SimpleBeta(target: object, regression_length: int, allowed_missing_percentag
 
 def RollingPearsonOfReturns(target: object, returns_length: int, correlation_length: int, mask: Mask = None) -> Factor:
     """`pearsonr` of an asset's returns over `returns_length` sessions with those of one asset, `target`."""
-    returns = Returns(window_length=returns_length)
+    returns: Factor = Returns(window_length=returns_length)
     return returns.pearsonr(returns[target], correlation_length, mask)
+
+
+def RollingSpearmanOfReturns(target: object, returns_length: int, correlation_length: int, mask: Mask = None) -> Factor:
+    """`spearmanr` of an asset's returns over `returns_length` sessions with those of one asset, `target`."""
+    returns: Factor = Returns(window_length=returns_length)
+    return returns.spearmanr(returns[target], correlation_length, mask)
 
 
 def RollingLinearRegressionOfReturns(
     target: object, returns_length: int, regression_length: int, mask: Mask = None
 ) -> Any:
     """`linear_regression` of an asset's returns over `returns_length` sessions on those of one asset, `target`."""
-    returns = Returns(window_length=returns_length)
+    returns: Factor = Returns(window_length=returns_length)
     return returns.linear_regression(returns[target], regression_length, mask)
 
 
 EWMSTD, ExponentialWeightedMovingStdDev = Absent.each(
     "EWMSTD ExponentialWeightedMovingStdDev", "WindowStd, with equal weights"
-)
-MaxDrawdown = Absent(
-    "MaxDrawdown", "close.latest / WindowMax([close], window_length=W) - 1, the distance from the greatest close"
-)
-IchimokuKinkoHyo = Absent(
-    "IchimokuKinkoHyo", "(WindowMax([high], window_length=W) + WindowMin([low], window_length=W)) / 2"
-)
-RollingSpearman, RollingSpearmanOfReturns = Absent.each(
-    "RollingSpearman RollingSpearmanOfReturns", "RollingPearson, and the ranks over the table in pandas"
 )
 BusinessDaysSincePreviousEvent, BusinessDaysUntilNextEvent = Absent.each(
     "BusinessDaysSincePreviousEvent BusinessDaysUntilNextEvent", "a label that changes on the day of the event"

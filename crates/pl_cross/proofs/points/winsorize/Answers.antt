@@ -2,7 +2,8 @@ use Rattle.std.proofs.Common.{rules, pos, w64, FitsSigned, get_or, ◌∙◌, ap
 use Rattle.std.specs.Int.{int_max}
 use Rattle.std.proofs.lemmas.Int.{to_z-of_z}
 use Rattle.pl_pipeline.specs.Kind.CrossKind.{Winsorize}
-use Rattle.pl_pipeline.specs.Cross.{values, value_at}
+use Rattle.pl_pipeline.specs.Cross.{values}
+use Rattle.pl_pipeline.specs.Order.{value_at}
 use Rattle.pl_cross.specs.declared.listing.Listed.{Listed}
 use Rattle.pl_cross.specs.Listing.{entries_of}
 use Rattle.pl_cross.proofs.Answers.{answers-more}

@@ -1,6 +1,7 @@
 use Rattle.std.proofs.Common.{rules, pos, w64, FitsSigned, get_or, sym, ◌∙◌, ap, arith, ◌-◌, length}
 use Rattle.std.proofs.lemmas.Int.{to_z-of_z}
-use Rattle.pl_pipeline.specs.Cross.{values, value_at, summary}
+use Rattle.pl_pipeline.specs.Cross.{values, summary}
+use Rattle.pl_pipeline.specs.Order.{value_at}
 use Rattle.pl_cross.specs.declared.listing.Listed.{Listed}
 use Rattle.pl_cross.specs.Listing.{entries_of}
 use Rattle.pl_cross.proofs.Distinct.{length-values}

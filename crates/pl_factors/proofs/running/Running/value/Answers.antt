@@ -1,7 +1,7 @@
 use Rattle.std.proofs.Common.{◌∙◌, FitsSigned, w64}
 use Rattle.std.proofs.lemmas.Int.{to_z-of_z}
 use Rattle.pl_lanes.proofs.Bits.{cell-fits}
-use Rattle.pl_factors.proofs.Chosen.{all-is, any-is, extreme-cell, placed-cell, placed-known, range-cells}
+use Rattle.pl_factors.proofs.Chosen.{all-is, any-is, extreme-cell, numbered-cell, numbered-known, placed-cell, placed-known, range-cells}
 use Rattle.pl_factors.proofs.Kept.{kept_cell}
 use Rattle.pl_factors.proofs.running.Running.value.Goals as goal
 
@@ -81,3 +81,12 @@ returns-in-VWAP-clause-cell c = kept_cell _ c.weighted_mean.ensures.cell
 
 pub returns-in-SimpleMovingAverage-clause-cell : goal.returns-in-SimpleMovingAverage-clause-cell
 returns-in-SimpleMovingAverage-clause-cell c = kept_cell _ c.mean.ensures.cell
+
+pub numbered_place-requires-clause-cell : goal.numbered_place-requires-clause-cell
+numbered_place-requires-clause-cell c = numbered-cell _ _ _ c.args.b.now c.args.c.now c.requires.windows.first c.in-WindowArgMax.is c.requires.stands
+
+pub numbered_place-requires-clause-known : goal.numbered_place-requires-clause-known
+numbered_place-requires-clause-known c = numbered-known _ _ _ c.args.b.now c.args.c.now c.requires.windows.first c.in-WindowArgMax.is c.requires.stands
+
+pub returns-in-WindowArgMax-clause-cell : goal.returns-in-WindowArgMax-clause-cell
+returns-in-WindowArgMax-clause-cell c = kept_cell _ c.numbered_place.ensures.cell
