@@ -153,7 +153,14 @@ pub fn keeps(kind: &TermKind) -> bool
         | TermKind::RegressionSlope
         | TermKind::RegressionIntercept
         | TermKind::RegressionError
-        | TermKind::TrueRange => false,
+        | TermKind::TrueRange
+        | TermKind::WindowSlope
+        | TermKind::WindowResidual
+        | TermKind::WindowRSquared
+        | TermKind::ExponentialWeightedMovingMean { .. }
+        | TermKind::ExponentialWeightedMovingStdDev { .. }
+        | TermKind::WindowSkewness
+        | TermKind::WindowKurtosis => false,
         _ => true,
     }
 }

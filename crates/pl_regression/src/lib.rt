@@ -3,6 +3,8 @@
 
 mod formulas;
 mod pairs;
+mod trends;
 
-pub use formulas::{correlation, covariance, intercept, slope, slope_error};
+pub use formulas::{correlation, covariance, intercept, root, slope, slope_error};
 pub use pairs::PairSums;
+pub use trends::{r_squared, residual, steepness};

@@ -12,7 +12,7 @@ use Rattle.pl_spec.specs.Window.{before, downward, seen_cell}
 use Rattle.pl_pipeline.specs.Kind.{Kind}
 use Rattle.pl_pipeline.specs.declared.WindowKind.{WindowKind}
 use Rattle.pl_pipeline.specs.Kind.Kind.{Window}
-use Rattle.pl_pipeline.specs.declared.WindowKind.TheVariants.{Latest, BollingerLower, BollingerUpper, VWAP, AverageDollarVolume, WeightedAverageValue, TrueRange, ExponentialWeightedMovingAverage, Correlation, Covariance, RegressionSlope, RegressionIntercept, RegressionError, All as AllTrue, Any, AtLeastN, AllPresent}
+use Rattle.pl_pipeline.specs.declared.WindowKind.TheVariants.{Latest, BollingerLower, BollingerUpper, VWAP, AverageDollarVolume, WeightedAverageValue, TrueRange, ExponentialWeightedMovingAverage, Correlation, Covariance, RegressionSlope, RegressionIntercept, RegressionError, All as AllTrue, Any, AtLeastN, AllPresent, ExponentialWeightedMovingMean, ExponentialWeightedMovingStdDev}
 use Rattle.pl_pipeline.specs.Formula.{formula}
 use Rattle.pl_pipeline.specs.Term.{Node, Input}
 use Rattle.pl_pipeline.specs.Term.Input.{BarColumn, TermInput}
@@ -169,6 +169,8 @@ takes-kind AllPresent w names a h flags cells = inr (tt, cells)
 takes-kind (BollingerLower k) w names a h flags cells = inl (positive-cell k h)
 takes-kind (BollingerUpper k) w names a h flags cells = inl (positive-cell k h)
 takes-kind (ExponentialWeightedMovingAverage d) w names a h flags cells = inl (decay-range d h)
+takes-kind (ExponentialWeightedMovingMean d) w names a h flags cells = inl (decay-range d h)
+takes-kind (ExponentialWeightedMovingStdDev d) w names a h flags cells = inl (decay-range d h)
 takes-kind f w names a h flags cells = inl tt
 
 -- the kinds that take pairs have two windows
