@@ -35,8 +35,13 @@ impl Model for PowerSums {
 
     ghost Value = { PowerSums };
 
-    ghost view = { λ s. record { number = s.number; first = s.first; second = s.second; third = s.third;
-        fourth = s.fourth } };
+    ghost view = { λ s. record {
+      number = s.number;
+      first = s.first;
+      second = s.second;
+      third = s.third;
+      fourth = s.fourth;
+    } };
 }
 
 impl PowerSums {
@@ -77,7 +82,13 @@ impl PowerSums {
         ensures value { result ≡ fourth_moment self.now }
         ensures small { unsigned_abs result ≤ 14 * (MOST_SUM * MOST_SUM * (MOST_SUM * MOST_SUM)) }
     {
-        fourth_of(self.number, self.first, self.second, &self.third, &self.fourth)
+        fourth_of(
+            self.number,
+            self.first,
+            self.second,
+            &self.third,
+            &self.fourth,
+        )
     }
 }
 
@@ -105,7 +116,11 @@ fn third_of(number: usize, first: i128, second: i128, third: &Whole) -> Whole
     let cubes = n.times(&n).times(third);
     let mixed = n.times(&m).times(&Whole::new(second));
     let rest = m.times(&m).times(&m);
-    cubes.minus(&Whole::new(3).times(&mixed).minus(&Whole::new(2).times(&rest)))
+    cubes.minus(
+        &Whole::new(3)
+            .times(&mixed)
+            .minus(&Whole::new(2).times(&rest)),
+    )
 }
 
 fn fourth_of(number: usize, first: i128, second: i128, third: &Whole, fourth: &Whole) -> Whole
@@ -125,7 +140,11 @@ fn fourth_of(number: usize, first: i128, second: i128, third: &Whole, fourth: &W
     let squares = n.times(&square).times(&Whole::new(second));
     let rest = square.times(&square);
     let above = high.minus(&Whole::new(4).times(&cubes));
-    above.minus(&Whole::new(3).times(&rest).minus(&Whole::new(6).times(&squares)))
+    above.minus(
+        &Whole::new(3)
+            .times(&rest)
+            .minus(&Whole::new(6).times(&squares)),
+    )
 }
 
 // The mean cube over the mean square to the power of one and a half, in millionths; `MISSING` where all are

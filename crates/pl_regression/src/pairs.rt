@@ -1,11 +1,11 @@
 //! The sums of pairs of values.
 
-ghost use Rattle.std.specs.Prelude.{◌≡◌, ◌≤◌, ◌*◌, ◌^◌, ◌<◌, ◌+◌, ◌-◌, length, take, drop, false, unsigned_abs, pos, ◌*ℤ◌, ◌+ℤ◌, ◌-ℤ◌, []};
+ghost use Rattle.std.specs.Prelude.{◌≡◌, ◌≤◌, ◌*◌, ◌^◌, ◌<◌, ◌+◌, ◌-◌, length, take, drop, false, true, unsigned_abs, pos, ◌*ℤ◌, ◌+ℤ◌, ◌-ℤ◌, []};
 ghost use Rattle.std.specs.List.{All};
 ghost use Rattle.pl_spec.specs.Limits.{most_window};
 ghost use Rattle.pl_spec.specs.Rounding.{IsCell, LIMIT, is_missing};
 ghost use Rattle.pl_pipeline.specs.Formula.{pair_sums, trend_sums, spread_x, spread_y, joint_spread};
-ghost use Rattle.pl_regression.specs.Sums.{AreSums, AreWithin, added, removed, lowered};
+ghost use Rattle.pl_regression.specs.Sums.{AreSums, AreShort, AreWithin, added, removed, lowered};
 
 use pl_fixed::MISSING;
 use pl_wide::Whole;
@@ -190,6 +190,35 @@ impl PairSums {
         Whole::new(self.y)
     }
 
+    // Are the sums small enough for 128 bits? Those of places are.
+    pub(crate) fn are_short(&self) -> bool
+        ensures { result ≡ true → AreShort self.now }
+    {
+        self.x.unsigned_abs() < 1 << 40
+            && self.y.unsigned_abs() < 1 << 80
+            && self.xx.unsigned_abs() < 1 << 100
+            && self.xy.unsigned_abs() < 1 << 100
+    }
+
+    // The spreads in 128 bits.
+    pub(crate) fn short_spread_x(&self) -> i128
+        requires sums { AreSums self.now }
+        requires short { AreShort self.now }
+        ensures value { result ≡ spread_x self.now }
+        ensures small { unsigned_abs result < 2 ^ 124 }
+    {
+        short_spread(self.number, self.xx, self.x, self.x)
+    }
+
+    pub(crate) fn short_joint_spread(&self) -> i128
+        requires sums { AreSums self.now }
+        requires short { AreShort self.now }
+        ensures value { result ≡ joint_spread self.now }
+        ensures small { unsigned_abs result < 2 ^ 124 }
+    {
+        short_spread(self.number, self.xy, self.x, self.y)
+    }
+
     /// The square of the number times the variance of the first values.
     pub fn spread_x(&self) -> Whole
         requires { AreSums self.now }
@@ -228,6 +257,18 @@ fn spread(number: usize, products: i128, x: i128, y: i128) -> Whole
     ensures small { unsigned_abs result < 2 ^ 135 }
 {
     Whole::product(number as i128, products).minus(&Whole::product(x, y))
+}
+
+// The same in 128 bits.
+fn short_spread(number: usize, products: i128, x: i128, y: i128) -> i128
+    requires number { number ≤ most_window }
+    requires products { unsigned_abs products < 2 ^ 100 }
+    requires x { unsigned_abs x < 2 ^ 40 }
+    requires y { unsigned_abs y < 2 ^ 80 }
+    ensures value { result ≡ (pos number *ℤ products) -ℤ (x *ℤ y) }
+    ensures small { unsigned_abs result < 2 ^ 124 }
+{
+    number as i128 * products - x * y
 }
 
 fn plus(sum: i128, more: i128) -> i128

@@ -3,7 +3,7 @@
 ghost use Rattle.std.specs.Prelude.{◌≡◌, ◌≤◌, unsigned_abs};
 ghost use Rattle.pl_spec.specs.Rounding.{IsCell, LIMIT};
 ghost use Rattle.pl_pipeline.specs.Formula.{steepness, residual, r_squared};
-ghost use Rattle.pl_regression.specs.Sums.{AreSums};
+ghost use Rattle.pl_regression.specs.Sums.{AreSums, AreShort};
 
 use crate::pairs::PairSums;
 use pl_wide::{Whole, quot};
@@ -13,6 +13,29 @@ const MILLION: i128 = 1_000_000;
 /// The slope of the line, in units of the second values for each unit of the first; `MISSING` where all first
 /// values are one.
 pub fn steepness(sums: &PairSums) -> i64
+    requires { AreSums sums.now }
+    ensures value { result ≡ steepness sums.now }
+    ensures cell { IsCell result }
+{
+    if sums.are_short() {
+        short_steepness(sums)
+    } else {
+        wide_steepness(sums)
+    }
+}
+
+// The same in 128 bits.
+fn short_steepness(sums: &PairSums) -> i64
+    requires sums { AreSums sums.now }
+    requires short { AreShort sums.now }
+    ensures value { result ≡ steepness sums.now }
+    ensures cell { IsCell result }
+{
+    pl_fixed::quot(sums.short_joint_spread(), sums.short_spread_x())
+}
+
+// The same in more.
+fn wide_steepness(sums: &PairSums) -> i64
     requires { AreSums sums.now }
     ensures value { result ≡ steepness sums.now }
     ensures cell { IsCell result }

@@ -34,5 +34,6 @@ returns-in-ExponentialWeightedMovingStdDev-clause-values c =
     let given = rw (to_z-of_z w64 _ fits) at c.fill_deviations.ensures in
     rw c.in-ExponentialWeightedMovingStdDev.is (fine_deviations _ _ _ _ _ _ _ given)
 
-pub returns-then-is_filled-clause-values : goal.returns-then-is_filled-clause-values
-returns-then-is_filled-clause-values c = ?
+pub returns-then-is_filled-2-clause-values : goal.returns-then-is_filled-2-clause-values
+returns-then-is_filled-2-clause-values c =
+    given_trends (kind_of c.args.kind.now) c.args.size _ c.args.a.now c.args.b.now c.args.c.now _ (sym c.is_trend.ensures ∙ c.if-is_trend.true) c.fill_trends.ensures

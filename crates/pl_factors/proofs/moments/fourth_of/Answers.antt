@@ -1,10 +1,10 @@
-use Rattle.std.proofs.Common.{◌≡◌, ℤ, ◌+◌, ◌*◌, ◌≤◌, ◌<◌, ◌^◌, pos, unsigned_abs, rules, arith, refl, ap, ap₂, sym, ◌∙◌, FitsSigned, to_z}
+use Rattle.std.proofs.Common.{◌≡◌, ℤ, ◌+◌, ◌*◌, ◌≤◌, ◌+ℤ◌, ◌-ℤ◌, pos, unsigned_abs, arith, refl, ap₂, ◌∙◌}
 use Rattle.std.specs.Int.{w128}
-use Rattle.std.proofs.lemmas.Int.{to_z-of_z, to_z_pos, ints}
+use Rattle.std.proofs.lemmas.Int.{to_z_pos}
 use Rattle.pl_spec.specs.Limits.{most_window}
 use Rattle.pl_spec.specs.Rounding.{LIMIT}
 use Rattle.pl_factors.specs.Terms.{MOST_SUM}
-use Rattle.pl_factors.proofs.Central.{limited, apart, room, wide_is, less_less, less_apart}
+use Rattle.pl_factors.proofs.Central.{limited, apart, room, wide_is, less_apart}
 use Rattle.pl_factors.proofs.moments.fourth_of.Goals as goal
 
 pub times-square-requires : goal.times-square-requires
@@ -318,4 +318,6 @@ returns-clause-value c =
     let n : c.new-n.result ≡ pos c.args.number = c.new-n.ensures ∙ to_z_pos w128 c.args.number (omega (arith, c.requires.number)) in
     let m : c.new-m.result ≡ c.args.first = wide_is _ _ c.ranges.first c.new-m.ensures in
     let s : c.new.result ≡ c.args.second = wide_is _ _ c.ranges.second c.new.ensures in
-    rw (c.minus-2.ensures, c.minus.ensures, c.minus-above.ensures) (less_apart _ _ _ _ ∙ rw (c.times-8.ensures, c.times-7.ensures, c.times-6.ensures, c.times-rest.ensures, c.times-squares.ensures, c.times-5.ensures, c.times-cubes.ensures, c.times-4.ensures, c.times-3.ensures, c.times-high.ensures, c.times-2.ensures, c.times.ensures, c.times-square.ensures, c.new-2.ensures, c.new-3.ensures, c.new-4.ensures, n, m, s) refl)
+    let turned : c.minus-2.result ≡ c.times-high.result -ℤ c.times-6.result +ℤ c.times-8.result -ℤ c.times-7.result =
+    c.minus-2.ensures ∙ ap₂ (λ (u v : ℤ). u -ℤ v) c.minus-above.ensures c.minus.ensures ∙ less_apart c.times-high.result c.times-6.result c.times-8.result c.times-7.result in
+    rw (turned, c.times-8.ensures, c.times-7.ensures, c.times-6.ensures, c.times-rest.ensures, c.times-squares.ensures, c.times-5.ensures, c.times-cubes.ensures, c.times-4.ensures, c.times-3.ensures, c.times-high.ensures, c.times-2.ensures, c.times.ensures, c.times-square.ensures, c.new-2.ensures, c.new-3.ensures, c.new-4.ensures, n, m, s) refl

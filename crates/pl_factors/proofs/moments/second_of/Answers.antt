@@ -1,10 +1,10 @@
-use Rattle.std.proofs.Common.{◌≡◌, ℤ, ◌+◌, ◌*◌, ◌≤◌, ◌<◌, ◌^◌, pos, unsigned_abs, rules, arith, refl, ap, ap₂, sym, ◌∙◌, FitsSigned, to_z}
+use Rattle.std.proofs.Common.{◌≡◌, ◌*◌, pos, arith, FitsSigned, to_z}
 use Rattle.std.specs.Int.{w128}
-use Rattle.std.proofs.lemmas.Int.{to_z-of_z, to_z_pos, ints}
+use Rattle.std.proofs.lemmas.Int.{to_z-of_z, to_z_pos}
 use Rattle.pl_spec.specs.Limits.{most_window}
 use Rattle.pl_spec.specs.Rounding.{LIMIT}
 use Rattle.pl_factors.specs.Terms.{MOST_SUM}
-use Rattle.pl_factors.proofs.Central.{limited, apart, room, wide_is, less_less, less_apart}
+use Rattle.pl_factors.proofs.Central.{limited, apart}
 use Rattle.pl_factors.proofs.moments.second_of.Goals as goal
 
 pub minus-requires : goal.minus-requires

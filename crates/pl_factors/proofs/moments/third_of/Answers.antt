@@ -1,10 +1,10 @@
-use Rattle.std.proofs.Common.{◌≡◌, ℤ, ◌+◌, ◌*◌, ◌≤◌, ◌<◌, ◌^◌, pos, unsigned_abs, rules, arith, refl, ap, ap₂, sym, ◌∙◌, FitsSigned, to_z}
+use Rattle.std.proofs.Common.{◌≡◌, ℤ, ◌+◌, ◌*◌, ◌≤◌, ◌+ℤ◌, ◌-ℤ◌, pos, unsigned_abs, arith, refl, ap, ◌∙◌}
 use Rattle.std.specs.Int.{w128}
-use Rattle.std.proofs.lemmas.Int.{to_z-of_z, to_z_pos, ints}
+use Rattle.std.proofs.lemmas.Int.{to_z_pos}
 use Rattle.pl_spec.specs.Limits.{most_window}
 use Rattle.pl_spec.specs.Rounding.{LIMIT}
 use Rattle.pl_factors.specs.Terms.{MOST_SUM}
-use Rattle.pl_factors.proofs.Central.{limited, apart, room, wide_is, less_less, less_apart}
+use Rattle.pl_factors.proofs.Central.{limited, apart, room, wide_is, less_less}
 use Rattle.pl_factors.proofs.moments.third_of.Goals as goal
 
 pub times-requires : goal.times-requires
@@ -180,4 +180,6 @@ returns-clause-value c =
     let n : c.new-n.result ≡ pos c.args.number = c.new-n.ensures ∙ to_z_pos w128 c.args.number (omega (arith, c.requires.number)) in
     let m : c.new-m.result ≡ c.args.first = wide_is _ _ c.ranges.first c.new-m.ensures in
     let s : c.new.result ≡ c.args.second = wide_is _ _ c.ranges.second c.new.ensures in
-    rw (c.minus-2.ensures, c.minus.ensures) (less_less _ _ _ ∙ rw (c.times-5.ensures, c.times-4.ensures, c.times-rest.ensures, c.times-3.ensures, c.times-mixed.ensures, c.times-2.ensures, c.times-cubes.ensures, c.times.ensures, c.new-2.ensures, c.new-3.ensures, n, m, s) refl)
+    let turned : c.minus-2.result ≡ c.times-cubes.result -ℤ c.times-4.result +ℤ c.times-5.result =
+    c.minus-2.ensures ∙ ap (λ (v : ℤ). c.times-cubes.result -ℤ v) c.minus.ensures ∙ less_less c.times-cubes.result c.times-4.result c.times-5.result in
+    rw (turned, c.times-5.ensures, c.times-4.ensures, c.times-rest.ensures, c.times-3.ensures, c.times-mixed.ensures, c.times-2.ensures, c.times-cubes.ensures, c.times.ensures, c.new-2.ensures, c.new-3.ensures, n, m, s) refl

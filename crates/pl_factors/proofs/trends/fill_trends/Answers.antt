@@ -1,6 +1,6 @@
 use Rattle.std.proofs.Common.{rules, ◌≡◌, ◌+◌, ◌-◌, ◌<◌, ◌≤◌, ◌∙◌, ap, sym, arith, length, length-set, to_z, of_z, w64, FitsSigned}
 use Rattle.std.proofs.lemmas.Int.{to_z-of_z}
-use Rattle.pl_pipeline.specs.Formula.{PairSums, trend_sums}
+use Rattle.pl_pipeline.specs.Formula.{trend_sums}
 use Rattle.pl_terms.specs.Kinds.{kind_of}
 use Rattle.pl_factors.specs.Lanes.{window_at}
 use Rattle.pl_factors.specs.Trends.{trend_at}
@@ -36,7 +36,7 @@ loop-k-preserved c =
     let later : c.loop-k.k + 1 - 1 ≡ c.loop-k.k = omega arith in
     let inside : c.loop-k.k < length c.loop-k.out = omega (arith, size, c.loop-k-test.true, c.loop-k.auto.out) in
     let room : c.loop-k.k - 1 + (c.args.size + 1) ≤ length c.args.a.now = omega (arith, size, c.loop-k-test.true, c.loop-k.auto.k, c.loop-k.auto.out, c.requires.long) in
-    let next : c.slide_places.new.sums ≡ trend_sums (window_at c.args.size c.loop-k.k c.args.a.now) =
+    let next : c.slide_places.new.self ≡ trend_sums (window_at c.args.size c.loop-k.k c.args.a.now) =
     c.slide_places.ensures.value ∙ ap trend_sums (span_after c.args.size c.loop-k.k c.loop-k.k here c.args.a.now _ (λ some. room) c.window_at.ensures) in
     rw (to_z-of_z w64 _ r) (record {
       sums = next ∙ ap (λ j. trend_sums (window_at c.args.size j c.args.a.now)) (sym later);
