@@ -1,17 +1,17 @@
 -- Windows that follow on each other in a list, two of them as a span, and the values over them one after the
 -- other.
-use Rattle.std.proofs.Common.{◌≡◌, ℕ, ◌+◌, ◌-◌, ◌<◌, ◌≤◌, ◌⊎◌, inl, inr, IsTrue, ℤ, pos, List, length, take, drop, get_or, set, map, All, sym, ◌∙◌, ap, subst, arith, length-take, length-drop, get_or-set_same, get_or-set_other}
+use Rattle.std.proofs.Common.{◌≡◌, ℕ, ◌+◌, ◌-◌, ◌<◌, ◌≤◌, ◌⊎◌, inl, inr, IsTrue, ℤ, pos, List, length, take, drop, get_or, set, All, sym, ◌∙◌, ap, subst, arith, length-take, length-drop, get_or-set_same, get_or-set_other}
 use Rattle.std.proofs.lemmas.Bool.{cases_eq, cases_lt}
 use Rattle.std.proofs.lemmas.List.{take-take, take_all, drop-drop, drop-take}
 use Rattle.std.proofs.lemmas.List.Elements.{All-take, All-drop}
-use Rattle.pl_spec.specs.Rounding.{IsCell}
-use Rattle.pl_pipeline.specs.Formula.{faded, faded_mean, formula, mean}
-use Rattle.pl_spec.specs.Window.{downward}
+use Rattle.pl_spec.specs.Rounding.{IsCell, MILLION}
+use Rattle.pl_pipeline.specs.Formula.{FINE, weights, formula, mean}
 use Rattle.pl_pipeline.specs.Kind.{Kind}
 use Rattle.pl_pipeline.specs.Kind.Kind.{Window}
-use Rattle.pl_pipeline.specs.declared.WindowKind.TheVariants.{ExponentialWeightedMovingAverage}
-use Rattle.pl_factors.specs.Terms.{mean_by}
-use Rattle.pl_factors.specs.Lanes.{AreGiven, AreValues, HasWindows, TakesLanes, weighted_at, window_at}
+use Rattle.pl_pipeline.specs.declared.WindowKind.TheVariants.{ExponentialWeightedMovingAverage, ExponentialWeightedMovingMean, ExponentialWeightedMovingStdDev}
+use Rattle.pl_factors.specs.Terms.{mean_by, deviation_by}
+use Rattle.pl_factors.specs.Lanes.{AreGiven, AreValues, HasWindows, TakesLanes, weighted_at, deviated_at, window_at}
+use Rattle.pl_factors.specs.Trends.{faded_mean_at, faded_deviation_at}
 use Rattle.pl_factors.specs.Spans.{TakesSpans, after, before, takes_range}
 
 front_of : (size : ℕ) (ys : List ℤ) → (length ys ≡ 0) ⊎ (size + 1 ≤ length ys) → take (length (take (size + 1) ys) - 1) (take (size + 1) ys) ≡ take size ys
@@ -141,12 +141,31 @@ pub window_long : (size k : ℕ) (xs : List ℤ) → k + size ≤ length xs → 
 window_long size k xs room = let d = length-drop k xs in let t = length-take size (drop k xs) in omega (arith, d, t, room)
 
 -- the weights fade
-module _ (d : ℤ) (size n : ℕ) (a ws out : List ℤ) (long : length ws ≡ size) (is : ws ≡ map (faded d) (downward size)) (room : size + n ≤ length a + 1) (means : AreGiven (weighted_at ws a) n out) where
-  faded_at : (j : ℕ) → j < n → mean_by ws (window_at (length ws) j a) ≡ faded_mean d (window_at size j a)
-  faded_at j h =
+module _ (one : ℕ) (d : ℤ) (size n : ℕ) (a ws out : List ℤ) (long : length ws ≡ size) (is : ws ≡ weights one d size) (room : size + n ≤ length a + 1) where
+  made : (f : List ℤ → List ℤ → ℤ) (j : ℕ) → j < n → f ws (window_at (length ws) j a) ≡ f (weights one d (length (window_at size j a))) (window_at size j a)
+  made f j h =
       let wide : length (window_at size j a) ≡ size = window_long size j a (omega (arith, h, room)) in
-      ap (λ k. mean_by ws (window_at k j a)) long ∙ ap (λ l. mean_by l (window_at size j a)) (is ∙ ap (λ k. map (faded d) (downward k)) (sym wide))
+      ap (λ k. f ws (window_at k j a)) long ∙ ap (λ l. f l (window_at size j a)) (is ∙ ap (weights one d) (sym wide))
 
-  pub faded_are : (b c : List ℤ) → AreValues (Window (ExponentialWeightedMovingAverage d)) size a b c n out
-  unfolding formula
-  faded_are b c = record { each = λ j h. means.each j h ∙ faded_at j h; cell = means.cell }
+  pub faded_are : AreGiven (weighted_at ws a) n out → AreGiven (faded_mean_at one d size a) n out
+  unfolding faded_mean_at
+  faded_are means = record { each = λ j h. means.each j h ∙ made mean_by j h; cell = means.cell }
+
+-- and the deviation is by fine ones
+pub deviated_are : (d : ℤ) (size n : ℕ) (a ws out : List ℤ) → length ws ≡ size → ws ≡ weights FINE d size → size + n ≤ length a + 1
+    → AreGiven (deviated_at ws a) n out → AreGiven (faded_deviation_at d size a) n out
+unfolding faded_deviation_at
+deviated_are d size n a ws out long is room given = record { each = λ j h. given.each j h ∙ made FINE d size n a ws out long is room deviation_by j h; cell = given.cell }
+
+-- what is given at each place is what the kind gives there
+pub fine_means : (d : ℤ) (size n : ℕ) (a b c out : List ℤ) → AreGiven (faded_mean_at FINE d size a) n out → AreValues (Window (ExponentialWeightedMovingMean d)) size a b c n out
+unfolding formula faded_mean_at
+fine_means d size n a b c out m = record { each = m.each; cell = m.cell }
+
+pub coarse_means : (d : ℤ) (size n : ℕ) (a b c out : List ℤ) → AreGiven (faded_mean_at MILLION d size a) n out → AreValues (Window (ExponentialWeightedMovingAverage d)) size a b c n out
+unfolding formula faded_mean_at
+coarse_means d size n a b c out m = record { each = m.each; cell = m.cell }
+
+pub fine_deviations : (d : ℤ) (size n : ℕ) (a b c out : List ℤ) → AreGiven (faded_deviation_at d size a) n out → AreValues (Window (ExponentialWeightedMovingStdDev d)) size a b c n out
+unfolding formula faded_deviation_at
+fine_deviations d size n a b c out m = record { each = m.each; cell = m.cell }

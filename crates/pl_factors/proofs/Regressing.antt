@@ -1,5 +1,5 @@
 -- What the sums of pairs give is the formula.
-use Rattle.std.proofs.Common.{◌≡◌, ◌+◌, ◌-◌, ◌<◌, ◌≤◌, ◌∙◌, ℕ, ℤ, List, length, true, false, refl, sym, ap, ap₂, arith}
+use Rattle.std.proofs.Common.{◌≡◌, ◌∙◌, ℕ, ℤ, List, true, false, refl, ap, ap₂}
 use Rattle.pl_pipeline.specs.Kind.{Kind}
 use Rattle.pl_pipeline.specs.Kind.Kind.{Window}
 use Rattle.pl_pipeline.specs.declared.WindowKind.TheVariants.{Correlation, Covariance, RegressionSlope, RegressionIntercept, RegressionError}

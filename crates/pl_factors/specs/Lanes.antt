@@ -4,7 +4,7 @@ use Rattle.std.specs.List.{All}
 use Rattle.pl_spec.specs.Rounding.{IsCell}
 use Rattle.pl_pipeline.specs.Kind.{Kind}
 use Rattle.pl_factors.specs.Kinds.{formula_of}
-use Rattle.pl_factors.specs.Terms.{mean_by}
+use Rattle.pl_factors.specs.Terms.{mean_by, deviation_by}
 use Rattle.pl_factors.specs.Spans.{TakesWindows}
 
 -- the window that begins with cell k
@@ -41,3 +41,7 @@ AreValues k size a b c done out = AreGiven (formula_at k size a b c) done out
 -- the mean of the window of place j with these weights
 abbrev pub weighted_at : List ℤ → List ℤ → ℕ → ℤ
 weighted_at weights a j = mean_by weights (window_at (length weights) j a)
+
+-- and the deviation
+abbrev pub deviated_at : List ℤ → List ℤ → ℕ → ℤ
+deviated_at weights a j = deviation_by weights (window_at (length weights) j a)

@@ -1,22 +1,25 @@
 //! The values of a formula over windows that follow on each other, each a cell later than the one before.
 ghost use Rattle.std.specs.Prelude.{◌≡◌, ◌⊎◌, ◌+◌, ◌*◌, ◌<◌, ◌≤◌, ℤ, pos, ◌≤ℤ◌, unsigned_abs, List, true, All, IsTrue, length};
 ghost use Rattle.pl_spec.specs.Limits.{most_window};
-ghost use Rattle.pl_spec.specs.Rounding.{IsCell, MILLION};
+ghost use Rattle.pl_spec.specs.Rounding.{IsCell, LIMIT, MILLION};
 ghost use Rattle.pl_spec.specs.Cells.{total};
 ghost use Rattle.pl_pipeline.specs.Kind.Kind.{Window};
-ghost use Rattle.pl_pipeline.specs.declared.WindowKind.TheVariants.{ExponentialWeightedMovingAverage, Latest};
-ghost use Rattle.pl_pipeline.specs.declared.WindowKind.TheVariants.{SimpleMovingAverage, WindowFirst};
+ghost use Rattle.pl_pipeline.specs.declared.WindowKind.TheVariants.{ExponentialWeightedMovingAverage, Latest, SimpleMovingAverage, WindowFirst};
+ghost use Rattle.pl_pipeline.specs.Formula.{FINE, products};
 ghost use Rattle.pl_terms.specs.Kinds.{kind_of};
 ghost use Rattle.pl_factors.specs.Kinds.{formula_of};
 ghost use Rattle.pl_factors.specs.Kept.{kept_of};
-ghost use Rattle.pl_factors.specs.Lanes.{AreGiven, AreValues, TakesLanes, weighted_at, window_at};
+ghost use Rattle.pl_factors.specs.Lanes.{AreGiven, AreValues, TakesLanes, weighted_at, deviated_at, window_at};
+ghost use Rattle.pl_factors.specs.Trends.{faded_mean_at, faded_deviation_at};
 ghost use Rattle.pl_factors.specs.Spans.{TakesSpans, TakesWindows, after, before, takes_range};
 
-use crate::faded::{faded_weights, mean_by};
+use crate::averages::total_products;
+use crate::faded::{COARSE, FINE, deviation_by, faded_weights, mean_by};
 use crate::regressions::{fill_regressions, is_regression};
 use crate::running::{Running, keeps};
 use crate::starts::sums_of;
 use crate::steps::next_sums;
+use crate::trends::{fill_trends, is_trend};
 use crate::values::mean;
 use pl_terms::TermKind;
 
@@ -186,7 +189,7 @@ fn fill_weighted(weights: &[i64], sum: i128, a: &[i64], out: &mut [i64])
     requires weights { All IsCell weights.now }
     requires few { length weights.now ≤ most_window }
     requires sum { sum ≡ total weights.now }
-    requires small { unsigned_abs sum ≤ most_window * MILLION }
+    requires small { unsigned_abs sum ≤ most_window * FINE }
     requires long { length weights.now + length out.old ≤ length a.now + 1 }
     ensures { AreGiven (weighted_at weights.now a.now) (length out.old) out.new }
 {
@@ -196,19 +199,52 @@ fn fill_weighted(weights: &[i64], sum: i128, a: &[i64], out: &mut [i64])
 }
 
 // The exponentially weighted averages. The weights are made once for all.
-fn fill_faded(decay: i64, size: usize, a: &[i64], out: &mut [i64])
+fn fill_faded(one: u64, decay: i64, size: usize, a: &[i64], out: &mut [i64])
+    requires cells { All IsCell a.now }
+    requires few { size ≤ most_window }
+    requires unit { one ≤ FINE }
+    requires low { pos 0 ≤ℤ decay }
+    requires high { decay ≤ℤ pos MILLION }
+    requires long { size + length out.old ≤ length a.now + 1 }
+    ensures { AreGiven (faded_mean_at one decay size a.now) (length out.old) out.new }
+{
+    let mut room = [0i64; MOST_CELLS];
+    let weights = &mut room[..size];
+    let sum = faded_weights(one, decay, weights);
+    fill_weighted(&*weights, sum, a, out);
+}
+
+// The exponentially weighted deviations.
+fn fill_deviations(decay: i64, size: usize, a: &[i64], out: &mut [i64])
     requires cells { All IsCell a.now }
     requires few { size ≤ most_window }
     requires low { pos 0 ≤ℤ decay }
     requires high { decay ≤ℤ pos MILLION }
     requires long { size + length out.old ≤ length a.now + 1 }
-    ensures { (b c : List ℤ) → AreValues (Window (ExponentialWeightedMovingAverage decay)) size a.now b c
-        (length out.old) out.new }
+    ensures { AreGiven (faded_deviation_at decay size a.now) (length out.old) out.new }
 {
     let mut room = [0i64; MOST_CELLS];
     let weights = &mut room[..size];
-    let sum = faded_weights(decay, weights);
-    fill_weighted(&*weights, sum, a, out);
+    let sum = faded_weights(FINE, decay, weights);
+    let squares = total_products(&*weights, &*weights);
+    fill_deviated(&*weights, sum, squares, a, out);
+}
+
+// The deviations with these weights, of which the sum and that of the squares are given.
+fn fill_deviated(weights: &[i64], sum: i128, squares: i128, a: &[i64], out: &mut [i64])
+    requires cells { All IsCell a.now }
+    requires weights { All IsCell weights.now }
+    requires few { length weights.now ≤ most_window }
+    requires sum { sum ≡ total weights.now }
+    requires small { unsigned_abs sum ≤ most_window * FINE }
+    requires squares { squares ≡ total (products weights.now weights.now) }
+    requires few_squares { unsigned_abs squares ≤ most_window * (LIMIT * LIMIT) }
+    requires long { length weights.now + length out.old ≤ length a.now + 1 }
+    ensures { AreGiven (deviated_at weights.now a.now) (length out.old) out.new }
+{
+    for k in 0..out.len() {
+        out[k] = deviation_by(weights, sum, squares, window_at(a, k, weights.len()));
+    }
 }
 
 /// What a formula or a filter gives over windows of `size` cells that follow on each other: into cell k over
@@ -229,10 +265,16 @@ pub fn fill_values(kind: &TermKind, size: usize, a: &[i64], b: &[i64], c: &[i64]
         }
     } else if is_regression(kind) && size > 0 && is_filled(size, a, out) && !b.is_empty() {
         fill_regressions(kind, size, a, b, out);
+    } else if is_trend(kind) && size > 0 && is_filled(size, a, out) {
+        fill_trends(kind, size, a, out);
     } else {
         match kind {
             TermKind::ExponentialWeightedMovingAverage { decay } if is_filled(size, a, out) =>
-                fill_faded(*decay, size, a, out),
+                fill_faded(COARSE, *decay, size, a, out),
+            TermKind::ExponentialWeightedMovingMean { decay } if is_filled(size, a, out) =>
+                fill_faded(FINE, *decay, size, a, out),
+            TermKind::ExponentialWeightedMovingStdDev { decay } if is_filled(size, a, out) =>
+                fill_deviations(*decay, size, a, out),
             _ => fill_anew(kind, size, a, b, c, out),
         }
     }

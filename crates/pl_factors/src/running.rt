@@ -159,7 +159,14 @@ pub fn keeps(kind: &TermKind) -> bool
         | TermKind::WindowFirst
         | TermKind::MaxDrawdown
         | TermKind::RankCorrelation
-        | TermKind::TrueRange => false,
+        | TermKind::TrueRange
+        | TermKind::WindowSlope
+        | TermKind::WindowResidual
+        | TermKind::WindowRSquared
+        | TermKind::ExponentialWeightedMovingMean { .. }
+        | TermKind::ExponentialWeightedMovingStdDev { .. }
+        | TermKind::WindowSkewness
+        | TermKind::WindowKurtosis => false,
         _ => true,
     }
 }

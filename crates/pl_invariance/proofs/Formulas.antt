@@ -14,7 +14,7 @@ use Rattle.pl_spec.specs.Window.{downward}
 use Rattle.pl_spec.proofs.Each.{Each}
 use Rattle.pl_spec.proofs.Roots.{isqrt-is_root, one_root}
 use Rattle.pl_spec.proofs.Signed.{int_eq-true, eq-int_eq}
-use Rattle.pl_pipeline.specs.Formula.{HUNDRED, oldest, newest, mean, if_any, square, spread, deviation, present_pairs, products, differences, gains, losses, places, faded, faded_mean, place_of, of_all, formula}
+use Rattle.pl_pipeline.specs.Formula.{HUNDRED, oldest, newest, mean, if_any, square, spread, deviation, present_pairs, products, differences, gains, losses, FINE, places, weights, faded_mean, place_of, of_all, formula}
 use Rattle.pl_invariance.specs.Exact.{Divides}
 use Rattle.pl_invariance.specs.Ranked.{IsExact}
 use Rattle.pl_invariance.specs.Units.{IsRatio, AreExact, IsUnrounded, middle, IsSpreadExact, IsBandExact, FormulasHaveUnits, IndicatorsHaveNoUnit}
@@ -96,15 +96,15 @@ module _ (r : Fraction) (ratio : IsRatio r) where
       flip true false e = absurd (true≢false (sym e))
       flip false true e = absurd (true≢false e)
 
-  fading : (decay : ℤ) (xs : List ℤ) (weight : ℕ) → AreExact r xs → total (map (faded decay) (downward (length xs))) ≡ pos weight
-      → IsUnrounded r (total (products (map (faded decay) (downward (length xs))) xs)) weight → faded_mean decay (map (scaled r) xs) ≡ scaled r (faded_mean decay xs)
-  fading decay xs weight h e u =
-      ap (λ n. if list_any is_missing (map (scaled r) xs) then MISSING else quot (total (products (map (faded decay) (downward n)) (map (scaled r) xs))) (total (map (faded decay) (downward n)))) (length-map xs (scaled r))
+  fading : (one : ℕ) (decay : ℤ) (xs : List ℤ) (weight : ℕ) → AreExact r xs → total (weights one decay (length xs)) ≡ pos weight
+      → IsUnrounded r (total (products (weights one decay (length xs)) xs)) weight → faded_mean one decay (map (scaled r) xs) ≡ scaled r (faded_mean one decay xs)
+  fading one decay xs weight h e u =
+      ap (λ n. if list_any is_missing (map (scaled r) xs) then MISSING else quot (total (products (weights one decay n) (map (scaled r) xs))) (total (weights one decay n))) (length-map xs (scaled r))
       ∙ ap (λ b. if b then MISSING else quot (total (products ws (map (scaled r) xs))) (total ws)) (missing-same xs h)
       ∙ step (list_any is_missing xs)
     where
       ws : List ℤ
-      ws = map (faded decay) (downward (length xs))
+      ws = weights one decay (length xs)
 
       step : (b : Bool) → (if b then MISSING else quot (total (products ws (map (scaled r) xs))) (total ws)) ≡ scaled r (if b then MISSING else quot (total (products ws xs)) (total ws))
       step true = sym (missing_stays r)
@@ -303,7 +303,8 @@ formulas-have-units = record {
   linear = λ r xs ys zs ratio h u. linear r ratio xs h u;
   weighted = λ r xs ys zs weight ratio h e u. (weighted r ratio xs ys weight h e u, weighted r ratio xs ys weight h e u);
   dollar_volumes = λ r xs ys zs ratio h u. dollars r ratio xs ys h u;
-  faded_means = λ r decay xs ys zs weight ratio h e u. fading r ratio decay xs weight h e u;
+  faded_means = λ r decay xs ys zs weight ratio h e u. fading r ratio MILLION decay xs weight h e u;
+  fine_means = λ r decay xs ys zs weight ratio h e u. fading r ratio FINE decay xs weight h e u;
   deviations = λ r xs ys zs ratio h s. deviations r ratio xs h s;
   lower = λ r k xs ys zs ratio h band p. lower r ratio k xs h band p;
   upper = λ r k xs ys zs ratio h band p. upper r ratio k xs h band p;

@@ -5,9 +5,8 @@ use Rattle.pl_spec.specs.Cells.{total, count, present_values}
 use Rattle.pl_spec.specs.Each.{Each}
 use Rattle.pl_spec.specs.Rounding.{LIMIT, MILLION, Fraction, is_missing, scaled, div_round, quot, mul}
 use Rattle.pl_pipeline.specs.declared.WindowKind.{WindowKind}
-use Rattle.pl_pipeline.specs.declared.WindowKind.TheVariants.{Latest, SimpleMovingAverage, LinearWeightedMovingAverage, WindowSum, WindowMax, WindowMin, WindowStd, BollingerMiddle, BollingerLower, BollingerUpper, VWAP, AverageDollarVolume, WeightedAverageValue, ExponentialWeightedMovingAverage, RSI, FastStochasticOscillator, AroonUp, AroonDown}
-use Rattle.pl_pipeline.specs.Formula.{faded, deviation, formula, places, products, spread, square}
-use Rattle.pl_spec.specs.Window.{downward}
+use Rattle.pl_pipeline.specs.declared.WindowKind.TheVariants.{Latest, SimpleMovingAverage, LinearWeightedMovingAverage, WindowSum, WindowMax, WindowMin, WindowStd, BollingerMiddle, BollingerLower, BollingerUpper, VWAP, AverageDollarVolume, WeightedAverageValue, ExponentialWeightedMovingAverage, ExponentialWeightedMovingMean, RSI, FastStochasticOscillator, AroonUp, AroonDown}
+use Rattle.pl_pipeline.specs.Formula.{FINE, weights, deviation, formula, places, products, spread, square}
 use Rattle.pl_invariance.specs.Exact.{Divides}
 use Rattle.pl_invariance.specs.Ranked.{IsExact}
 
@@ -65,9 +64,13 @@ pub record FormulasHaveUnits : Type 0 where
   pub dollar_volumes : (r : Fraction) (xs ys zs : List ℤ) → IsRatio r → AreExact r xs
       → IsUnrounded r (total (products xs ys)) (length xs * MILLION) → HasUnit r AverageDollarVolume xs ys zs
   pub faded_means : (r : Fraction) (decay : ℤ) (xs ys zs : List ℤ) (weight : ℕ) → IsRatio r → AreExact r xs
-      → total (map (faded decay) (downward (length xs))) ≡ pos weight
-      → IsUnrounded r (total (products (map (faded decay) (downward (length xs))) xs)) weight
+      → total (weights MILLION decay (length xs)) ≡ pos weight
+      → IsUnrounded r (total (products (weights MILLION decay (length xs)) xs)) weight
       → HasUnit r (ExponentialWeightedMovingAverage decay) xs ys zs
+  pub fine_means : (r : Fraction) (decay : ℤ) (xs ys zs : List ℤ) (weight : ℕ) → IsRatio r → AreExact r xs
+      → total (weights FINE decay (length xs)) ≡ pos weight
+      → IsUnrounded r (total (products (weights FINE decay (length xs)) xs)) weight
+      → HasUnit r (ExponentialWeightedMovingMean decay) xs ys zs
   pub deviations : (r : Fraction) (xs ys zs : List ℤ) → IsRatio r → AreExact r xs
       → IsSpreadExact r (present_values xs) → HasUnit r WindowStd xs ys zs
   pub lower : (r : Fraction) (k : ℤ) (xs ys zs : List ℤ) → IsRatio r → AreExact r xs → IsBandExact r k xs

@@ -7,7 +7,7 @@ use Rattle.std.specs.Ordering.{int_eq}
 use Rattle.pl_spec.specs.Rounding.{MISSING, MILLION, is_missing, is_present, to_cell, quot, of_both, add, sub, mul, neg, div_round, isqrt}
 use Rattle.pl_spec.specs.Window.{downward}
 use Rattle.pl_pipeline.specs.declared.WindowKind.{WindowKind}
-use Rattle.pl_pipeline.specs.declared.WindowKind.TheVariants.{Latest, SimpleMovingAverage, LinearWeightedMovingAverage, WindowSum, WindowMax, WindowMin, WindowStd, BollingerMiddle, BollingerLower, BollingerUpper, Returns, PercentChange, RateOfChangePercentage, RSI, VWAP, AverageDollarVolume, WeightedAverageValue, FastStochasticOscillator, TrueRange, ExponentialWeightedMovingAverage, AroonUp, AroonDown, Correlation, Covariance, RegressionSlope, RegressionIntercept, RegressionError, WindowPercentile, WindowRank, WindowArgMax, WindowArgMin, WindowFirst, MaxDrawdown, RankCorrelation, All, Any, AtLeastN, AllPresent}
+use Rattle.pl_pipeline.specs.declared.WindowKind.TheVariants.{Latest, SimpleMovingAverage, LinearWeightedMovingAverage, WindowSum, WindowMax, WindowMin, WindowStd, BollingerMiddle, BollingerLower, BollingerUpper, Returns, PercentChange, RateOfChangePercentage, RSI, VWAP, AverageDollarVolume, WeightedAverageValue, FastStochasticOscillator, TrueRange, ExponentialWeightedMovingAverage, AroonUp, AroonDown, Correlation, Covariance, RegressionSlope, RegressionIntercept, RegressionError, WindowPercentile, WindowRank, WindowArgMax, WindowArgMin, WindowFirst, MaxDrawdown, RankCorrelation, All, Any, AtLeastN, AllPresent, WindowSlope, WindowResidual, WindowRSquared, ExponentialWeightedMovingMean, ExponentialWeightedMovingStdDev, WindowSkewness, WindowKurtosis}
 use Rattle.pl_spec.specs.Cells.{truth, is_true, present_values, total, count, greatest, least}
 use Rattle.pl_pipeline.specs.Order.{twice_rank, percentile}
 
@@ -66,14 +66,22 @@ losses ds = neg_ℤ (total (filter (λ x. int_lt x (pos 0)) ds))
 abbrev pub places : List ℤ → List ℤ
 places xs = map pos (range_with_len 1 (length xs))
 
--- the weight of the value n sessions before the newest
-abbrev pub faded : ℤ → ℕ → ℤ
-faded decay zero = pos MILLION
-faded decay (suc n) = div_round (faded decay n *ℤ decay) MILLION
+-- the unit of fine weights
+abbrev pub FINE : ℕ
+FINE = 10 ^ 12
 
-abbrev pub faded_mean : ℤ → List ℤ → ℤ
-faded_mean decay xs =
-    let ws = map (faded decay) (downward (length xs)) in
+-- the weight of the value n sessions before the newest, whose own weight is one unit
+abbrev pub faded : ℕ → ℤ → ℕ → ℤ
+faded one decay zero = pos one
+faded one decay (suc n) = div_round (faded one decay n *ℤ decay) MILLION
+
+-- the weights of a window of n values, oldest first
+abbrev pub weights : ℕ → ℤ → ℕ → List ℤ
+weights one decay n = map (faded one decay) (downward n)
+
+abbrev pub faded_mean : ℕ → ℤ → List ℤ → ℤ
+faded_mean one decay xs =
+    let ws = weights one decay (length xs) in
     if list_any is_missing xs then MISSING else quot (total (products ws xs)) (total ws)
 
 -- how far apart two cells are
@@ -200,6 +208,96 @@ ranked ps =
     let ranks : (ℤ × ℤ) → ℤ × ℤ =
     λ p. (pos (twice_rank p.0 (map (λ q. q.0) ps)), pos (twice_rank p.1 (map (λ q. q.1) ps))) in map ranks ps
 
+-- ---- the line through values at their places
+
+-- the sums of the values, each paired with its place
+abbrev pub trend_sums : List ℤ → PairSums
+trend_sums xs = pair_sums (places xs) xs
+
+-- the slope of the line by least squares, in units of y for each unit of x
+unfoldable pub steepness : PairSums → ℤ
+steepness s = quot (joint_spread s) (spread_x s)
+
+-- how far y lies above that line at x
+unfoldable pub residual : PairSums → ℤ → ℤ → ℤ
+residual s x y =
+    let n = pos s.number in
+    quot ((((n *ℤ y) -ℤ s.y) *ℤ spread_x s) -ℤ (joint_spread s *ℤ ((n *ℤ x) -ℤ s.x))) (n *ℤ spread_x s)
+
+-- the square of the correlation, in millionths
+unfoldable pub r_squared : PairSums → ℤ
+r_squared s = quot ((joint_spread s *ℤ joint_spread s) *ℤ pos MILLION) (spread_x s *ℤ spread_y s)
+
+-- ---- the deviation with weights that fade
+
+-- the weighted sum of the squares
+abbrev pub weighted_squares : List ℤ → List ℤ → ℤ
+weighted_squares ws xs = pair_total (λ w x. w *ℤ (x *ℤ x)) (present_pairs ws xs)
+
+-- The root of the weighted mean square of what lies between the values and their weighted mean, corrected for
+-- bias: the mean is times v v / (v v - the sum of the squares of the weights), where v is their sum.
+unfoldable pub weighted_deviation : List ℤ → List ℤ → ℤ
+weighted_deviation ws xs =
+    let v = total ws in
+    let first = total (products ws xs) in
+    root_quot (unsigned_abs ((v *ℤ weighted_squares ws xs) -ℤ (first *ℤ first)))
+    (unsigned_abs ((v *ℤ v) -ℤ total (products ws ws)))
+
+abbrev pub faded_deviation : ℤ → List ℤ → ℤ
+faded_deviation decay xs = if list_any is_missing xs then MISSING else weighted_deviation (weights FINE decay (length xs)) xs
+
+-- ---- skewness and kurtosis, from sums of powers
+
+-- how many values there are, and the sums of their first four powers
+pub record PowerSums : Type 0 where
+  pub number : ℕ
+  pub first : ℤ
+  pub second : ℤ
+  pub third : ℤ
+  pub fourth : ℤ
+
+abbrev pub sums_of_powers : List ℤ → PowerSums
+sums_of_powers vs = record {
+  number = length vs;
+  first = total vs;
+  second = total (map (λ x. x *ℤ x) vs);
+  third = total (map (λ x. x *ℤ (x *ℤ x)) vs);
+  fourth = total (map (λ x. (x *ℤ x) *ℤ (x *ℤ x)) vs);
+}
+
+-- those of the present values
+abbrev pub power_sums : List ℤ → PowerSums
+power_sums xs = sums_of_powers (present_values xs)
+
+-- n n, n n n and n n n n times the mean square, cube and fourth power of what lies between the values and
+-- their mean
+abbrev pub second_moment : PowerSums → ℤ
+second_moment s = (pos s.number *ℤ s.second) -ℤ (s.first *ℤ s.first)
+
+abbrev pub third_moment : PowerSums → ℤ
+third_moment s =
+    let n = pos s.number in
+    let m = s.first in
+    ((n *ℤ n) *ℤ s.third) -ℤ (pos 3 *ℤ ((n *ℤ m) *ℤ s.second)) +ℤ (pos 2 *ℤ ((m *ℤ m) *ℤ m))
+
+abbrev pub fourth_moment : PowerSums → ℤ
+fourth_moment s =
+    let n = pos s.number in
+    let m = s.first in
+    (((n *ℤ n) *ℤ n) *ℤ s.fourth) -ℤ (pos 4 *ℤ (((n *ℤ n) *ℤ m) *ℤ s.third))
+    +ℤ (pos 6 *ℤ ((n *ℤ (m *ℤ m)) *ℤ s.second)) -ℤ (pos 3 *ℤ ((m *ℤ m) *ℤ (m *ℤ m)))
+
+-- the mean cube over the mean square to the power of one and a half, in millionths
+unfoldable pub skewness : PowerSums → ℤ
+skewness s =
+    let m = unsigned_abs (second_moment s) in
+    with_sign (third_moment s) (root_quot (square (third_moment s) * 10 ^ 12) (m * m * m))
+
+-- the mean fourth power over the square of the mean square, less 3, in millionths
+unfoldable pub kurtosis : PowerSums → ℤ
+kurtosis s =
+    let m = second_moment s *ℤ second_moment s in quot ((fourth_moment s -ℤ (pos 3 *ℤ m)) *ℤ pos MILLION) m
+
 -- a, b and c are the windows of the kind's inputs, in order
 unfoldable pub formula : WindowKind → List ℤ → List ℤ → List ℤ → ℤ
 formula Latest a b c = oldest a
@@ -227,7 +325,7 @@ formula FastStochasticOscillator close low high =
 formula TrueRange high low close =
     let h = newest high in let l = newest low in let c = oldest close in
     to_cell (greatest (of_both h l (h -ℤ l) ∷ gap h c ∷ gap l c ∷ []))
-formula (ExponentialWeightedMovingAverage decay) a b c = faded_mean decay a
+formula (ExponentialWeightedMovingAverage decay) a b c = faded_mean MILLION decay a
 formula AroonUp a b c = place_of (greatest a) a
 formula AroonDown a b c = place_of (least a) a
 formula Correlation y x c = correlation (pair_sums x y)
@@ -246,3 +344,11 @@ formula All a b c = truth (list_all is_true a)
 formula Any a b c = truth (list_any is_true a)
 formula (AtLeastN n) a b c = truth (nat_le n (count_by is_true a))
 formula AllPresent a b c = truth (list_all is_present a)
+formula WindowSlope a b c = steepness (trend_sums a)
+formula WindowResidual a b c =
+    if is_missing (newest a) then MISSING else residual (trend_sums a) (pos (length a)) (newest a)
+formula WindowRSquared a b c = r_squared (trend_sums a)
+formula (ExponentialWeightedMovingMean decay) a b c = faded_mean FINE decay a
+formula (ExponentialWeightedMovingStdDev decay) a b c = faded_deviation decay a
+formula WindowSkewness a b c = skewness (power_sums a)
+formula WindowKurtosis a b c = kurtosis (power_sums a)

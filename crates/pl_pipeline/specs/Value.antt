@@ -12,7 +12,7 @@ use Rattle.pl_pipeline.specs.Kind as kind
 use Rattle.pl_pipeline.specs.Kind.{Kind, PointKind, LabelKind, CrossKind}
 use Rattle.pl_pipeline.specs.declared.WindowKind.{WindowKind}
 use Rattle.pl_pipeline.specs.Kind.Kind.{Constant, Label, StaticSids, Window, Point, LabelTest, Cross, Downsample}
-use Rattle.pl_pipeline.specs.declared.WindowKind.TheVariants.{Returns, PercentChange, RateOfChangePercentage, RSI, FastStochasticOscillator, AroonUp, AroonDown, Correlation, All, Any, AtLeastN, AllPresent, WindowRank, WindowArgMax, WindowArgMin, MaxDrawdown, RankCorrelation}
+use Rattle.pl_pipeline.specs.declared.WindowKind.TheVariants.{Returns, PercentChange, RateOfChangePercentage, RSI, FastStochasticOscillator, AroonUp, AroonDown, Correlation, All, Any, AtLeastN, AllPresent, WindowRank, WindowArgMax, WindowArgMin, MaxDrawdown, RankCorrelation, WindowRSquared, WindowSkewness, WindowKurtosis}
 use Rattle.pl_pipeline.specs.Kind.PointKind.{Add, Sub, Mul, Div, Neg, Abs, Clip, FillNa, IfElse, Log, Exp, Sqrt, Sign, Maximum, Minimum, Where}
 use Rattle.pl_pipeline.specs.Kind.CrossKind.{Top, Bottom, PercentileBetween, PeerCount}
 use Rattle.pl_spec.specs.Cells.{truth, is_true}
@@ -178,6 +178,9 @@ is_change WindowArgMax = true
 is_change WindowArgMin = true
 is_change MaxDrawdown = true
 is_change RankCorrelation = true
+is_change WindowRSquared = true
+is_change WindowSkewness = true
+is_change WindowKurtosis = true
 is_change k = false
 
 abbrev pub keeps_window : WindowKind → Bool

@@ -80,4 +80,11 @@ pub enum WindowKind {
     Any,
     AtLeastN { n: u32 },
     AllPresent,
+    WindowSlope,
+    WindowResidual,
+    WindowRSquared,
+    ExponentialWeightedMovingMean { decay: i64 },
+    ExponentialWeightedMovingStdDev { decay: i64 },
+    WindowSkewness,
+    WindowKurtosis,
 }

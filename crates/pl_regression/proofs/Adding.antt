@@ -14,7 +14,7 @@ use Rattle.pl_pipeline.specs.Formula.{PairSums, present_pairs, pair_total, sums_
 use Rattle.pl_lanes.proofs.Cells.{total-cons, is_within, is_gone}
 use Rattle.pl_regression.specs.Sums.{AreWithin, with_pair, without_pair, added, removed}
 
-same_sums : (s t : PairSums) → s.number ≡ t.number → s.x ≡ t.x → s.y ≡ t.y → s.xx ≡ t.xx → s.yy ≡ t.yy → s.xy ≡ t.xy → s ≡ t
+pub same_sums : (s t : PairSums) → s.number ≡ t.number → s.x ≡ t.x → s.y ≡ t.y → s.xx ≡ t.xx → s.yy ≡ t.yy → s.xy ≡ t.xy → s ≡ t
 same_sums s t a b c d e f = λ i. record { number = a i; x = b i; y = c i; xx = d i; yy = e i; xy = f i }
 
 -- ---- one pair more at the front

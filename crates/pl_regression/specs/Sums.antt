@@ -1,5 +1,5 @@
 -- Sums of pairs of cells, pair by pair.
-use Rattle.std.specs.Prelude.{ℕ, ◌+◌, ◌-◌, ◌*◌, ◌≤◌, ◌||◌, if◌then◌else◌, ℤ, ◌+ℤ◌, ◌-ℤ◌, ◌*ℤ◌}
+use Rattle.std.specs.Prelude.{ℕ, pos, ◌^◌, ◌<◌, ◌+◌, ◌-◌, ◌*◌, ◌≤◌, ◌||◌, if◌then◌else◌, ℤ, ◌+ℤ◌, ◌-ℤ◌, ◌*ℤ◌}
 use Rattle.std.specs.Int.RustNames.{unsigned_abs}
 use Rattle.pl_spec.specs.Limits.{most_window}
 use Rattle.pl_spec.specs.Rounding.{LIMIT, is_missing}
@@ -17,6 +17,13 @@ pub record AreWithin (n : ℕ) (s : PairSums) : Type 0 where
 -- those of no more pairs than a window has
 abbrev pub AreSums : PairSums → Type 0
 AreSums s = AreWithin most_window s
+
+-- sums whose spreads fit 128 bits
+pub record AreShort (s : PairSums) : Type 0 where
+  pub x : unsigned_abs s.x < 2 ^ 40
+  pub y : unsigned_abs s.y < 2 ^ 80
+  pub xx : unsigned_abs s.xx < 2 ^ 100
+  pub xy : unsigned_abs s.xy < 2 ^ 100
 
 -- the sums with one pair more
 abbrev pub with_pair : PairSums → ℤ → ℤ → PairSums
@@ -46,3 +53,14 @@ added s x y = if is_missing x || is_missing y then s else with_pair s x y
 
 unfoldable pub removed : PairSums → ℤ → ℤ → PairSums
 removed s x y = if is_missing x || is_missing y then s else without_pair s x y
+
+-- the sums of the pairs whose first values are less by one
+unfoldable pub lowered : PairSums → PairSums
+lowered s = record {
+  number = s.number;
+  x = s.x -ℤ pos s.number;
+  y = s.y;
+  xx = ((s.xx -ℤ s.x) -ℤ s.x) +ℤ pos s.number;
+  yy = s.yy;
+  xy = s.xy -ℤ s.y;
+}

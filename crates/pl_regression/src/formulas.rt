@@ -79,10 +79,10 @@ const MILLION: i128 = 1_000_000;
 
 const TRILLION: u64 = 1_000_000_000_000;
 
-// The whole number nearest to the root of `a / b`, as a cell; `MISSING` where `b` is 0.
-fn root(a: &Natural, b: &Natural) -> i64
-    requires dividend { a.now < 2 ^ 446 }
-    requires divisor { b.now < 2 ^ 320 }
+/// The whole number nearest to the root of `a / b`, as a cell; `MISSING` where `b` is 0, or where it is
+/// outside the range of cells.
+pub fn root(a: &Natural, b: &Natural) -> i64
+    requires { a.now < 2 ^ 446 }
     ensures value { result ≡ root_quot a.now b.now }
     ensures cell { IsCell result }
 {

@@ -4,7 +4,9 @@
 mod formulas;
 mod pairs;
 mod ranks;
+mod trends;
 
-pub use formulas::{correlation, covariance, intercept, slope, slope_error};
+pub use formulas::{correlation, covariance, intercept, root, slope, slope_error};
 pub use pairs::PairSums;
 pub use ranks::{rank_correlation, twice_rank};
+pub use trends::{r_squared, residual, steepness};

@@ -1,11 +1,11 @@
 //! The sums of pairs of values.
 
-ghost use Rattle.std.specs.Prelude.{◌≡◌, ◌≤◌, ◌*◌, ◌^◌, ◌<◌, ◌+◌, ◌-◌, length, take, drop, false, unsigned_abs, pos, ◌*ℤ◌, ◌+ℤ◌, ◌-ℤ◌};
+ghost use Rattle.std.specs.Prelude.{◌≡◌, ◌≤◌, ◌*◌, ◌^◌, ◌<◌, ◌+◌, ◌-◌, length, take, drop, false, true, unsigned_abs, pos, ◌*ℤ◌, ◌+ℤ◌, ◌-ℤ◌, []};
 ghost use Rattle.std.specs.List.{All};
 ghost use Rattle.pl_spec.specs.Limits.{most_window};
 ghost use Rattle.pl_spec.specs.Rounding.{IsCell, LIMIT, is_missing};
-ghost use Rattle.pl_pipeline.specs.Formula.{pair_sums, spread_x, spread_y, joint_spread};
-ghost use Rattle.pl_regression.specs.Sums.{AreSums, AreWithin, added, removed};
+ghost use Rattle.pl_pipeline.specs.Formula.{pair_sums, trend_sums, spread_x, spread_y, joint_spread};
+ghost use Rattle.pl_regression.specs.Sums.{AreSums, AreShort, AreWithin, added, removed, lowered};
 
 use pl_fixed::MISSING;
 use pl_wide::Whole;
@@ -40,14 +40,7 @@ impl PairSums {
         ensures value { result ≡ pair_sums xs.now ys.now }
         ensures small { AreSums result }
     {
-        let mut sums = PairSums {
-            number: 0,
-            x: 0,
-            y: 0,
-            xx: 0,
-            yy: 0,
-            xy: 0,
-        };
+        let mut sums = PairSums::none();
         for at in 0..xs.len() {
             sums.add(xs[at], ys[at]);
         }
@@ -69,6 +62,63 @@ impl PairSums {
         let last = xs.len() - 1;
         self.add(xs[last], ys[last]);
         self.remove(xs[0], ys[0]);
+    }
+
+    /// The sums of the cells of a window, each paired with its place, from 1 for the oldest.
+    pub fn of_places(ys: &[i64]) -> PairSums
+        requires cells { All IsCell ys.now }
+        requires few { length ys.now ≤ most_window }
+        ensures value { result ≡ trend_sums ys.now }
+        ensures small { AreSums result }
+    {
+        let mut sums = PairSums::none();
+        for at in 0..ys.len() {
+            sums.add(at as i64 + 1, ys[at]);
+        }
+        sums
+    }
+
+    /// The same of the window one cell later, where each cell is one place nearer to the oldest. The windows
+    /// before and after are one list: all but its last cell, and all but its first.
+    pub fn slide_places(&mut self, ys: &[i64])
+        requires cells { All IsCell ys.now }
+        requires some { 1 ≤ length ys.now }
+        requires few { length ys.now ≤ most_window + 1 }
+        requires stands { self.old ≡ trend_sums (take (length ys.now - 1) ys.now) }
+        ensures value { self.new ≡ trend_sums (drop 1 ys.now) }
+        ensures small { AreSums self.new }
+    {
+        let last = ys.len() - 1;
+        self.add(last as i64 + 1, ys[last]);
+        self.remove(1, ys[0]);
+        self.lower();
+    }
+
+    // The sums of no pair.
+    fn none() -> PairSums
+        ensures { result ≡ pair_sums [] [] }
+    {
+        PairSums {
+            number: 0,
+            x: 0,
+            y: 0,
+            xx: 0,
+            yy: 0,
+            xy: 0,
+        }
+    }
+
+    // With each first value less by one.
+    fn lower(&mut self)
+        requires { AreSums self.old }
+        ensures { self.new ≡ lowered self.old }
+    {
+        let number = self.number as i128;
+        let once = minus(self.xx, self.x);
+        let twice = minus(once, self.x);
+        self.xx = plus(twice, number);
+        self.xy = minus(self.xy, self.y);
+        self.x = minus(self.x, number);
     }
 
     // With one pair more, unless a cell is missing.
@@ -140,6 +190,35 @@ impl PairSums {
         Whole::new(self.y)
     }
 
+    // Are the sums small enough for 128 bits? Those of places are.
+    pub(crate) fn are_short(&self) -> bool
+        ensures { result ≡ true → AreShort self.now }
+    {
+        self.x.unsigned_abs() < 1 << 40
+            && self.y.unsigned_abs() < 1 << 80
+            && self.xx.unsigned_abs() < 1 << 100
+            && self.xy.unsigned_abs() < 1 << 100
+    }
+
+    // The spreads in 128 bits.
+    pub(crate) fn short_spread_x(&self) -> i128
+        requires sums { AreSums self.now }
+        requires short { AreShort self.now }
+        ensures value { result ≡ spread_x self.now }
+        ensures small { unsigned_abs result < 2 ^ 124 }
+    {
+        short_spread(self.number, self.xx, self.x, self.x)
+    }
+
+    pub(crate) fn short_joint_spread(&self) -> i128
+        requires sums { AreSums self.now }
+        requires short { AreShort self.now }
+        ensures value { result ≡ joint_spread self.now }
+        ensures small { unsigned_abs result < 2 ^ 124 }
+    {
+        short_spread(self.number, self.xy, self.x, self.y)
+    }
+
     /// The square of the number times the variance of the first values.
     pub fn spread_x(&self) -> Whole
         requires { AreSums self.now }
@@ -178,6 +257,18 @@ fn spread(number: usize, products: i128, x: i128, y: i128) -> Whole
     ensures small { unsigned_abs result < 2 ^ 135 }
 {
     Whole::product(number as i128, products).minus(&Whole::product(x, y))
+}
+
+// The same in 128 bits.
+fn short_spread(number: usize, products: i128, x: i128, y: i128) -> i128
+    requires number { number ≤ most_window }
+    requires products { unsigned_abs products < 2 ^ 100 }
+    requires x { unsigned_abs x < 2 ^ 40 }
+    requires y { unsigned_abs y < 2 ^ 80 }
+    ensures value { result ≡ (pos number *ℤ products) -ℤ (x *ℤ y) }
+    ensures small { unsigned_abs result < 2 ^ 124 }
+{
+    number as i128 * products - x * y
 }
 
 fn plus(sum: i128, more: i128) -> i128

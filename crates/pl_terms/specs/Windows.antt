@@ -4,7 +4,7 @@ use Rattle.pl_spec.specs.declared.Column.{Column}
 use Rattle.pl_spec.specs.declared.Column.TheVariants.{High, Low, Close, Volume}
 use Rattle.pl_pipeline.specs.Kind.{Kind, Window}
 use Rattle.pl_pipeline.specs.declared.WindowKind.{WindowKind}
-use Rattle.pl_pipeline.specs.declared.WindowKind.TheVariants.{Latest, SimpleMovingAverage, LinearWeightedMovingAverage, WindowSum, WindowMax, WindowMin, WindowStd, BollingerMiddle, BollingerLower, BollingerUpper, Returns, PercentChange, RateOfChangePercentage, RSI, VWAP, AverageDollarVolume, WeightedAverageValue, FastStochasticOscillator, TrueRange, ExponentialWeightedMovingAverage, AroonUp, AroonDown, Correlation, Covariance, RegressionSlope, RegressionIntercept, RegressionError, WindowPercentile, WindowRank, WindowArgMax, WindowArgMin, WindowFirst, MaxDrawdown, RankCorrelation, All, Any, AtLeastN, AllPresent}
+use Rattle.pl_pipeline.specs.declared.WindowKind.TheVariants.{Latest, SimpleMovingAverage, LinearWeightedMovingAverage, WindowSum, WindowMax, WindowMin, WindowStd, BollingerMiddle, BollingerLower, BollingerUpper, Returns, PercentChange, RateOfChangePercentage, RSI, VWAP, AverageDollarVolume, WeightedAverageValue, FastStochasticOscillator, TrueRange, ExponentialWeightedMovingAverage, AroonUp, AroonDown, Correlation, Covariance, RegressionSlope, RegressionIntercept, RegressionError, WindowPercentile, WindowRank, WindowArgMax, WindowArgMin, WindowFirst, MaxDrawdown, RankCorrelation, All, Any, AtLeastN, AllPresent, WindowSlope, WindowResidual, WindowRSquared, ExponentialWeightedMovingMean, ExponentialWeightedMovingStdDev, WindowSkewness, WindowKurtosis}
 use Rattle.pl_terms.specs.declared.kind.WindowForm.{WindowForm}
 use Rattle.pl_terms.specs.declared.kind.WindowForm.TheVariants.{Bar, Series, LongSeries, Weighted, Pairs, Regression, Filter, Columns, LongColumns, TwoColumns}
 
@@ -57,6 +57,13 @@ row_of All = row (codes "All") [] Filter true
 row_of Any = row (codes "Any") [] Filter true
 row_of (AtLeastN n) = row (codes "AtLeastN") [] Filter true
 row_of AllPresent = row (codes "AllPresent") [] Series true
+row_of WindowSlope = row (codes "WindowSlope") [] LongSeries false
+row_of WindowResidual = row (codes "WindowResidual") [] LongSeries false
+row_of WindowRSquared = row (codes "WindowRSquared") [] LongSeries true
+row_of (ExponentialWeightedMovingMean decay) = row (codes "ExponentialWeightedMovingMean") [] Series false
+row_of (ExponentialWeightedMovingStdDev decay) = row (codes "ExponentialWeightedMovingStdDev") [] LongSeries false
+row_of WindowSkewness = row (codes "WindowSkewness") [] LongSeries true
+row_of WindowKurtosis = row (codes "WindowKurtosis") [] LongSeries true
 
 -- the formula or filter over a window that a kind is
 abbrev pub window_in : Kind → Option WindowKind
@@ -76,7 +83,9 @@ formulas =
 abbrev pub later_formulas : List WindowKind
 later_formulas =
     Correlation ∷ Covariance ∷ RegressionSlope ∷ RegressionIntercept ∷ RegressionError ∷
-    WindowPercentile 0 ∷ WindowRank ∷ WindowArgMax ∷ WindowArgMin ∷ WindowFirst ∷ MaxDrawdown ∷ RankCorrelation ∷ []
+    WindowPercentile 0 ∷ WindowRank ∷ WindowArgMax ∷ WindowArgMin ∷ WindowFirst ∷ MaxDrawdown ∷ RankCorrelation ∷
+    WindowSlope ∷ WindowResidual ∷ WindowRSquared ∷ ExponentialWeightedMovingMean (pos 0) ∷
+    ExponentialWeightedMovingStdDev (pos 0) ∷ WindowSkewness ∷ WindowKurtosis ∷ []
 
 abbrev pub formulas_of : ℕ → List WindowKind
 formulas_of version = if nat_le 4 version then formulas ++ later_formulas else formulas

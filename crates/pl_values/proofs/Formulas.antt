@@ -12,7 +12,7 @@ use Rattle.pl_spec.specs.Window.{before, downward, seen_cell}
 use Rattle.pl_pipeline.specs.Kind.{Kind}
 use Rattle.pl_pipeline.specs.declared.WindowKind.{WindowKind}
 use Rattle.pl_pipeline.specs.Kind.Kind.{Window}
-use Rattle.pl_pipeline.specs.declared.WindowKind.TheVariants.{Latest, BollingerLower, BollingerUpper, VWAP, AverageDollarVolume, WeightedAverageValue, ExponentialWeightedMovingAverage, Correlation, Covariance, RegressionSlope, RegressionIntercept, RegressionError, All as AllTrue, Any, AtLeastN, AllPresent, TrueRange, WindowPercentile, RankCorrelation}
+use Rattle.pl_pipeline.specs.declared.WindowKind.TheVariants.{Latest, BollingerLower, BollingerUpper, VWAP, AverageDollarVolume, WeightedAverageValue, ExponentialWeightedMovingAverage, Correlation, Covariance, RegressionSlope, RegressionIntercept, RegressionError, All as AllTrue, Any, AtLeastN, AllPresent, TrueRange, WindowPercentile, RankCorrelation, ExponentialWeightedMovingMean, ExponentialWeightedMovingStdDev}
 use Rattle.pl_pipeline.specs.Formula.{formula}
 use Rattle.pl_pipeline.specs.Term.{Node, Input}
 use Rattle.pl_pipeline.specs.Term.Input.{BarColumn, TermInput}
@@ -171,6 +171,8 @@ takes-kind (BollingerLower k) w names a h flags cells = inl (positive-cell k h)
 takes-kind (BollingerUpper k) w names a h flags cells = inl (positive-cell k h)
 takes-kind (ExponentialWeightedMovingAverage d) w names a h flags cells = inl (decay-range d h)
 takes-kind (WindowPercentile percent) w names a h flags cells = inl (let most : nat_le percent 10000 ≡ true = h in grind (arith, nat_tests))
+takes-kind (ExponentialWeightedMovingMean d) w names a h flags cells = inl (decay-range d h)
+takes-kind (ExponentialWeightedMovingStdDev d) w names a h flags cells = inl (decay-range d h)
 takes-kind f w names a h flags cells = inl tt
 
 -- the kinds that take pairs have two windows

@@ -3,7 +3,7 @@ use Rattle.std.specs.Prelude.{◌≡◌, pos, negsuc, refl, [], ◌∷◌, map, 
 use Rattle.pl_spec.specs.Rounding.{MISSING, LIMIT}
 use Rattle.pl_spec.specs.declared.Column.TheVariants.{High, Low, Close, Volume}
 use Rattle.pl_pipeline.specs.declared.WindowKind.TheVariants as kind
-use Rattle.pl_pipeline.specs.Formula.{formula, correlation, covariance, slope, intercept, slope_error, drawdown}
+use Rattle.pl_pipeline.specs.Formula.{formula, correlation, covariance, slope, intercept, slope_error, drawdown, steepness, residual, r_squared, weighted_deviation, skewness, kurtosis}
 use Rattle.pl_pipeline.specs.Term.Term.{column}
 use Rattle.pl_pipeline.specs.Value.Value.{Number}
 use Rattle.pl_laws.proofs.Worked.Worlds.{opened, units, bar, alone, plain, gap, no_tables, window, at_close, by_session, on}
@@ -187,3 +187,44 @@ falls_to_nothing = refl
 correlation_of_ranks : formula kind.RankCorrelation (units 5 ∷ units 6 ∷ units 5 ∷ units 6 ∷ units 6 ∷ []) (units 1 ∷ units 1 ∷ units 2 ∷ units 2 ∷ units 3 ∷ []) [] ≡ pos 304290
 unfolding opened correlation
 correlation_of_ranks = refl
+
+-- ---- lines, moments, weights that fade
+
+-- the line of 100, 50, 10 and 14 at places 1, 2, 4 and 5, and their moments
+line_with_a_gap : map (λ k. formula k (units 100 ∷ units 50 ∷ MISSING ∷ units 10 ∷ units 14 ∷ []) [] [])
+    (kind.WindowSlope ∷ kind.WindowRSquared ∷ kind.WindowResidual ∷ kind.WindowSkewness ∷ kind.WindowKurtosis ∷ [])
+    ≡ neg_ℤ (pos 21200000) ∷ pos 859843 ∷ pos 12900000 ∷ pos 621162 ∷ neg_ℤ (pos 1212541) ∷ []
+unfolding opened steepness r_squared residual skewness kurtosis
+line_with_a_gap = refl
+
+-- a constant has a line, and neither a correlation nor a moment
+line_of_a_constant : map (λ k. formula k (units 7 ∷ units 7 ∷ []) [] [])
+    (kind.WindowSlope ∷ kind.WindowRSquared ∷ kind.WindowResidual ∷ kind.WindowSkewness ∷ kind.WindowKurtosis ∷ [])
+    ≡ pos 0 ∷ MISSING ∷ pos 0 ∷ MISSING ∷ MISSING ∷ []
+unfolding opened steepness r_squared residual skewness kurtosis
+line_of_a_constant = refl
+
+-- the line goes on without the newest value, and one value has no line
+line_wants_two : formula kind.WindowSlope (units 1 ∷ units 3 ∷ MISSING ∷ []) [] [] ∷ formula kind.WindowResidual (units 1 ∷ units 3 ∷ MISSING ∷ []) [] []
+    ∷ formula kind.WindowSlope (MISSING ∷ units 3 ∷ []) [] [] ∷ formula kind.WindowResidual (MISSING ∷ units 3 ∷ []) [] [] ∷ []
+    ≡ units 2 ∷ MISSING ∷ MISSING ∷ MISSING ∷ []
+unfolding opened steepness residual
+line_wants_two = refl
+
+-- the largest cells
+moments_of_the_largest : map (λ k. formula k (pos LIMIT ∷ pos 0 ∷ pos LIMIT ∷ pos 0 ∷ pos LIMIT ∷ []) [] [])
+    (kind.WindowSkewness ∷ kind.WindowKurtosis ∷ kind.WindowResidual ∷ kind.ExponentialWeightedMovingStdDev (pos 333333) ∷ [])
+    ≡ neg_ℤ (pos 408248) ∷ neg_ℤ (pos 1833333) ∷ units 40000000000 ∷ pos 61321541662716680 ∷ []
+unfolding opened residual skewness kurtosis weighted_deviation
+moments_of_the_largest = refl
+
+-- with coarse weights the oldest of three counts for nothing at such a decay
+fine_weights_go_on : formula (kind.ExponentialWeightedMovingMean (pos 1)) (pos LIMIT ∷ pos 0 ∷ pos 0 ∷ []) [] [] ∷ formula (kind.ExponentialWeightedMovingAverage (pos 1)) (pos LIMIT ∷ pos 0 ∷ pos 0 ∷ []) [] [] ∷ []
+    ≡ pos 100000 ∷ pos 0 ∷ []
+unfolding opened
+fine_weights_go_on = refl
+
+deviations_that_fade : map (λ xs. formula (kind.ExponentialWeightedMovingStdDev (pos 333333)) xs [] []) ((units 10 ∷ units 20 ∷ units 30 ∷ units 40 ∷ units 50 ∷ []) ∷ (units 10 ∷ MISSING ∷ []) ∷ (units 10 ∷ []) ∷ [])
+    ≡ pos 11416237 ∷ MISSING ∷ MISSING ∷ []
+unfolding opened weighted_deviation
+deviations_that_fade = refl

@@ -1,14 +1,13 @@
-use Rattle.std.proofs.Common.{rules, ◌≡◌, ◌∙◌, ap, sym, length, map, FitsSigned, w64}
+use Rattle.std.proofs.Common.{rules, ◌≡◌, ◌∙◌, ap, sym, length, FitsSigned, w64}
 use Rattle.std.proofs.lemmas.Int.{to_z-of_z}
-use Rattle.pl_pipeline.specs.Formula.{faded}
-use Rattle.pl_spec.specs.Window.{downward}
+use Rattle.pl_pipeline.specs.Formula.{weights}
 use Rattle.pl_factors.proofs.Following.{faded_are}
 use Rattle.pl_factors.proofs.lanes.fill_faded.Goals as goal
 
 pub returns : goal.returns
-returns c b d =
+returns c =
     let fits : FitsSigned w64 c.args.decay = c.ranges.decay in
     let long : length c.faded_weights-sum.new.weights ≡ c.args.size = search rules in
-    let weights = simp to_z-of_z at c.faded_weights-sum.ensures.weights in
-    faded_are c.args.decay c.args.size (length c.args.out.now) c.args.a.now _ _ long
-    (weights ∙ ap (λ n. map (faded c.args.decay) (downward n)) (sym c.faded_weights-sum.auto.weights ∙ long)) c.requires.long c.fill_weighted.ensures b d
+    let made = simp to_z-of_z at c.faded_weights-sum.ensures.weights in
+    faded_are c.args.one c.args.decay c.args.size (length c.args.out.now) c.args.a.now _ _ long
+    (made ∙ ap (weights c.args.one c.args.decay) (sym c.faded_weights-sum.auto.weights ∙ long)) c.requires.long c.fill_weighted.ensures

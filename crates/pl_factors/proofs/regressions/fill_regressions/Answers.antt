@@ -1,8 +1,6 @@
-use Rattle.std.proofs.Common.{rules, ◌≡◌, ◌+◌, ◌-◌, ◌<◌, ◌≤◌, ◌∙◌, ap, ap₂, sym, arith, length, length-set, to_z, of_z, w64, FitsSigned}
+use Rattle.std.proofs.Common.{rules, ◌≡◌, ◌+◌, ◌-◌, ◌<◌, ◌≤◌, ◌∙◌, ap, sym, arith, length, length-set, to_z, of_z, w64, FitsSigned}
 use Rattle.std.proofs.lemmas.Int.{to_z-of_z}
-use Rattle.pl_pipeline.specs.Formula.{pair_sums}
 use Rattle.pl_terms.specs.Kinds.{kind_of}
-use Rattle.pl_factors.specs.Lanes.{window_at}
 use Rattle.pl_factors.specs.Regressions.{sums_at, regression_at}
 use Rattle.pl_factors.proofs.Following.{all_given, none_given, one_given, span_after, span_before}
 use Rattle.pl_factors.proofs.Regressing.{sums_here, regression_here}

@@ -24,18 +24,11 @@ product-requires-2 c =
     let p = size_bits c.size-3.result.now c.size-4.result.now _ 135 135 refl (omega (arith, x)) (omega (arith, y)) in
     omega (arith, p)
 
-pub root-size-requires-clause-dividend : goal.root-size-requires-clause-dividend
-root-size-requires-clause-dividend c =
+pub root-size-requires : goal.root-size-requires
+root-size-requires c =
     let j = c.joint_spread-joint.ensures.small in
     let p = size_bits c.size.result.now c.size-2.result.now c.product.result 135 135 c.product.ensures (omega (arith, j)) (omega (arith, j)) in
     omega (arith, p, c.times-square.ensures)
-
-pub root-size-requires-clause-divisor : goal.root-size-requires-clause-divisor
-root-size-requires-clause-divisor c =
-    let x = c.spread_x-x.ensures.small in
-    let y = c.spread_y-y.ensures.small in
-    let p = size_bits c.size-3.result.now c.size-4.result.now c.product-2.result 135 135 c.product-2.ensures (omega (arith, x)) (omega (arith, y)) in
-    omega (arith, p)
 
 pub returns-then-is_below-clause-value : goal.returns-then-is_below-clause-value
 returns-then-is_below-clause-value c =

@@ -1,16 +1,7 @@
-use Rattle.std.proofs.Common.{◌≡◌, ◌-◌, ◌<◌, ◌^◌, FitsSigned, w64, rules, arith, refl, ◌∙◌}
+use Rattle.std.proofs.Common.{◌≡◌, ◌-◌, FitsSigned, w64, rules, arith, refl, ◌∙◌}
 use Rattle.std.proofs.lemmas.Int.{to_z-of_z}
 use Rattle.pl_regression.proofs.Values.{IsErring, erring}
-use Rattle.pl_regression.proofs.Bounds.{size_bits}
 use Rattle.pl_regression.proofs.formulas.slope_error.Goals as goal
-
-pub root-requires-clause-divisor : goal.root-requires-clause-divisor
-root-requires-clause-divisor c =
-    let x = c.spread_x-x.ensures.small in
-    let square = size_bits c.size-4.result.now c.size-5.result.now c.product.result 135 135 c.product.ensures (omega (arith, x)) (omega (arith, x)) in
-    let few : c.saturating_sub-freedom.result < 2 ^ 11 = omega (arith, c.saturating_sub-freedom.ensures, c.number.ensures, c.requires.number) in
-    let p = size_bits c.product.result c.saturating_sub-freedom.result c.times-2.result 270 11 c.times-2.ensures square few in
-    omega (arith, p)
 
 pub returns-clause-value : goal.returns-clause-value
 returns-clause-value c =
