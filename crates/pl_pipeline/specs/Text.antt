@@ -34,9 +34,11 @@ number_text k x =
     else if is_filter k then truth_text (is_true x)
     else if is_numbered k then decimal (unsigned_abs x) else cell_text x
 
--- as a machine has it: a filter's 0 or 1 in a byte, any other number in eight
+-- as a machine has it: a filter's 0 or 1 in a byte, any other number in eight; where a label is missing, that of no text
 abbrev pub number_bytes : Kind → ℤ → List ℕ
-number_bytes k x = if is_filter k then (if is_true x then 1 else 0) ∷ [] else eight_bytes x
+number_bytes k x =
+    if is_labelled k then label_text Cells []
+    else if is_filter k then (if is_true x then 1 else 0) ∷ [] else eight_bytes x
 
 abbrev pub number_field : Format → Kind → ℤ → List ℕ
 number_field Csv k x = number_text k x

@@ -17,9 +17,7 @@ behind a b c e = ap (λ (t : List ℕ). t ++ e) (sym (append_assoc a b c))
 pub line-is : (format : Format) (date sid : List ℕ) (fields : List (List ℕ))
     → line_text format date sid fields ≡ (date_part format date ++ sid_part format sid) ++ flat_map (field_part format) fields ++ end_part format
 line-is Csv date sid fields = behind date (44 ∷ sid) (flat_map (λ f. 44 ∷ f) fields) (10 ∷ [])
-line-is Cells date sid fields =
-    let all = flat_map (λ f. f) fields in
-    sym (append_assoc date sid all) ∙ ap (λ (t : List ℕ). (date ++ sid) ++ t) (sym (append-nil all))
+line-is Cells date sid fields = sym (append-nil ((date ++ sid) ++ flat_map (field_part Cells) fields))
 line-is Fixed date sid fields =
     behind (left_in 10 date) (32 ∷ right_in 10 sid) (flat_map (λ f. 32 ∷ f) (map (right_in 20) fields)) (10 ∷ [])
     ∙ ap (λ (t : List ℕ). (left_in 10 date ++ 32 ∷ right_in 10 sid) ++ t ++ 10 ∷ []) (flat_map-map (λ (f : List ℕ). 32 ∷ f) (right_in 20) fields)

@@ -28,6 +28,18 @@ term-there cs i t e d f = here (slice_get cs i) refl e
         let is : d ≡ column_of c = cc in
         ap (λ (x : NamedColumn). x.term) is ∙ ap number_of own
 
+pub name-there : (cs : List code.NamedColumn) (i : ℕ) (n : List ℕ) → option_map (λ (c : code.NamedColumn). c.name) (slice_get cs i) ≡ Some n
+    → (d : NamedColumn) → slice_get (columns_of cs) i ≡ Some d → d.name ≡ n
+name-there cs i n e d f = here (slice_get cs i) refl e
+  where
+    here : (o : Option code.NamedColumn) → slice_get cs i ≡ o → option_map (λ (c : code.NamedColumn). c.name) o ≡ Some n → d.name ≡ n
+    here None g h = absurd (let bad : None ≡ Some n = h in cc)
+    here (Some c) g h =
+        let own : c.name ≡ n = (let q : Some c.name ≡ Some n = h in cc) in
+        let same : Some d ≡ Some (column_of c) = sym f ∙ column-there cs i c g in
+        let is : d ≡ column_of c = cc in
+        ap (λ (x : NamedColumn). x.name) is ∙ own
+
 pub has-column : (cs : List code.NamedColumn) (i : ℕ) → i < length cs → (d : NamedColumn) × (slice_get (columns_of cs) i ≡ Some d)
 has-column cs i h =
     let n : i < length (columns_of cs) = omega (arith, columns-long cs) in

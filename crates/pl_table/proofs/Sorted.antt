@@ -131,16 +131,25 @@ parts Cells k x text bytes a b = b
 number-field : (format : Format) (texts : List (List ℕ)) (k : Kind) (r : Writing) (x : ℤ) → sort_of k ≡ sort_written r → (sort_written r ≡ Labels → ⊥)
     → number_field format k x ≡ cell_field format texts r x
 number-field format texts k Cell x s other =
-    let f = (sorted k).0 ∙ ap is_filters s in let n = (sorted k).1 ∙ ap is_numbers s in
-    parts format k x _ _ (rw (f, n) (missing-text x (is_missing x) refl)) (rw f refl)
-number-field format texts k Truth x s other = let f = (sorted k).0 ∙ ap is_filters s in parts format k x _ _ (rw f refl) (rw f refl)
+    let f = (sorted k).0 ∙ ap is_filters s in let n = (sorted k).1 ∙ ap is_numbers s in let l = labelled k ∙ ap is_labels s in
+    parts format k x _ _ (rw (f, n) (missing-text x (is_missing x) refl)) (rw (l, f) refl)
+number-field format texts k Truth x s other =
+    let f = (sorted k).0 ∙ ap is_filters s in let l = labelled k ∙ ap is_labels s in parts format k x _ _ (rw f refl) (rw (l, f) refl)
 number-field format texts k Whole x s other =
-    let f = (sorted k).0 ∙ ap is_filters s in let n = (sorted k).1 ∙ ap is_numbers s in parts format k x _ _ (rw (f, n) refl) (rw f refl)
+    let f = (sorted k).0 ∙ ap is_filters s in let n = (sorted k).1 ∙ ap is_numbers s in let l = labelled k ∙ ap is_labels s in
+    parts format k x _ _ (rw (f, n) refl) (rw (l, f) refl)
 number-field format texts k Label x s other = absurd (other refl)
 
-coded-field : (format : Format) (texts : List (List ℕ)) (k : Kind) (v : Value) → IsCoded texts v → value_field format k v ≡ cell_field format texts Label (in_array texts v)
-coded-field format texts k v (inl e) = rw e refl
-coded-field format texts k v (inr t) = rw t.1 (ap (label_text format) (sym (placed texts t.0 t.2 (position (bytes_eq t.0) texts) refl).1))
+-- no label
+none-field : (format : Format) (k : Kind) → sort_of k ≡ Labels → number_field format k MISSING ≡ label_text format []
+none-field Csv k s = refl
+none-field Fixed k s = refl
+none-field Cells k s = let l = labelled k ∙ ap is_labels s in rw l refl
+
+coded-field : (format : Format) (texts : List (List ℕ)) (k : Kind) (v : Value) → sort_of k ≡ Labels → IsCoded texts v
+    → value_field format k v ≡ cell_field format texts Label (in_array texts v)
+coded-field format texts k v s (inl e) = rw e (none-field format k s)
+coded-field format texts k v s (inr t) = rw t.1 (ap (label_text format) (sym (placed texts t.0 t.2 (position (bytes_eq t.0) texts) refl).1))
 
 module _ (w : World) (p : Pipeline) (ok : IsChecked p) (texts : HasTexts w) (t a : ℕ) (d : ℤ) (format : Format) where
   numbered-field : (r : Writing) → sort_at p.graph t ≡ Some (sort_written r) → (sort_written r ≡ Labels → ⊥)
@@ -153,7 +162,7 @@ module _ (w : World) (p : Pipeline) (ok : IsChecked p) (texts : HasTexts w) (t a
 
   -- the field of a value is that of its cell
   pub field-is : (r : Writing) → sort_at p.graph t ≡ Some (sort_written r) → value_field format (kind_at p.graph t) (value_of w p t a d) ≡ cell_field format w.texts r (in_array w.texts (value_of w p t a d))
-  field-is Label s = coded-field format w.texts (kind_at p.graph t) (value_of w p t a d) (coded-sort w p ok t texts s a d)
+  field-is Label s = coded-field format w.texts (kind_at p.graph t) (value_of w p t a d) (sorted-there p.graph t Labels s).2 (coded-sort w p ok t texts s a d)
   field-is Cell s = numbered-field Cell s (λ e. let bad : Factors ≡ Labels = e in cc)
   field-is Truth s = numbered-field Truth s (λ e. let bad : Filters ≡ Labels = e in cc)
   field-is Whole s = numbered-field Whole s (λ e. let bad : Numbers ≡ Labels = e in cc)

@@ -60,9 +60,8 @@ pub fn put_end(line: &mut Line, format: Format)
     requires { length line.old + 1 ≤ 8_448 }
     ensures { line.new ≡ line.old ++ end_part format }
 {
-    match format {
-        Format::Csv | Format::Fixed => line.put(b"\n"),
-        Format::Cells => {}
+    if format != Format::Cells {
+        line.put(b"\n");
     }
 }
 

@@ -35,20 +35,21 @@ fn put_column(
     checked: &Checked,
     column: usize,
 ) -> Result<(), AllocError>
-    requires { column < length (pipeline_of checked.now).columns }
+    requires { column < length checked.now.columns }
     ensures { OnOk result ((c : NamedColumn) → slice_get (pipeline_of checked.now).columns column ≡ Some c
         → text.new.items ≡ text.old.items ++ column_part format (pipeline_of checked.now).graph c) }
 {
     let name = checked.column_name(column);
     match format {
-        Format::Csv | Format::Fixed => put_name(text, format, name),
+        Format::Csv => put_name(text, format, name)?,
+        Format::Fixed => put_name(text, format, name)?,
         Format::Cells => {
             let writing = writing_of(checked.graph(), checked.column_term(column));
-            text.push(b',')?;
-            text.extend_from_slice(name)?;
-            text.extend_from_slice(word_of(writing))
+            put_name(text, Format::Csv, name)?;
+            text.extend_from_slice(word_of(writing))?;
         }
     }
+    Ok(())
 }
 
 // What the bytes of a column are, after a colon.

@@ -1,6 +1,5 @@
 //! A line of the table.
 ghost use Rattle.std.specs.Prelude.{◌≡◌, ◌≤◌, ◌+◌, ◌++◌, [], ◌∷◌, length, replicate, IfOk};
-ghost use Rattle.pl_spec.specs.Limits.{most_label_bytes};
 ghost use Rattle.pl_spec.specs.Rounding.{IsCell};
 ghost use Rattle.pl_spec.specs.Decimals.{cell_text};
 
@@ -67,7 +66,7 @@ impl Line {
 
     /// Puts at most 64 zeros at the end.
     pub(crate) fn put_zeros(&mut self, count: usize)
-        requires few { count ≤ most_label_bytes }
+        requires few { count ≤ 64 }
         requires room { length self.old + count ≤ 8_448 }
         ensures { self.new ≡ self.old ++ replicate count 0 }
     {

@@ -12,7 +12,7 @@ use Rattle.pl_table.proofs.header.make_header.Goals as goal
 pub loop-column-preserved : goal.loop-column-preserved
 loop-column-preserved c =
     let p = pipeline_of c.args.checked.now in
-    let there = has-column c.args.checked.now.columns c.loop-column.column c.columns-column-end.inside in
+    let there = has-column c.args.checked.now.columns c.loop-column.column (omega (arith, c.columns-column-end.ensures)) in
     parts-more (front_of c.args.format) _ _ _ _ _ c.loop-column.invariant (c.in_ok-put_column.ensures there.0 there.1)
     (columns-more (column_part c.args.format p.graph) p.columns c.loop-column.column there.0 there.1)
 
