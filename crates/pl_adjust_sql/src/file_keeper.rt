@@ -1,11 +1,16 @@
 //! The database files of the disk.
 
-ghost use Rattle.std.specs.Prelude.{◌≡◌, ◌==◌, ◌↔◌, ◌++◌, [], List, None, IfOk, IsTrue, OnOk, OnErr, false, not, slice_index_or, string_bytes};
+ghost use Rattle.std.specs.Prelude.{◌≡◌, ◌==◌, ◌↔◌, ◌++◌, [], List, None, Ok, IfOk, IfSome, IsSome, IsTrue, OnOk, OnErr, false, not, slice_index_or, string_bytes};
 ghost use Rattle.std.specs.IoError.{error_kind};
+ghost use Rattle.sqlite.specs.State.{HasCleanDisk};
+ghost use Rattle.sqlite.specs.Files.{Finds, file_state};
 ghost use Rattle.sqlite_disk.specs.Memory.{memory_bytes, memory_is_usable};
 ghost use Rattle.pl_outside.specs.Counts.{count_end, count_plus};
 ghost use Rattle.pl_spec.specs.declared.RawAdjust.{RawAdjust};
 ghost use Rattle.pl_adjust_sql.specs.Beside.{suffix_of};
+ghost use Rattle.pl_adjust_sql.specs.Copies.{IsReadFrom};
+ghost use Rattle.pl_adjust_sql.specs.Reads.{count_after};
+ghost use Rattle.pl_outside.specs.Logs.{Loads};
 
 use crate::read::read_table;
 use crate::refusal::TableError;
@@ -16,11 +21,20 @@ use std::alloc::{AllocError, Global};
 use std::fs;
 use std::io::{self, ErrorKind};
 
-/// Database files of SQLite by their paths: each load opens the named file and reads its table. Contracts see
-/// nothing of it but its faults.
+// A database file that was read: its name, and the connection over a copy of its bytes.
+#[derive(Drop)]
+struct Copied {
+    name: String,
+    connection: Connection<FileStore<Memory>>,
+}
+
+/// Database files of SQLite by their paths. The first load of a name reads the named file, and all further
+/// ones read the same copy, so that the tables are of one state. What the file holds no contract sees; what was
+/// loaded, the log has.
 #[derive(Drop)]
 pub struct FileKeeper<'a> {
     rt: &'a HostRuntime,
+    copy: Option<Copied>,
     log: LoadedLog,
     pub(crate) faults: u64,
 }
@@ -33,6 +47,7 @@ impl<'a> FileKeeper<'a> {
     {
         FileKeeper {
             rt,
+            copy: None,
             log: LoadedLog::new(),
             faults: 0,
         }
@@ -65,9 +80,17 @@ impl AdjustKeeper for FileKeeper<'_> {
         name: &str,
         table: Table,
         into: &mut Vec<RawAdjust>,
-    ) -> Result<(), KeepError> {
+    ) -> Result<(), KeepError>
+        ensures statement { OnOk result (IfSome self.new.copy
+            (IsReadFrom table self.old.copy name.now into.old.items into.new.items)) }
+        ensures kept { OnOk result (IsSome self.new.copy) }
+        ensures logged { Loads self.old.log.tables self.new.log.tables name.now table
+            into.old.items into.new.items result }
+        ensures same { OnErr result (into.new.items ≡ into.old.items) }
+        ensures count { self.new.faults ≡ count_after self.old.faults result }
+    {
         let before = into.len();
-        match read_named(self.rt, alloc, name, table, into) {
+        match read_named(self.rt, alloc, &mut self.copy, name, table, into) {
             Ok(()) => {
                 self.log.loads(name.as_bytes(), &table, &into[before..]);
                 Ok(())
@@ -84,21 +107,69 @@ impl AdjustKeeper for FileKeeper<'_> {
     ghost lists_ascend = { Prim.search rules };
 }
 
+// Reads the table from the copy of that name, which is kept for the next one.
 fn read_named(
     rt: &HostRuntime,
     alloc: Global,
+    copy: &mut Option<Copied>,
     name: &str,
     table: Table,
     into: &mut Vec<RawAdjust>,
 ) -> Result<(), TableError>
     ensures appended { OnOk result ((rows : List RawAdjust) × (into.new.items ≡ into.old.items ++ rows)) }
     ensures same { OnErr result (into.new.items ≡ into.old.items) }
+    ensures statement { OnOk result (IfSome copy.new
+        (IsReadFrom table copy.old name.now into.old.items into.new.items)) }
+    ensures kept { OnOk result (IsSome copy.new) }
+    ensures name { IfSome copy.new (λ now. string_bytes now.name ≡ name.now) }
 {
-    match Connection::open_files(alloc, copied_files(rt, alloc, name)?, Options::new(1)) {
-        Ok(connection) => {
-            let mut connection = connection;
-            read_table(alloc, &mut connection, table, into)
+    let mut copied = named_copy(rt, alloc, copy.take(), name)?;
+    let answer = read_table(alloc, &mut copied.connection, table, into);
+    *copy = Some(copied);
+    answer
+}
+
+// The copy that is kept, where it is of that name, and else a new one.
+fn named_copy(
+    rt: &HostRuntime,
+    alloc: Global,
+    kept: Option<Copied>,
+    name: &str,
+) -> Result<Copied, TableError>
+    ensures name { IfOk result (λ copied. string_bytes copied.name ≡ name.now) }
+    ensures once { IfSome kept (λ copied. string_bytes copied.name ≡ name.now → result ≡ Ok copied) }
+{
+    if let Some(copied) = kept {
+        if copied.name.as_str() == name {
+            return Ok(copied);
         }
+    }
+    new_copy(rt, alloc, name)
+}
+
+fn new_copy(rt: &HostRuntime, alloc: Global, name: &str) -> Result<Copied, TableError>
+    ensures name { IfOk result (λ copied. string_bytes copied.name ≡ name.now) }
+{
+    let name_copied = String::from_str(alloc, name)?;
+    let files = copied_files(rt, alloc, name)?;
+    let connection = open_copy(alloc, files)?;
+    Ok(Copied {
+        name: name_copied,
+        connection,
+    })
+}
+
+// The connection over a database file and the log beside it, in memory: it finds what their bytes hold.
+fn open_copy(
+    alloc: Global,
+    files: Files<Memory>,
+) -> Result<Connection<FileStore<Memory>>, TableError>
+    requires log { IsTrue (memory_is_usable files.log) }
+    requires db { IsTrue (memory_is_usable files.db) }
+    ensures found { IfOk result (λ connection. HasCleanDisk (file_state connection) → Finds files connection) }
+{
+    match Connection::open_files(alloc, files, Options::new(1)) {
+        Ok(connection) => Ok(connection),
         Err((error, _)) => Err(open_error(&error)),
     }
 }

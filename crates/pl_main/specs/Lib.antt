@@ -1,3 +1,4 @@
 -- What the program did, and how its process ends.
 pub mod Ends
+pub mod Outputs
 pub mod Runs

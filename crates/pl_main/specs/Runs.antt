@@ -1,44 +1,46 @@
 -- What is seen of a run over the real outside.
-use Rattle.std.specs.Prelude.{ℕ, List, Bool, false, Option, None}
+use Rattle.std.specs.Prelude.{ℕ, List, [], false, Some, None}
 use Rattle.pl_outside.specs.Counts.{count_end}
+use Rattle.pl_outside.specs.declared.sink.Sink.{Ghosts}
 use Rattle.pl_cli.specs.Runs.{Observed}
 
--- no clause says what the disk holds, nor which of its names were begun, and the steps are counted from 0
-abbrev pub seen : {O : Type 0} (taken : O → Option (List ℕ)) (sound : O → Bool) (room : O → ℕ) (out out_now : O) (steps : ℕ) → Observed
-seen taken sound room out out_now steps =
+-- No clause says what the disk and the database hold. These names were begun, and before them none; the steps
+-- are counted from 0.
+abbrev pub seen : {O : Type 0} → Ghosts O → O → O → List (List ℕ) → ℕ → Observed
+seen sink out out_now names steps =
     record {
       files = None;
-      begun = None;
-      begun_now = None;
+      begun = Some [];
+      begun_now = Some names;
       lists = None;
       calls = count_end;
       calls_now = count_end;
       shelf_sound = false;
       keeper_sound = false;
-      out_sound = sound out;
-      taken = taken out;
-      taken_now = taken out_now;
-      room = room out;
-      room_now = room out_now;
+      out_sound = sink.sound out;
+      taken = sink.taken out;
+      taken_now = sink.taken out_now;
+      room = sink.room out;
+      room_now = sink.room out_now;
       steps = 0;
       steps_now = steps;
     }
 
--- what is seen of a run whose text goes to a stream: of the stream nothing, too
-abbrev pub unseen : ℕ → Observed
-unseen steps =
+-- the same of a run whose text goes to a stream, by the bytes that it took before and after
+abbrev pub seen_by : List ℕ → List ℕ → List (List ℕ) → ℕ → Observed
+seen_by taken taken_now names steps =
     record {
       files = None;
-      begun = None;
-      begun_now = None;
+      begun = Some [];
+      begun_now = Some names;
       lists = None;
       calls = count_end;
       calls_now = count_end;
       shelf_sound = false;
       keeper_sound = false;
       out_sound = false;
-      taken = None;
-      taken_now = None;
+      taken = Some taken;
+      taken_now = Some taken_now;
       room = 0;
       room_now = 0;
       steps = 0;

@@ -12,6 +12,7 @@ ghost use Rattle.pl_words.specs.Request.{request};
 ghost use Rattle.pl_cli.specs.Runs.{IsRun};
 ghost use Rattle.pl_edge.specs.Starts.{IsCauseOf};
 ghost use Rattle.pl_main.specs.Ends.{EndsAfterRun, EndsBefore, EndsForMemory};
+ghost use Rattle.pl_main.specs.Outputs.{taken_by};
 ghost use Rattle.pl_main.specs.Runs.{seen};
 
 use pl_adjust_sql::FileKeeper;
@@ -36,7 +37,8 @@ pub const GATHERED: usize = 65_536;
 /// - 2 with the line `usage` where a word is no text in UTF-8, and 10 with the line `memory` where there is
 ///   no memory for the words or for what `out` gathers: then nothing was run.
 ///
-/// With status 0 nothing is left in what `out` gathers.
+/// What was run took exactly the bytes of its text with status 0, and with another none but a prefix of it. With
+/// status 0 nothing is left in what `out` gathers.
 pub fn program<L: Ledger, W: Write + Drop, E: Sink>(
     rt: &HostRuntime,
     args: io::Result<Args>,
@@ -49,11 +51,12 @@ pub fn program<L: Ledger, W: Write + Drop, E: Sink>(
     requires some { 0 < L.parts }
     ensures run { IfOk args (λ args.
         let asked = request (map (λ s. string_bytes s) (drop 1 (into_iter_items args))) in
-        EndsAfterRun E.taken E.faults E.sound E.room asked err.old err.new (exit_status result)
-        ⊎ EndsForMemory E.taken E.faults E.sound E.room err.old err.new (exit_status result)) }
+        (IsOk out.old × EndsAfterRun E.Sink asked (taken_by out.old) (taken_by out.new)
+        err.old err.new (exit_status result))
+        ⊎ EndsForMemory E.Sink err.old err.new (exit_status result)) }
     ensures refused { IfErr args (λ error. (why : StartError)
         × IsCauseOf (error_kind error ≡ ErrorKind.OutOfMemory) why
-        × EndsBefore E.taken E.faults E.sound E.room why err.old err.new (exit_status result)) }
+        × EndsBefore E.Sink why err.old err.new (exit_status result)) }
     ensures written { exit_status result ≡ 0 → IfOk out.new (λ out. writer_buffer out.to ≡ []) }
     ensures begun { exit_status result ≡ 0 → IsOk out.old }
     ensures err { LeavesSink E.sound E.faults err.old err.new }
@@ -79,8 +82,8 @@ fn whole<L: Ledger, W: Write + Drop, E: Sink>(
     requires name { blank.name ≡ L.name }
     requires parts { blank.parts ≡ L.parts }
     requires some { 0 < L.parts }
-    ensures run { EndsAfterRun E.taken E.faults E.sound E.room (request (map (λ s. string_bytes s) words.now))
-        err.old err.new result }
+    ensures run { EndsAfterRun E.Sink (request (map (λ s. string_bytes s) words.now))
+        out.old.log.bytes out.new.log.bytes err.old err.new result }
     ensures written { result ≡ 0 → writer_buffer out.new.to ≡ [] }
     ensures err { LeavesSink E.sound E.faults err.old err.new }
 {
@@ -88,7 +91,8 @@ fn whole<L: Ledger, W: Write + Drop, E: Sink>(
     flushed(out, err, status)
 }
 
-// Runs once over the disk: what `run_program` ensures, but for what no clause can say of the disk.
+// Runs once over the disk: what `run_program` ensures, with the names that were begun; what the disk holds no
+// clause can say.
 fn run<L: Ledger, O: Sink, E: Sink>(
     rt: &HostRuntime,
     words: &[String],
@@ -100,8 +104,8 @@ fn run<L: Ledger, O: Sink, E: Sink>(
     requires parts { blank.parts ≡ L.parts }
     requires some { 0 < L.parts }
     ensures run { let asked = request (map (λ s. string_bytes s) words.now) in
-        (line : List ℕ) × (numbers : List ℕ) × (steps : ℕ)
-        × IsRun (seen O.taken O.sound O.room out.old out.new steps) asked result line numbers
+        (line : List ℕ) × (numbers : List ℕ) × (names : List (List ℕ)) × (steps : ℕ)
+        × IsRun (seen O.Sink out.old out.new names steps) asked result line numbers
         × IsTold E.taken E.faults E.sound E.room err.old err.new (line ++ numbers) }
     ensures usage { result ≡ 2 → request (map (λ s. string_bytes s) words.now) ≡ None }
     ensures refused { request (map (λ s. string_bytes s) words.now) ≡ None → ¬ (result ≡ 10) → result ≡ 2 }
