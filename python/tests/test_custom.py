@@ -139,6 +139,27 @@ def test_a_mask(data):
     assert not calls and (frame.kept == -5.5).all()  # outside of the mask
 
 
+def test_a_mask_that_is_an_input(data):
+    mask = Returns(window_length=2) > 0
+    kept, calls = keeping(inputs=[mask, price.quartiles()], result=1)
+    run_pipeline(Pipeline({"kept": kept(mask=mask)}), FIRST, LAST, data)
+    frame = run_pipeline(Pipeline({"mask": mask}), "2023-05-01", LAST, data)["mask"].unstack()
+    assert calls
+    for day, sids, (filters, _), _ in calls:
+        wanted = frame.loc[:day].iloc[-3:][sids]
+        assert wanted.iloc[-1].all() and filters.tolist() == wanted.to_numpy().tolist()
+
+
+def test_more_terms_than_a_pipeline_takes(data):
+    """Inputs go in as many pipelines as they need."""
+    inputs = [Returns(window_length=length) for length in range(2, 102)]
+    kept, calls = keeping(inputs=inputs, window_length=1, result=1)
+    run_pipeline(Pipeline({"kept": kept()}), FIRST, FIRST, data)
+    frame = run_pipeline(Pipeline({"first": inputs[0], "last": inputs[-1]}), FIRST, FIRST, data)
+    np.testing.assert_array_equal(calls[0][2][0][0], frame["first"])
+    np.testing.assert_array_equal(calls[0][2][-1][0], frame["last"])
+
+
 def test_params_and_outputs(data):
     class Both(CustomFactor):
         inputs = [close]

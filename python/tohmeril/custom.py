@@ -19,7 +19,7 @@ import numpy as np
 import pandas as pd
 
 from . import program, table
-from ._order import Need, order_of, script_of
+from ._order import Need, fitting, order_of
 from ._results import MISSING, MOST, Records, TooMany, as_labels, to_millionths
 from ._windows import Windows
 from .data import HEADERS, Data, records
@@ -27,16 +27,13 @@ from .faults import ComputeFault, DataFault, LimitFault
 from .pipeline.custom import Custom, Whole, bars_of, custom_of, new_out, output_of, parts_of
 from .pipeline.script import Script, without_alias
 from .pipeline.term import COMPUTED, BoundColumn, Term, as_factor
-from .plans import check
 
 if TYPE_CHECKING:
     Array = np.ndarray[Any, Any]
 
 Tick = Callable[[float], None]  # told how much is computed, from 0 to 1
 Ends = tuple[str, str]  # the first and the last session of a range
-COLUMNS = 64  # of a pipeline, at most
 EMPTY: dict[str, Any] = {"factor": np.nan, "filter": False, "number": -1, "label": None}  # by the sort of a term
-TYPES: dict[str, Any] = {"factor": "f8", "filter": "?", "number": "i8", "label": object}
 
 
 class Request(NamedTuple):
@@ -226,27 +223,14 @@ class _Level:
         return {
             (term, begin): values
             for begin, terms in wanted.items()
-            for some in self._fitting(list(terms))
-            for values in [self._run(some, begin)]
-            for term in some
+            for script in fitting(list(terms), self.names)
+            for values in [self._run(script, begin)]
+            for term in values.terms
         }
 
-    def _fitting(self, terms: list[Term]) -> list[list[Term]]:
-        """Terms in as many pipelines as they need."""
-        try:
-            if len(terms) <= COLUMNS:
-                check(script_of(terms, self.names))
-                return [terms]
-        except LimitFault:
-            if len(terms) == 1:
-                raise
-        middle = len(terms) // 2
-        return [*self._fitting(terms[:middle]), *self._fitting(terms[middle:])]
-
-    def _run(self, terms: Sequence[Term], begin: int) -> Values:
-        """The values of terms from a session on."""
-        script, data = script_of(terms, self.names), self.data
-        sorts = list(script.sorts.values())
+    def _run(self, script: Script, begin: int) -> Values:
+        """The values of a pipeline's columns from a session on."""
+        sorts, data = list(script.sorts.values()), self.data
         with program.file(script.text) as name:
             words = ["run", name, *data.names, data.sessions[begin], self.last, *table.form_words(sorts), *data.options]
             with program.stream(words) as out:
@@ -258,7 +242,7 @@ class _Level:
         )
         shape = bisect_right(data.sessions, self.last) - begin, len(self.found.sids)
         found = {}
-        for at, (term, sort) in enumerate(zip(terms, sorts), 2):
+        for at, (term, sort) in enumerate(zip(script.source[0].values(), sorts), 2):
             cells = _of_labels(frame[at], term) if sort == "label" else frame[at].to_numpy()
             found[term] = np.full(shape, missing_of(term), cells.dtype)
             found[term][places] = cells
@@ -354,9 +338,10 @@ class _Work:
     ):
         self.custom, self.first = need
         self.found, self.names = found, names
-        self.values = {term: values[term, begin] for term, begin in _sources(*need)}
-        self.mask = self.custom.mask if self.custom.mask is None else values[self.custom.mask, self.first]
         length = self.custom.window_length
+        self.values = {part: values[part, self.first - length + 1] for part in parts_of(self.custom)}
+        self.mask = self.custom.mask if self.custom.mask is None else values[self.custom.mask, self.first]
+        self.some = next((values[source] for source in _sources(*need)), None)  # which say where assets exist
         self.walks = {
             column: next(
                 walk
@@ -386,10 +371,9 @@ class _Work:
 
     def _exist(self, at: int) -> Array:
         """The columns of the assets that exist on a session."""
-        for walk in self.walks.values():
-            return walk.columns
-        some = next(iter(self.values.values()))
-        return np.flatnonzero(some.exist[at - some.first])
+        if self.some is None:
+            return next(iter(self.walks.values())).columns
+        return np.flatnonzero(self.some.exist[at - self.some.first])
 
     def _window(self, part: Term, at: int) -> Array:
         """The window of an input, of all assets."""
