@@ -352,6 +352,7 @@ class _Work:
         }
         none = np.full(1, self.custom.missing_value, self.custom.dtype)
         self.empty = MISSING if self.custom.sort == "label" else in_millionths(self.custom, none)[0][0]
+        self.columns, self.assets = np.zeros(0, int), pd.Index([])  # those of the session before
         self.great, self.since = 0, ""  # how many results were too great, and from which session on
 
     def go(self, at: int, day: str) -> None:
@@ -363,7 +364,9 @@ class _Work:
         out = new_out(custom, len(columns))
         if len(columns):
             given = [_of_columns(self._window(part, at), columns) for part in custom.inputs]
-            call(custom, day, self.found.sids[columns], out, given)
+            if not np.array_equal(columns, self.columns):
+                self.columns, self.assets = columns, pd.Index(self.found.sids[columns])
+            call(custom, day, self.assets, out, given)
         inside = slice(None) if len(columns) == len(exist) else np.isin(exist, columns, assume_unique=True)
         for leaf in custom.leaves:
             results = np.asarray(out[output_of(leaf)] if custom.outputs else out)
@@ -391,8 +394,11 @@ class _Work:
                 labels[inside] = as_labels(out, self.custom.missing_value)
             self.found.put_labels(self.names[leaf], day, exist, labels)
             return
-        values = np.full(len(exist), self.empty)
-        values[inside], great = in_millionths(self.custom, out)
+        values, great = in_millionths(self.custom, out)
+        if len(values) < len(exist):
+            every = np.full(len(exist), self.empty)
+            every[inside] = values
+            values = every
         if great.any():
             self.great, self.since = self.great + int(great.sum()), self.since or day
         self.found.put(self.names[leaf], day, exist, values)
@@ -426,11 +432,11 @@ def _of_columns(rows: Array, columns: Array) -> Array:
     return rows.copy() if len(columns) == rows.shape[1] else np.take(rows, columns, axis=1)
 
 
-def call(custom: Custom, day: str, sids: Array, out: Any, given: Sequence[Array]) -> None:
+def call(custom: Custom, day: str, assets: pd.Index, out: Any, given: Sequence[Array]) -> None:
     """Let it be computed for a session."""
     compute: Callable[..., Any] = getattr(custom, "compute")
     with told(custom, day):
-        answer = compute(pd.Timestamp(day), pd.Index(sids), out, *given, **custom.params)
+        answer = compute(pd.Timestamp(day), assets, out, *given, **custom.params)
         if answer is not None and answer is not out:
             raise TypeError(
                 f"compute returned {type(answer).__name__}: it has to write its results into out, as out[:] = .."
