@@ -491,6 +491,8 @@ def made(base=CustomFactor, **attributes):
         (lambda: made(window_length=1261)(), "and not 1261"),
         (lambda: Mean("close"), "inputs are a list of columns and terms, as .EquityPricing.close., not 'close'"),
         (lambda: Mean([5]), "5 can't be its input"),
+        (lambda: Mean([]), "its compute takes values behind out, and there are 0 inputs: write inputs"),
+        (lambda: Mean([close, volume]), "takes values behind out, and there are 2 inputs"),
         (lambda: Mean(mask=price), "mask has to be a filter, and is close.latest"),
         (lambda: Mean(power=2), "power is none of its parameters; it takes inputs, outputs, window_length, mask"),
         (lambda: made(window_length=1, params=("k",))(), "k is missing"),

@@ -100,7 +100,6 @@ def names_in(script: Script, part: str) -> set[str]:
 def with_own_names(script: Script, data: Data) -> tuple[Script, dict[Term, str]]:
     """The pipeline, where what it computes goes by names that nothing in the data has; and all these names."""
     leaves = dict.fromkeys(leaf for each in scripts_of(script) for leaf in each.computed)
-    leaves.update(dict.fromkeys(leaf for custom in customs_of(script) for leaf in custom.leaves))
     taken = {name for part in PARTS for name in names_in(script, part)}
     names: dict[Term, str] = {}
     for leaf in leaves:

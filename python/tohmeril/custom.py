@@ -95,9 +95,8 @@ def _parts(script: Script, names: Mapping[Term, str], data: Data, ends: Ends) ->
     """A range in so many parts that the numbers computed for each are no more than a run reads, as far as that is known
     before.
     """
-    days, leaves = data.days(*ends), [
-        leaf for leaf in names if leaf.sort == "factor" and custom_of(leaf).sort == "factor"
-    ]
+    days = data.days(*ends)
+    leaves = [leaf for leaf in names if custom_of(leaf).sort == "factor"]
     assets = len(_sids(data))
     if len(days) * len(leaves) * assets <= MOST["numbers"] or len(days) < 2:
         return [ends]
@@ -338,6 +337,7 @@ class _Work:
     ):
         self.custom, self.first = need
         self.found, self.names = found, names
+        self.leaves = [leaf for leaf in self.custom.leaves if leaf in names]  # those that are used
         length = self.custom.window_length
         self.values = {part: values[part, self.first - length + 1] for part in parts_of(self.custom)}
         self.mask = self.custom.mask if self.custom.mask is None else values[self.custom.mask, self.first]
@@ -368,7 +368,7 @@ class _Work:
                 self.columns, self.assets = columns, pd.Index(self.found.sids[columns])
             call(custom, day, self.assets, out, given)
         inside = slice(None) if len(columns) == len(exist) else np.isin(exist, columns, assume_unique=True)
-        for leaf in custom.leaves:
+        for leaf in self.leaves:
             results = np.asarray(out[output_of(leaf)] if custom.outputs else out)
             self._keep(leaf, day, exist, (inside, results))
 
