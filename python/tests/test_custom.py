@@ -139,6 +139,27 @@ def test_a_mask(data):
     assert not calls and (frame.kept == -5.5).all()  # outside of the mask
 
 
+def test_a_mask_that_is_an_input(data):
+    mask = Returns(window_length=2) > 0
+    kept, calls = keeping(inputs=[mask, price.quartiles()], result=1)
+    run_pipeline(Pipeline({"kept": kept(mask=mask)}), FIRST, LAST, data)
+    frame = run_pipeline(Pipeline({"mask": mask}), "2023-05-01", LAST, data)["mask"].unstack()
+    assert calls
+    for day, sids, (filters, _), _ in calls:
+        wanted = frame.loc[:day].iloc[-3:][sids]
+        assert wanted.iloc[-1].all() and filters.tolist() == wanted.to_numpy().tolist()
+
+
+def test_more_terms_than_a_pipeline_takes(data):
+    """Inputs go in as many pipelines as they need."""
+    inputs = [Returns(window_length=length) for length in range(2, 102)]
+    kept, calls = keeping(inputs=inputs, window_length=1, result=1)
+    run_pipeline(Pipeline({"kept": kept()}), FIRST, FIRST, data)
+    frame = run_pipeline(Pipeline({"first": inputs[0], "last": inputs[-1]}), FIRST, FIRST, data)
+    np.testing.assert_array_equal(calls[0][2][0][0], frame["first"])
+    np.testing.assert_array_equal(calls[0][2][-1][0], frame["last"])
+
+
 def test_params_and_outputs(data):
     class Both(CustomFactor):
         inputs = [close]
@@ -470,6 +491,8 @@ def made(base=CustomFactor, **attributes):
         (lambda: made(window_length=1261)(), "and not 1261"),
         (lambda: Mean("close"), "inputs are a list of columns and terms, as .EquityPricing.close., not 'close'"),
         (lambda: Mean([5]), "5 can't be its input"),
+        (lambda: Mean([]), "its compute takes values behind out, and there are 0 inputs: write inputs"),
+        (lambda: Mean([close, volume]), "takes values behind out, and there are 2 inputs"),
         (lambda: Mean(mask=price), "mask has to be a filter, and is close.latest"),
         (lambda: Mean(power=2), "power is none of its parameters; it takes inputs, outputs, window_length, mask"),
         (lambda: made(window_length=1, params=("k",))(), "k is missing"),

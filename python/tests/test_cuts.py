@@ -19,6 +19,7 @@ from tohmeril.pipeline.classifiers import Label
 from tohmeril.pipeline.data import Column, DataSet, EquityPricing
 from tohmeril.pipeline.factors import Returns, SimpleMovingAverage
 from tohmeril.pipeline.filters import All
+from tohmeril.pipeline.script import Script
 from tohmeril.plans import as_script, ask_program
 
 DAYS = [str(date(2024, 1, 1) + timedelta(n)) for n in range(40)]
@@ -143,10 +144,10 @@ def test_the_files_of_a_piece_are_the_cut(seed, tmp_path, monkeypatch):
     spans = [sorted(draw.sample([day for day, in rows["sessions"]], 2)) for _ in range(5)]
     monkeypatch.setattr(cuts, "BLOCK", 300)
     monkeypatch.setattr(
-        cuts, "plan", lambda script, start, end, data: SimpleNamespace(reach=data.sessions.index(start))
+        cuts, "order_of", lambda script, start, end, data: SimpleNamespace(reach=data.sessions.index(start))
     )
     (tmp_path / "pieces").mkdir()
-    pieces = cuts.cut_files(None, written(rows, tmp_path / "whole"), spans, tmp_path / "pieces")
+    pieces = cuts.cut_files(Script(""), written(rows, tmp_path / "whole"), spans, tmp_path / "pieces")
     for piece, (first, last) in zip(pieces, spans):
         wanted, found = cut(rows, first, last), read(piece)
         sids = {row[0] for row in wanted["assets"]}

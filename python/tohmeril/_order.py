@@ -10,17 +10,18 @@ import mmap
 import os
 from bisect import bisect_left
 from dataclasses import dataclass
-from typing import Iterable, Iterator, Mapping, NamedTuple, Optional
+from typing import Iterable, Iterator, Mapping, NamedTuple, Optional, Sequence
 from weakref import WeakSet
 
 from .data import Data
-from .faults import PipelineError, RangeFault
+from .faults import LimitFault, PipelineError, RangeFault
 from .pipeline.custom import Custom, bars_of, custom_of, parts_of
 from .pipeline.script import Script, free_name, make_script, named_in, parts_first
 from .pipeline.term import CALL, Factor, NonWindowSafeInput, Term
 from .plans import Plan, ask_program
 
 PARTS = ("numbers", "labels")
+COLUMNS = 64  # of a pipeline, at most
 _steady: WeakSet[Custom] = WeakSet()  # what was found to be right
 
 
@@ -45,6 +46,20 @@ class Order:
 def script_of(terms: Iterable[Term], computed: Optional[Mapping[Term, str]] = None) -> Script:
     """Terms as the columns of a pipeline."""
     return make_script({f"t{at}": term for at, term in enumerate(terms)}, None, computed)
+
+
+def fitting(terms: Sequence[Term], computed: Optional[Mapping[Term, str]] = None) -> list[Script]:
+    """Terms as the columns of as many pipelines as they need."""
+    script = script_of(terms, computed)
+    try:
+        if len(terms) <= COLUMNS:
+            ask_program("check", script)
+            return [script]
+    except LimitFault:
+        if len(terms) == 1:
+            raise
+    middle = len(terms) // 2
+    return [*fitting(terms[:middle], computed), *fitting(terms[middle:], computed)]
 
 
 def inside(custom: Custom) -> list[Term]:
@@ -85,7 +100,6 @@ def names_in(script: Script, part: str) -> set[str]:
 def with_own_names(script: Script, data: Data) -> tuple[Script, dict[Term, str]]:
     """The pipeline, where what it computes goes by names that nothing in the data has; and all these names."""
     leaves = dict.fromkeys(leaf for each in scripts_of(script) for leaf in each.computed)
-    leaves.update(dict.fromkeys(leaf for custom in customs_of(script) for leaf in custom.leaves))
     taken = {name for part in PARTS for name in names_in(script, part)}
     names: dict[Term, str] = {}
     for leaf in leaves:
@@ -134,8 +148,8 @@ def order_of(script: Script, first: str, last: str, data: Data) -> Order:
                 raise RangeFault(f"range: TooEarly {begin}")
         reach = min(reach, bars) if bars_of(custom) else reach
         for some, begin in ((parts_of(custom), terms), ([custom.mask] if custom.mask is not None else [], start)):
-            if some:
-                plan = _plan(script_of(some), data.sessions[begin], last, data)
+            for part in fitting(some) if some else ():
+                plan = _plan(part, data.sessions[begin], last, data)
                 reach = min(reach, plan.reach)
                 for other, at in _needed(plan, begin).items():
                     needed[other] = min(at, needed.get(other, at))

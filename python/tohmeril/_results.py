@@ -53,7 +53,7 @@ def to_millionths(values: Array) -> tuple[Array, Array]:
     part = np.abs(used - whole) * MILLION
     low = np.floor(part)
     found: Array = np.abs(whole).astype("i8") * MILLION + (low + (part - low >= 0.5)).astype("i8")
-    unsure = np.abs(part - low - 0.5) <= np.spacing(np.abs(used)) * MILLION + 1e-9  # the product may have rounded
+    unsure = np.abs(part - low - 0.5) <= np.abs(used) * 2.3e-10 + 1e-9  # the last place of the float, and its product's
     for at in np.flatnonzero(unsure & inside):
         found[at] = int(Decimal(repr(abs(float(used[at])))).quantize(Decimal("0.000001"), ROUND_HALF_UP).scaleb(6))
     found[used < 0] *= -1

@@ -148,7 +148,7 @@ class Windows:
         self.lines, self.length, self.sids = read_lines(out), length, sids
         self.cells = np.full((2 * length + 64, len(sids)), np.nan)
         self.next = 0  # the row of the next session's newest cell
-        self.waiting: list[Lines] = []
+        self.known = sids[:0], np.zeros(0, int)  # the sids that were seen last, and their columns
 
     def __iter__(self) -> Iterator[tuple[str, Array]]:
         """Each session that has a line, and the columns of the assets that exist on it."""
@@ -169,18 +169,22 @@ class Windows:
         if self.next < self.length - 1:  # the first session
             self.next = self.length - 1
         self.cells[self.next] = np.nan
-        columns = []
+        found = []
         for part in parts:
-            at = np.searchsorted(self.sids, part.sids)
-            columns.append(at)
+            if not np.array_equal(part.sids, self.known[0]):
+                self.known = part.sids, np.searchsorted(self.sids, part.sids)
+            columns = self.known[1]
+            found.append(columns)
             single = part.counts == 1
+            if single.all():
+                self.cells[self.next, columns] = part.cells
+                continue
             places = np.cumsum(part.counts) - part.counts
-            self.cells[self.next, at[single]] = part.cells[places[single]]
-            if not single.all():
-                whole = part.cells[places[~single][:, None] + np.arange(self.length)]
-                self.cells[self.next - self.length + 1 : self.next + 1, at[~single]] = whole.T
+            self.cells[self.next, columns[single]] = part.cells[places[single]]
+            whole = part.cells[places[~single][:, None] + np.arange(self.length)]
+            self.cells[self.next - self.length + 1 : self.next + 1, columns[~single]] = whole.T
         self.next += 1
-        return columns[0] if len(columns) == 1 else np.concatenate(columns)
+        return found[0] if len(found) == 1 else np.concatenate(found)
 
     def newest(self, length: int) -> Array:
         """The newest rows of the windows of the session that was come to last, of all assets."""

@@ -25,7 +25,9 @@ NEAREST = {  # by the name after that of the package
     ),
     r"(data|extensions)\.bundles(\..*)?": "Data.write makes a folder of frames, tohmeril.csvdir reads Zipline's csvdir",
     r"utils(\..*)?": "the calendar is that of the data, Data(folder).sessions",
-    r"errors": "the exceptions are in tohmeril.faults, and Inexpressible is in tohmeril.pipeline",
+    r"errors": (
+        "the exceptions are in tohmeril.faults, and Inexpressible and NonWindowSafeInput are in tohmeril.pipeline"
+    ),
     r"pipeline\.data\..*": VENDOR,
     r"pipeline\.factors\..*": f"{LISTED}; {VENDOR}, whose latest is a factor",
     r"pipeline\.(filters|classifiers)\..*": f"{LISTED}; {LABEL}",

@@ -19,7 +19,7 @@ import numpy as np
 import pandas as pd
 
 from . import program, table
-from ._order import Need, order_of, script_of
+from ._order import Need, fitting, order_of
 from ._results import MISSING, MOST, Records, TooMany, as_labels, to_millionths
 from ._windows import Windows
 from .data import HEADERS, Data, records
@@ -27,16 +27,13 @@ from .faults import ComputeFault, DataFault, LimitFault
 from .pipeline.custom import Custom, Whole, bars_of, custom_of, new_out, output_of, parts_of
 from .pipeline.script import Script, without_alias
 from .pipeline.term import COMPUTED, BoundColumn, Term, as_factor
-from .plans import check
 
 if TYPE_CHECKING:
     Array = np.ndarray[Any, Any]
 
 Tick = Callable[[float], None]  # told how much is computed, from 0 to 1
 Ends = tuple[str, str]  # the first and the last session of a range
-COLUMNS = 64  # of a pipeline, at most
 EMPTY: dict[str, Any] = {"factor": np.nan, "filter": False, "number": -1, "label": None}  # by the sort of a term
-TYPES: dict[str, Any] = {"factor": "f8", "filter": "?", "number": "i8", "label": object}
 
 
 class Request(NamedTuple):
@@ -98,9 +95,8 @@ def _parts(script: Script, names: Mapping[Term, str], data: Data, ends: Ends) ->
     """A range in so many parts that the numbers computed for each are no more than a run reads, as far as that is known
     before.
     """
-    days, leaves = data.days(*ends), [
-        leaf for leaf in names if leaf.sort == "factor" and custom_of(leaf).sort == "factor"
-    ]
+    days = data.days(*ends)
+    leaves = [leaf for leaf in names if custom_of(leaf).sort == "factor"]
     assets = len(_sids(data))
     if len(days) * len(leaves) * assets <= MOST["numbers"] or len(days) < 2:
         return [ends]
@@ -226,27 +222,14 @@ class _Level:
         return {
             (term, begin): values
             for begin, terms in wanted.items()
-            for some in self._fitting(list(terms))
-            for values in [self._run(some, begin)]
-            for term in some
+            for script in fitting(list(terms), self.names)
+            for values in [self._run(script, begin)]
+            for term in values.terms
         }
 
-    def _fitting(self, terms: list[Term]) -> list[list[Term]]:
-        """Terms in as many pipelines as they need."""
-        try:
-            if len(terms) <= COLUMNS:
-                check(script_of(terms, self.names))
-                return [terms]
-        except LimitFault:
-            if len(terms) == 1:
-                raise
-        middle = len(terms) // 2
-        return [*self._fitting(terms[:middle]), *self._fitting(terms[middle:])]
-
-    def _run(self, terms: Sequence[Term], begin: int) -> Values:
-        """The values of terms from a session on."""
-        script, data = script_of(terms, self.names), self.data
-        sorts = list(script.sorts.values())
+    def _run(self, script: Script, begin: int) -> Values:
+        """The values of a pipeline's columns from a session on."""
+        sorts, data = list(script.sorts.values()), self.data
         with program.file(script.text) as name:
             words = ["run", name, *data.names, data.sessions[begin], self.last, table.FORM, *data.options]
             with program.stream(words) as out:
@@ -258,7 +241,7 @@ class _Level:
         )
         shape = bisect_right(data.sessions, self.last) - begin, len(self.found.sids)
         found = {}
-        for at, (term, sort) in enumerate(zip(terms, sorts), 2):
+        for at, (term, sort) in enumerate(zip(script.source[0].values(), sorts), 2):
             cells = _of_labels(frame[at], term) if sort == "label" else frame[at].to_numpy()
             found[term] = np.full(shape, missing_of(term), cells.dtype)
             found[term][places] = cells
@@ -354,9 +337,11 @@ class _Work:
     ):
         self.custom, self.first = need
         self.found, self.names = found, names
-        self.values = {term: values[term, begin] for term, begin in _sources(*need)}
-        self.mask = self.custom.mask if self.custom.mask is None else values[self.custom.mask, self.first]
+        self.leaves = [leaf for leaf in self.custom.leaves if leaf in names]  # those that are used
         length = self.custom.window_length
+        self.values = {part: values[part, self.first - length + 1] for part in parts_of(self.custom)}
+        self.mask = self.custom.mask if self.custom.mask is None else values[self.custom.mask, self.first]
+        self.some = next((values[source] for source in _sources(*need)), None)  # which say where assets exist
         self.walks = {
             column: next(
                 walk
@@ -367,6 +352,7 @@ class _Work:
         }
         none = np.full(1, self.custom.missing_value, self.custom.dtype)
         self.empty = MISSING if self.custom.sort == "label" else in_millionths(self.custom, none)[0][0]
+        self.columns, self.assets = np.zeros(0, int), pd.Index([])  # those of the session before
         self.great, self.since = 0, ""  # how many results were too great, and from which session on
 
     def go(self, at: int, day: str) -> None:
@@ -378,18 +364,19 @@ class _Work:
         out = new_out(custom, len(columns))
         if len(columns):
             given = [_of_columns(self._window(part, at), columns) for part in custom.inputs]
-            call(custom, day, self.found.sids[columns], out, given)
+            if not np.array_equal(columns, self.columns):
+                self.columns, self.assets = columns, pd.Index(self.found.sids[columns])
+            call(custom, day, self.assets, out, given)
         inside = slice(None) if len(columns) == len(exist) else np.isin(exist, columns, assume_unique=True)
-        for leaf in custom.leaves:
+        for leaf in self.leaves:
             results = np.asarray(out[output_of(leaf)] if custom.outputs else out)
             self._keep(leaf, day, exist, (inside, results))
 
     def _exist(self, at: int) -> Array:
         """The columns of the assets that exist on a session."""
-        for walk in self.walks.values():
-            return walk.columns
-        some = next(iter(self.values.values()))
-        return np.flatnonzero(some.exist[at - some.first])
+        if self.some is None:
+            return next(iter(self.walks.values())).columns
+        return np.flatnonzero(self.some.exist[at - self.some.first])
 
     def _window(self, part: Term, at: int) -> Array:
         """The window of an input, of all assets."""
@@ -407,8 +394,11 @@ class _Work:
                 labels[inside] = as_labels(out, self.custom.missing_value)
             self.found.put_labels(self.names[leaf], day, exist, labels)
             return
-        values = np.full(len(exist), self.empty)
-        values[inside], great = in_millionths(self.custom, out)
+        values, great = in_millionths(self.custom, out)
+        if len(values) < len(exist):
+            every = np.full(len(exist), self.empty)
+            every[inside] = values
+            values = every
         if great.any():
             self.great, self.since = self.great + int(great.sum()), self.since or day
         self.found.put(self.names[leaf], day, exist, values)
@@ -442,11 +432,11 @@ def _of_columns(rows: Array, columns: Array) -> Array:
     return rows.copy() if len(columns) == rows.shape[1] else np.take(rows, columns, axis=1)
 
 
-def call(custom: Custom, day: str, sids: Array, out: Any, given: Sequence[Array]) -> None:
+def call(custom: Custom, day: str, assets: pd.Index, out: Any, given: Sequence[Array]) -> None:
     """Let it be computed for a session."""
     compute: Callable[..., Any] = getattr(custom, "compute")
     with told(custom, day):
-        answer = compute(pd.Timestamp(day), pd.Index(sids), out, *given, **custom.params)
+        answer = compute(pd.Timestamp(day), assets, out, *given, **custom.params)
         if answer is not None and answer is not out:
             raise TypeError(
                 f"compute returned {type(answer).__name__}: it has to write its results into out, as out[:] = .."

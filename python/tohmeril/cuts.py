@@ -23,7 +23,7 @@ import pandas as pd
 from ._order import order_of
 from .data import CREATE, FILES, HEADERS, SECONDS, TABLES, Data, readable, records
 from .faults import DataFault, ReadFault, StoreFault
-from .pipeline.script import Script
+from .plans import Piped, as_script, traced
 
 if TYPE_CHECKING:
     Array = np.ndarray[Any, Any]
@@ -51,8 +51,9 @@ class Keys(NamedTuple):
     texts: list[str]
 
 
-def cut_files(script: Script, data: Data, ranges: Sequence[tuple[str, str]], folder: Path) -> list[Data]:
+def cut_files(pipeline: Piped, data: Data, ranges: Sequence[tuple[str, str]], folder: Path) -> list[Data]:
     """For each range of sessions, the files with what a pipeline reads for it and no more, and all sessions."""
+    script = as_script(pipeline)
     for part, path in data.files.items():
         if part != "adjustments" and not os.access(path, os.R_OK):
             raise ReadFault(f"read: {path}")
@@ -60,7 +61,8 @@ def cut_files(script: Script, data: Data, ranges: Sequence[tuple[str, str]], fol
     assets = tables["assets"]
     spans = []
     for at, (start, end) in enumerate(ranges):
-        first = data.sessions[order_of(script, start, end, data).reach]
+        with traced(script, data):
+            first = data.sessions[order_of(script, start, end, data).reach]
         spans.append(
             Span(folder / str(at), first, end, frozenset(assets.sid[(assets.start < end) & (assets.end >= first)]))
         )

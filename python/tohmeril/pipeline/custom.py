@@ -19,9 +19,10 @@ True
 
 from __future__ import annotations
 
+import inspect
 from collections.abc import Mapping
 from numbers import Integral, Real
-from typing import Any, Iterable, Iterator, NoReturn, Optional, Sequence, TypeVar, Union
+from typing import Any, Iterable, Iterator, Optional, Sequence, TypeVar, Union
 from weakref import WeakValueDictionary
 
 import numpy as np
@@ -118,6 +119,7 @@ class Custom(Term):
             "window_safe": bool(given["window_safe"]),
             "params": _params(cls, params),
         }
+        _require_places(cls, parts)
         return cls._one(parts)
 
     @classmethod
@@ -143,12 +145,6 @@ class Custom(Term):
 
     def _leaves(self) -> tuple[Term, ...]:
         return (self,)
-
-    @property
-    def piece(self) -> str:
-        """The term without what it is of."""
-        params = [f"{name}={value!r}" for name, value in self.params.items()]
-        return f"{type(self).__name__}({', '.join([str(self.window_length), *params])})"
 
     def __setattr__(self, name: str, value: object) -> None:
         if name == "window_safe":
@@ -360,11 +356,6 @@ class Output(Factor):
         return bool(self.custom.window_safe)
 
     @property
-    def piece(self) -> str:
-        """The output without what it is of."""
-        return f"{self.custom.piece}.{self.output}" if self.output else self.custom.piece
-
-    @property
     def _kind(self) -> Any:
         return Factor
 
@@ -390,6 +381,14 @@ def custom_of(leaf: Term) -> Custom:
 def output_of(leaf: Term) -> str:
     """Its name among the outputs; empty for the only one."""
     return leaf.output if isinstance(leaf, Output) else ""
+
+
+def piece_of(leaf: Term) -> str:
+    """What is computed, as it is written without what it is of."""
+    custom = custom_of(leaf)
+    params = [f"{name}={value!r}" for name, value in custom.params.items()]
+    own = f"{type(custom).__name__}({', '.join([str(custom.window_length), *params])})"
+    return f"{own}.{output_of(leaf)}" if output_of(leaf) else own
 
 
 def bars_of(custom: Custom) -> list[str]:
@@ -445,6 +444,24 @@ def _inputs(cls: type[Custom], given: Any) -> tuple[Term, ...]:
         require_window_safe(cls.__name__, term)
         found.append(term)
     return tuple(found)
+
+
+def _require_places(cls: type[Custom], parts: dict[str, Any]) -> None:
+    """Refuse as many inputs as `compute` has no places for."""
+    try:
+        places = list(inspect.signature(getattr(cls, "compute")).parameters.values())[4:]
+    except (TypeError, ValueError):  # it is no function of Python
+        return
+    kinds = inspect.Parameter.POSITIONAL_ONLY, inspect.Parameter.POSITIONAL_OR_KEYWORD
+    named = [each for each in places if each.kind in kinds and each.name not in parts["params"]]
+    least, count = sum(each.default is each.empty for each in named), len(parts["inputs"])
+    some = any(each.kind is inspect.Parameter.VAR_POSITIONAL for each in places)
+    if count < least or count > len(named) and not some:
+        taken = ", ".join(each.name for each in named) or "none"
+        raise TypeError(
+            f"{cls.__name__}: its compute takes {taken} behind out, and there are {count} inputs: write inputs = [..], as "
+            "[EquityPricing.close], into the class or the call"
+        )
 
 
 def _outputs(cls: type[Custom], given: Any) -> tuple[str, ...]:
