@@ -10,7 +10,7 @@ _tohmeril() {
     local parts="sessions assets bars labels numbers splits mergers dividends revisions"
     COMPREPLY=()
     if [ "$COMP_CWORD" -eq 1 ]; then
-        _tohmeril_offer < <(compgen -W "run daily cut plan check fmt payouts explain verify bench" -- "$word")
+        _tohmeril_offer < <(compgen -W "run daily cut plan check fmt payouts explain verify windows bench" -- "$word")
         return
     fi
     # bash takes the = of --format=csv for a word of its own, and zsh does not
@@ -42,6 +42,7 @@ _tohmeril() {
             daily) options="--labels --numbers --adjustments --revisions --format" ;;
             cut) options="--labels --numbers --adjustments --revisions --part" ;;
             explain | verify) options="--labels --numbers --adjustments --revisions" ;;
+            windows) options="--adjustments --revisions" ;;
             bench) options="--chunk" ;;
         esac
         _tohmeril_offer < <(compgen -W "$options" -- "$word")

@@ -6,13 +6,13 @@ use Rattle.std.proofs.lemmas.List.Folds.{list_all-append}
 use Rattle.pl_spec.specs.declared.AssetRow.{AssetRow}
 use Rattle.pl_outside.specs.declared.keeper.Table.{Table}
 use Rattle.pl_words.specs.declared.request.InputFile.TheVariants.{Labels as LabelsFile, Numbers as NumbersFile, Revisions as RevisionsFile, Derivation as DerivationFile}
-use Rattle.pl_words.specs.Request.{Request, Run, Explain, Verify, Daily, Cut, WorldNames, adjustments_of}
+use Rattle.pl_words.specs.Request.{Request, Run, Explain, Verify, Daily, Cut, Windows, WorldNames, adjustments_of}
 use Rattle.pl_load.specs.Cells.{cell_steps, lines_step}
 use Rattle.pl_load.specs.Contents.{Contents}
 use Rattle.pl_load.specs.Held.{assets_held, days_held, pipeline_held, world_held}
 use Rattle.pl_load.specs.Steps.{Source, WorkStep, ReachesRead}
 use Rattle.pl_load.specs.Steps.Source.{Load}
-use Rattle.pl_load.specs.Range.{dates_steps, plan_steps, range_steps}
+use Rattle.pl_load.specs.Range.{dates_steps, first_window_steps, plan_steps, range_steps, windows_steps}
 use Rattle.pl_load.specs.Work.{labels_steps, numbers_steps, revisions_steps, data_steps, derivation_step, work}
 
 -- whether no step loads a table, whatever the faults are
@@ -59,10 +59,11 @@ with-data : (held : Contents) (q : WorldNames) (rest : List WorkStep) → q.adju
 with-data held q rest none quiet = both-none (data_steps held q) rest (data-none held q none) quiet
 
 work-none : (held : Contents) (asked : Option Request) → adjustments_of asked ≡ None → loads_none (work held asked) ≡ true
-unfolding work dates_steps plan_steps cell_steps lines_step
+unfolding work dates_steps plan_steps first_window_steps cell_steps lines_step
 work-none held (Some (Run q)) none = with-data held q.world (range_steps (pipeline_held held) (days_held held) q.from q.to q.options.as_of) none refl
 work-none held (Some (Daily q)) none = with-data held q.world (range_steps (pipeline_held held) (days_held held) q.from q.to q.options.as_of) none refl
 work-none held (Some (Cut q)) none = with-data held q.table.world (range_steps (pipeline_held held) (days_held held) q.table.from q.table.to q.table.options.as_of) none refl
+work-none held (Some (Windows q)) none = with-data held q.world (windows_steps (days_held held) q.from q.to q.window) none refl
 work-none held (Some (Verify q)) none = with-data held q.world (derivation_step (held.file DerivationFile) ∷ []) none refl
 work-none held (Some (Explain q)) none =
     let cell = cell_steps (pipeline_held held) (days_held held) (assets_held held) q in

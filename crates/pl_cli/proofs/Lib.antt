@@ -12,3 +12,4 @@ pub mod Explained
 pub mod Days
 pub mod Causes
 pub mod Cut
+pub mod Windowed

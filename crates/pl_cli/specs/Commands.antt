@@ -1,5 +1,6 @@
 -- How a command ends, in the words of the code.
 use Rattle.std.specs.Prelude.{◌≡◌, ℕ, ◌+◌, ◌≤◌, List, [], length, Bool, if◌then◌else◌, IsTrue, Option, Some, None, Result, Ok, Err, OnOk, IfOk, IfErr}
+use Rattle.pl_spec.specs.declared.Column.{Column}
 use Rattle.pl_spec.specs.declared.Format.{Format}
 use Rattle.pl_pipeline.specs.Table.{table}
 use Rattle.pl_pipeline.specs.Text.{text}
@@ -17,6 +18,8 @@ use Rattle.pl_load.specs.Work.{work}
 use Rattle.pl_load.specs.Stages.{IsStop, HasRead}
 use Rattle.pl_load.specs.Views.{ShelfView, KeeperView, Change, change, ShelfLeft, KeeperLeft, KeeperAlone}
 use Rattle.pl_load.specs.declared.loading.Loaded.{Loaded}
+use Rattle.pl_load.specs.declared.windows.LoadedWindows.{LoadedWindows}
+use Rattle.pl_windows.specs.Windows.{windows_text}
 use Rattle.pl_world.specs.Worlds.{owned_world}
 use Rattle.pl_runner.specs.Runs.{run_steps}
 use Rattle.pl_runner.specs.Feeds.{daily_steps}
@@ -40,6 +43,10 @@ loaded_steps l chunk = run_steps (owned_world l.world) (pipeline_of l.checked) l
 -- a part of what its rows read
 abbrev pub loaded_part : Loaded → WorldPart → List ℕ
 loaded_part l part = part_text part (owned_world l.world) (pipeline_of l.checked) l.plan.from l.plan.to
+
+-- the windows of so many sessions over a bar column of what was loaded
+abbrev pub loaded_windows : LoadedWindows → Column → ℕ → List ℕ
+loaded_windows l column size = windows_text (owned_world l.world) column size l.from l.to
 
 -- how many numbers beside bars are present on its sessions, where the pipeline uses some
 abbrev pub loaded_present : Loaded → Option ℕ

@@ -22,7 +22,8 @@ use Rattle.pl_runner.specs.Runs.{run_steps}
 use Rattle.pl_runner.specs.Feeds.{daily_steps}
 use Rattle.pl_world.specs.Present.{has_numbers, present_numbers}
 use Rattle.pl_words.specs.declared.request.InputFile.TheVariants.{Pipeline as PipelineFile}
-use Rattle.pl_words.specs.Request.{Request, Run, Fmt, Check, Plan, Bench, Payouts, Explain, Verify, Daily, Cut, RunRequest, ExplainRequest, CutRequest}
+use Rattle.pl_words.specs.Request.{Request, Run, Fmt, Check, Plan, Bench, Payouts, Explain, Verify, Daily, Cut, Windows, RunRequest, ExplainRequest, CutRequest, WindowsRequest}
+use Rattle.pl_windows.specs.Windows.{windows_text}
 use Rattle.pl_words.specs.declared.request.WorldPart.{WorldPart}
 use Rattle.pl_words.specs.declared.request.WorldPart.TheVariants as parts
 use Rattle.pl_load.specs.Cells.{term_asked}
@@ -97,9 +98,15 @@ cut_text held q =
     part_text q.part (world_known held q.table) (pipeline_held held) (index_of days q.table.from.day)
     (index_of days q.table.to.day)
 
+-- the windows of a world, from the session of a date to that of another
+abbrev pub windows_asked : Contents → WindowsRequest → List ℕ
+windows_asked held q =
+    let days = days_held held in
+    windows_text (world_held held q.world) q.column q.window (index_of days q.from.day) (index_of days q.to.day)
+
 -- the table of a run, the canonical text of a script, the counts of a pipeline that keeps the rules, its
 -- plan, the numbers of a run over a stated world, the rows of payouts, the derivation of a cell, the verdict
--- on one, the table that a run has, or a part of what a run reads
+-- on one, the table that a run has, a part of what a run reads, or the windows of a bar column
 unfoldable pub text_of : Contents → Option Request → List ℕ
 text_of held None = []
 text_of held (Some (Run q)) = run_text held q
@@ -114,6 +121,7 @@ text_of held (Some (Explain q)) = derivation_text (world_held held q.world) (pip
 text_of held (Some (Verify q)) = verdict_text (first_wrong (world_held held q.world) (pipeline_held held) (derivation_held held))
 text_of held (Some (Daily q)) = run_text held q
 text_of held (Some (Cut q)) = cut_text held q
+text_of held (Some (Windows q)) = windows_asked held q
 
 -- a plan of the pipeline over the sessions of a run, for its range
 pub record IsPlanFor (held : Contents) (q : RunRequest) (plan : Planned) : Type 0 where

@@ -1,7 +1,15 @@
 //! The windows of a bar column.
 
+ghost use Rattle.std.specs.Prelude.{◌≡◌, ◌<◌, ◌≤◌, ◌⊎◌, ℕ, None, Some, IfOk, IfErr, IsErrOf};
+ghost use Rattle.pl_outside.specs.Taken.{Writes};
+ghost use Rattle.pl_words.specs.Request.{IsWindow, Windows};
+ghost use Rattle.pl_words.specs.Views.{windows_of};
+ghost use Rattle.pl_load.specs.Views.{unchanged, shelf_change, keeper_change};
+ghost use Rattle.pl_load.specs.Windowed.{HasWindows};
+ghost use Rattle.pl_cli.specs.Commands.{IsAnswered, sink_change, loaded_windows};
+
 use crate::commands::Stats;
-use pl_fixed::Steps;
+use pl_fixed::{Column, Steps};
 use pl_load::{Fault, LoadedWindows, load_windows};
 use pl_outside::{AdjustKeeper, Shelf, Sink};
 use pl_runner::RunError;
@@ -19,28 +27,52 @@ pub fn windows_command<S: Shelf, K: AdjustKeeper, O: Sink>(
     shelf: &mut S,
     keeper: &mut K,
     out: &mut O,
-) -> Result<Option<Stats>, Fault> {
+) -> Result<Option<Stats>, Fault>
+    requires window { IsWindow (windows_of request.now).window }
+    // however many steps were counted
+    ensures { (steps : ℕ)
+        → IsAnswered (shelf_change S.holds S.begun S.sound S.faults shelf.old shelf.new)
+        (keeper_change K.lists K.sound K.faults K.calls keeper.old keeper.new)
+        (sink_change O.taken O.sound O.faults O.room out.old out.new) (unchanged steps)
+        (Some (Windows (windows_of request.now))) result }
+{
     let loaded = load_windows(alloc, request, shelf, keeper)?;
-    write_loaded::<O, Brand>(alloc, request, &loaded, out, Blank::new(1))
+    write_loaded::<O, Brand>(
+        alloc,
+        &loaded,
+        request.column,
+        request.window,
+        out,
+        Blank::new(1),
+    )
 }
 
 // Writes the windows of what was loaded. The steps of the adjustments are counted for nobody.
 fn write_loaded<O: Sink, L: Ledger>(
     alloc: Global,
-    request: &WindowsRequest<'_>,
     loaded: &LoadedWindows,
+    column: Column,
+    window: u32,
     out: &mut O,
     blank: Blank,
 ) -> Result<Option<Stats>, Fault>
     requires name { blank.name ≡ L.name }
     requires parts { blank.parts ≡ L.parts }
-    requires some { 0 < L.parts }
+    requires some_parts { 0 < L.parts }
+    requires some { 1 ≤ window }
+    requires ready { HasWindows window loaded.now }
+    ensures writes { IsErrOf result Fault.Memory
+        ⊎ Writes O.taken O.faults O.sound O.room out.old out.new
+        (loaded_windows loaded.now column window) result }
+    ensures fault { IfErr result (λ fault. (fault ≡ Fault.Memory) ⊎ (fault ≡ Fault.Unwritten)) }
+    ensures quiet { IfOk result (λ stats. stats ≡ None) }
+    ensures memory { IsErrOf result Fault.Memory → out.new ≡ out.old }
 {
     let mut steps = Steps::<L>::new(blank);
     let asked = Asked {
         world: loaded.world.world(),
-        column: request.column,
-        window: request.window as usize,
+        column,
+        window: window as usize,
         from: loaded.from,
         to: loaded.to,
     };

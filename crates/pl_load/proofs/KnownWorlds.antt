@@ -12,7 +12,7 @@ use Rattle.pl_world.specs.Worlds.{owned_world}
 use Rattle.pl_world.specs.declared.owned.OwnedWorld.{OwnedWorld}
 use Rattle.pl_planner.specs.Plans.{Planned, IsPlanOf}
 use Rattle.pl_planner.proofs.Calendars.{plan-same}
-use Rattle.pl_words.specs.Request.{Dated, RunRequest, ExplainRequest, VerifyRequest, Run, Explain, Verify}
+use Rattle.pl_words.specs.Request.{Dated, RunRequest, ExplainRequest, VerifyRequest, WindowsRequest, Run, Explain, Verify, Windows}
 use Rattle.pl_load.specs.Range.{IsDateOf, index_asked, index_of}
 use Rattle.pl_load.specs.Loads.{AsksWorld, IsKnown}
 
@@ -51,3 +51,6 @@ explain-asks q = record { sessions = refl; assets = refl; labels = refl; numbers
 
 pub verify-asks : (q : VerifyRequest) → AsksWorld (Some (Verify q)) q.world
 verify-asks q = record { sessions = refl; assets = refl; labels = refl; numbers = refl; bars = refl; revisions = refl; adjustments = refl }
+
+pub windows-asks : (q : WindowsRequest) → AsksWorld (Some (Windows q)) q.world
+windows-asks q = record { sessions = refl; assets = refl; labels = refl; numbers = refl; bars = refl; revisions = refl; adjustments = refl }

@@ -1,11 +1,12 @@
 -- The faults of a range.
-use Rattle.std.proofs.Common.{◌≡◌, inl, inr, ℕ, true, false, Option, get_or, ℤ, pos, ◌≤ℤ◌, ◌<ℤ◌, List, Some, None, refl, ◌∙◌, ap, arith}
+use Rattle.std.proofs.Common.{◌≡◌, inl, inr, ℕ, ◌<◌, ◌≤◌, true, false, Option, get_or, ℤ, pos, ◌≤ℤ◌, ◌<ℤ◌, List, Some, None, refl, ◌∙◌, ap, arith}
 use Rattle.std.specs.Int.RustNames.{int_lt}
 use Rattle.std.proofs.lemmas.Int.{ints}
 use Rattle.std.specs.Ordering.{int_eq}
 use Rattle.std.proofs.lemmas.Bool.Decides.{nat_tests}
 use Rattle.std.proofs.lemmas.List.Quantifiers.{position-Some}
 use Rattle.std.proofs.lemmas.Option.{slice_get-get_or}
+use Rattle.pl_spec.specs.Window.{before}
 use Rattle.pl_pipeline.specs.Lows.{least_reach}
 use Rattle.pl_pipeline.specs.Table.{Pipeline}
 use Rattle.pl_terms.specs.Checked.{IsChecked}
@@ -15,12 +16,12 @@ use Rattle.pl_planner.specs.declared.plans.PlanError.TheVariants as errors
 use Rattle.pl_planner.specs.Plans.{Planned, IsPlanOf, IsPlanFault}
 use Rattle.pl_words.specs.declared.request.RangeDate.TheVariants.{From, To, AsOf}
 use Rattle.pl_words.specs.Request.{Dated}
-use Rattle.pl_load.specs.declared.fault.Fault.TheVariants.{NotSession, Backwards}
+use Rattle.pl_load.specs.declared.fault.Fault.TheVariants.{NotSession, Backwards, TooEarly}
 use Rattle.pl_load.specs.Rules.{plan_error}
 use Rattle.pl_load.specs.Steps.{first_fault}
 use Rattle.pl_load.specs.Stages.{IsStop}
 use Rattle.pl_load.specs.Planning.{reach_at}
-use Rattle.pl_load.specs.Range.{IsDateOf, session_of, index_asked, is_unknown, are_backwards, dates_steps, plan_steps}
+use Rattle.pl_load.specs.Range.{IsDateOf, session_of, index_asked, is_unknown, are_backwards, dates_steps, first_window_steps, plan_steps}
 use Rattle.pl_load.proofs.Planned.{too-deep, not-deep}
 
 -- ---- the dates
@@ -72,6 +73,15 @@ late z h = grind (arith, ints, nat_tests)
 
 pub early : (z : ℤ) → z <ℤ pos 0 → int_lt z (pos 0) ≡ true
 early z h = grind (arith, ints, nat_tests)
+
+-- the first window of a range
+pub too-soon : (size from : ℕ) (reach : ℤ) → from < size → reach ≡ before (pos from) size → first_fault (first_window_steps size from) ≡ Some (TooEarly reach)
+unfolding first_window_steps
+too-soon size from reach h is = let e = early (before (pos from) size) (omega (arith, ints, h)) in rw (is, e) refl
+
+pub soon-enough : (size from : ℕ) → size ≤ from → first_fault (first_window_steps size from) ≡ None
+unfolding first_window_steps
+soon-enough size from h = let l = late (before (pos from) size) (omega (arith, ints, h)) in rw l refl
 
 module _ (days : List ℤ) (p : Pipeline) (checked : IsChecked p) where
   pub has-plan : (plan : Planned) → IsPlanOf days p plan → first_fault (plan_steps p days plan.from plan.to) ≡ None

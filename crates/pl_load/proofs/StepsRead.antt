@@ -11,7 +11,7 @@ use Rattle.pl_load.specs.declared.fault.Fault.TheVariants.{Unread, Unloaded, Mem
 use Rattle.pl_load.specs.Steps.{Source, WorkStep, first_fault, reads_in, names_read, tables_read}
 use Rattle.pl_load.specs.Steps.Source.{Input, Load}
 use Rattle.pl_load.specs.Stages.{IsStop, IsFront, IsReadUpTo, HasRead, StageEnds}
-use Rattle.pl_load.specs.Range.{dates_steps, plan_steps}
+use Rattle.pl_load.specs.Range.{dates_steps, first_window_steps, plan_steps}
 use Rattle.pl_load.specs.Cells.{cell_steps, lines_step}
 
 -- ---- one step before others
@@ -127,6 +127,10 @@ quiet (s ∷ ss) h = quiet-one s.reads s.fault (reads_in ss) h.0 (quiet ss h.1)
 pub dates-quiet : (from to : Dated) (as_of : Option Dated) (days : List ℤ) → reads_in (dates_steps from to as_of days) ≡ []
 unfolding dates_steps
 dates-quiet from to as_of days = quiet (dates_steps from to as_of days) (refl, (refl, (refl, (refl, tt))))
+
+pub first-quiet : (size from : ℕ) → reads_in (first_window_steps size from) ≡ []
+unfolding first_window_steps
+first-quiet size from = quiet (first_window_steps size from) (refl, tt)
 
 pub plan-quiet : (p : Pipeline) (days : List ℤ) (from to : ℕ) → reads_in (plan_steps p days from to) ≡ []
 unfolding plan_steps

@@ -7,15 +7,15 @@ use Rattle.pl_world.specs.declared.owned.OwnedWorld.{OwnedWorld}
 use Rattle.pl_planner.specs.Plans.{Planned, IsPlanOf}
 use Rattle.pl_words.specs.declared.request.InputFile.{InputFile}
 use Rattle.pl_words.specs.declared.request.InputFile.TheVariants as file
-use Rattle.pl_words.specs.Request.{Dated, RunRequest, PlanRequest, ExplainRequest, VerifyRequest, WorldNames}
+use Rattle.pl_words.specs.Request.{Dated, RunRequest, PlanRequest, ExplainRequest, VerifyRequest, WindowsRequest, WorldNames}
 use Rattle.pl_load.specs.declared.fault.Fault.{Fault}
 use Rattle.pl_load.specs.Contents.{Contents}
 use Rattle.pl_load.specs.Held.{pipeline_in, days_in, assets_in, days_held, assets_held}
 use Rattle.pl_load.specs.Planning.{HasRows}
 use Rattle.pl_load.specs.Cells.{cell_steps}
-use Rattle.pl_load.specs.Range.{dates_steps, plan_steps, range_steps, index_of}
+use Rattle.pl_load.specs.Range.{dates_steps, first_window_steps, plan_steps, range_steps, windows_steps, index_of}
 use Rattle.pl_load.specs.Steps.{WorkStep}
-use Rattle.pl_load.specs.Work.{read_step, sessions_step, bars_rule, assets_rule, payouts_rule, derivation_step, pipeline_steps, evaluated_steps, numbers_steps, revised_steps, rows_steps, data_steps, run_work, plan_work, payouts_work, cell_work, verify_work}
+use Rattle.pl_load.specs.Work.{read_step, sessions_step, bars_rule, assets_rule, payouts_rule, derivation_step, pipeline_steps, evaluated_steps, numbers_steps, revised_steps, rows_steps, data_steps, run_work, plan_work, payouts_work, cell_work, verify_work, windows_work}
 use Rattle.pl_load.specs.Loads.{IsWorldHeld}
 use Rattle.pl_load.specs.Parts.{world_steps, plan_steps_for}
 use Rattle.pl_load.proofs.Joined.{joint, is_file}
@@ -114,6 +114,17 @@ pub verify-world : (q : VerifyRequest) (f r : Contents)
     → verify_rest q (joint (but_for file.Derivation) true f r) ≡ data_steps f q.world ++ derivation_step (r.file file.Derivation) ∷ []
 unfolding data_steps
 verify-world q f r = refl
+
+-- ---- windows
+
+pub windows-world : (q : WindowsRequest) (w : OwnedWorld) (f r : Contents) → IsWorldHeld q.world f w
+    → windows_work (joint whole true f r) q ≡ data_steps f q.world ++ windows_steps w.sessions q.from q.to q.window
+unfolding data_steps
+windows-world q w f r m = ap (λ days. data_steps f q.world ++ windows_steps days q.from q.to q.window) m.days
+
+pub windows-dates : (days : List ℤ) (from to : Dated) (size a : ℕ) → a ≡ index_of days from.day
+    → windows_steps days from to size ≡ dates_steps from to None days ++ first_window_steps size a
+windows-dates days from to size a e = ap (λ x. dates_steps from to None days ++ first_window_steps size x) (sym e)
 
 -- ---- payouts
 

@@ -16,6 +16,7 @@ pub mod Views
 pub mod Reads
 pub mod Loads
 pub mod PaidOut
+pub mod Windowed
 pub mod Derived
 pub mod Celled
 pub mod Parts

@@ -2,6 +2,7 @@
 use Rattle.std.specs.Prelude.{◌≡◌, ⊤, ℕ, ℤ, pos, List, [], ◌∷◌, ◌++◌, not, ◌||◌, Bool, false, nat_lt, Option, Some, None, is_some, option_map, unwrap_or, position, slice_get}
 use Rattle.std.specs.Int.RustNames.{int_lt}
 use Rattle.std.specs.Ordering.{int_eq}
+use Rattle.pl_spec.specs.Window.{before}
 use Rattle.pl_pipeline.specs.Table.{Pipeline}
 use Rattle.pl_words.specs.declared.request.RangeDate.TheVariants.{From, To, AsOf}
 use Rattle.pl_words.specs.Request.{Dated}
@@ -51,6 +52,14 @@ plan_steps p days from to =
     rule (when (int_lt (reach_at days p from) (pos 0)) (TooEarly (reach_at days p from)))
     ∷ rule (when (is_too_deep days p from to) (Passed Extra))
     ∷ []
+
+-- the first of the windows of so many sessions begins with no session before the first one
+unfoldable pub first_window_steps : ℕ → ℕ → List WorkStep
+first_window_steps size from = rule (when (int_lt (before (pos from) size) (pos 0)) (TooEarly (before (pos from) size))) ∷ []
+
+-- the sessions of the dates, and the windows over them
+abbrev pub windows_steps : List ℤ → Dated → Dated → ℕ → List WorkStep
+windows_steps days from to size = dates_steps from to None days ++ first_window_steps size (index_of days from.day)
 
 -- the sessions of the dates, and the plan of a pipeline over them
 abbrev pub range_steps : Pipeline → List ℤ → Dated → Dated → Option Dated → List WorkStep

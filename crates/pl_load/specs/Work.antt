@@ -24,7 +24,7 @@ use Rattle.pl_outside.specs.declared.keeper.Table.{Table}
 use Rattle.pl_outside.specs.declared.keeper.Table.TheVariants.{Splits, Mergers, Dividends}
 use Rattle.pl_words.specs.declared.request.InputFile.{InputFile}
 use Rattle.pl_words.specs.declared.request.InputFile.TheVariants.{Pipeline as PipelineFile, Sessions, Assets, Labels, Numbers, Bars, Revisions, Payouts as PayoutsFile, Derivation}
-use Rattle.pl_words.specs.Request.{Request, Run, Fmt, Check, Plan, Bench, Payouts, Explain, Verify, Daily, Cut, RunRequest, PlanRequest, ExplainRequest, VerifyRequest, WorldNames}
+use Rattle.pl_words.specs.Request.{Request, Run, Fmt, Check, Plan, Bench, Payouts, Explain, Verify, Daily, Cut, Windows, RunRequest, PlanRequest, ExplainRequest, VerifyRequest, WindowsRequest, WorldNames}
 use Rattle.pl_spec.specs.Limits.{most_pipeline_bytes, most_file_bytes}
 use Rattle.pl_load.specs.declared.fault.Limit.{Limit}
 use Rattle.pl_load.specs.declared.fault.Limit.TheVariants as limits
@@ -36,7 +36,7 @@ use Rattle.pl_load.specs.Rules.{syntax_fault, rule_fault, sessions_fault, assets
 use Rattle.pl_load.specs.Held.{script_in, pipeline_held, days_held, assets_held, world_held, adjustments_of_rows}
 use Rattle.pl_load.specs.Steps.{WorkStep, rule}
 use Rattle.pl_load.specs.Steps.Source.{Input, Load}
-use Rattle.pl_load.specs.Range.{range_steps}
+use Rattle.pl_load.specs.Range.{range_steps, windows_steps}
 use Rattle.pl_load.specs.Cells.{cell_steps, lines_step}
 
 -- ---- a file that is read whole and judged
@@ -222,6 +222,10 @@ payouts_work held =
     ∷ read_step Bars (bars_rule days assets) (held.file Bars)
     ∷ read_step PayoutsFile (payouts_rule assets) (held.file PayoutsFile) ∷ []
 
+-- the data, and then the range
+abbrev pub windows_work : Contents → WindowsRequest → List WorkStep
+windows_work held q = data_steps held q.world ++ windows_steps (days_held held) q.from q.to q.window
+
 -- A stated world is read from nowhere. A table that is computed session by session is judged as a run, and so
 -- is one of whose world a part is asked for.
 unfoldable pub work : Contents → Option Request → List WorkStep
@@ -236,3 +240,4 @@ work held (Some (Explain q)) = explain_work held q
 work held (Some (Verify q)) = verify_work held q
 work held (Some (Daily q)) = run_work held q
 work held (Some (Cut q)) = run_work held q.table
+work held (Some (Windows q)) = windows_work held q

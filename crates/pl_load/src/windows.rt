@@ -1,9 +1,15 @@
 //! What the windows of a bar column read and judge.
 
+ghost use Rattle.std.specs.Prelude.{◌≤◌, true, IfOk, IfErr, OnOk};
+ghost use Rattle.pl_words.specs.Views.{windows_of};
+ghost use Rattle.pl_load.specs.Views.{shelf_change, keeper_change};
+ghost use Rattle.pl_load.specs.Range.{first_window_steps};
+ghost use Rattle.pl_load.specs.Stages.{StageEnds, IsRisen};
+ghost use Rattle.pl_load.specs.Windowed.{HasWindows, IsWindowsLoad};
+
 use crate::fault::Fault;
 use crate::loading::read_world;
-use crate::range::{Range, judge_dates};
-use pl_calendar::Sessions;
+use crate::range::judge_dates;
 use pl_outside::{AdjustKeeper, Shelf};
 use pl_words::WindowsRequest;
 use pl_world::OwnedWorld;
@@ -29,15 +35,22 @@ impl Drop for LoadedWindows {
 }
 
 /// Reads and judges all that windows of a bar column ask for, in this order: the files and tables of the
-/// world, and the range. The fault is the first one, or want of memory.
+/// world, the two dates, and that the first window begins with no session before the first one. The fault is
+/// the first one, or want of memory.
 pub fn load_windows<S: Shelf, K: AdjustKeeper>(
     alloc: Global,
     request: &WindowsRequest<'_>,
     shelf: &mut S,
     keeper: &mut K,
-) -> Result<LoadedWindows, Fault> {
+) -> Result<LoadedWindows, Fault>
+    ensures load { IsWindowsLoad (shelf_change S.holds S.begun S.sound S.faults shelf.old shelf.new)
+        (keeper_change K.lists K.sound K.faults K.calls keeper.old keeper.new)
+        (windows_of request.now) result }
+    ensures ready { IfOk result (HasWindows request.now.window) }
+{
     let world = read_world(alloc, &request.world, shelf, keeper)?;
-    let range = judge_windows(request, &world.sessions)?;
+    let range = judge_dates(&request.from, &request.to, None, &world.sessions)?;
+    judge_first(request.window, range.from)?;
     Ok(LoadedWindows {
         world,
         from: range.from,
@@ -45,13 +58,17 @@ pub fn load_windows<S: Shelf, K: AdjustKeeper>(
     })
 }
 
-// The range of windows. The fault is that the dates are none of a range, or that the first window begins
-// before the first session.
-fn judge_windows(request: &WindowsRequest<'_>, sessions: &Sessions) -> Result<Range, Fault> {
-    let range = judge_dates(&request.from, &request.to, None, sessions)?;
-    let reach = range.from as i64 - i64::from(request.window);
-    if reach < 0 {
+// Whether the window before session `from` begins with a session. The fault is the session with which it
+// would begin, counted from the first one, below 0.
+fn judge_first(window: u32, from: usize) -> Result<(), Fault>
+    ensures ends { StageEnds true true (first_window_steps window from) result }
+    ensures reach { OnOk result (window ≤ from) }
+    ensures risen { IfErr result (IsRisen ⊥ ⊥) }
+{
+    let window = window as usize;
+    if from < window {
+        let reach = -((window - from) as i64);
         return Err(Fault::TooEarly { reach });
     }
-    Ok(range)
+    Ok(())
 }

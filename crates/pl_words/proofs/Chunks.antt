@@ -1,16 +1,16 @@
--- What words ask for has a chunk from 1 to 4096.
-use Rattle.std.proofs.Common.{◌≡◌, ℕ, Bool, true, false, ◌&&◌, ◌==◌, nat_le, cond, List, [], ◌∷◌, length, Option, Some, None, IfSome, option_map, option_and_then, refl, arith}
+-- What words ask for has a chunk and a window of an allowed length.
+use Rattle.std.proofs.Common.{◌≡◌, ◌≤◌, ℕ, Bool, true, false, ◌&&◌, ◌==◌, nat_le, cond, List, [], ◌∷◌, length, Option, Some, None, IfSome, option_map, option_and_then, refl, arith}
 use Rattle.std.specs.List.{list_all}
 use Rattle.std.proofs.lemmas.Bool.{and_parts}
 use Rattle.std.proofs.lemmas.Bool.Decides.{nat_tests}
-use Rattle.pl_spec.specs.Limits.{most_chunk}
+use Rattle.pl_spec.specs.Limits.{most_chunk, most_window}
 use Rattle.pl_spec.specs.Decimals.{sid_in}
 use Rattle.pl_words.specs.declared.commands.OptionName.TheVariants as option
 use Rattle.pl_words.specs.declared.commands.CommandName.{CommandName}
 use Rattle.pl_words.specs.declared.commands.CommandName.TheVariants as command
 use Rattle.pl_words.specs.Commands.{command_named, places_of, options_of}
 use Rattle.pl_words.specs.Parts.{Word, parts, names_of, values_of, is_text, one_value}
-use Rattle.pl_words.specs.Request.{Options, RunRequest, BenchRequest, Request, Run, Plan, Bench, Explain, Verify, Daily, Cut, Values, name, dated, chunk_or, chunk_by, format_by, stats_by, as_of_by, options_by, world_in, table_in, run_in, plan_in, bench_in, explain_in, verify_in, daily_in, cut_in, request_in, counted, asked, request, IsChunk, HasChunk}
+use Rattle.pl_words.specs.Request.{Options, RunRequest, BenchRequest, WindowsRequest, Request, Run, Plan, Bench, Explain, Verify, Daily, Cut, Windows, Values, name, dated, chunk_or, chunk_by, format_by, stats_by, as_of_by, options_by, world_in, table_in, run_in, plan_in, bench_in, explain_in, verify_in, daily_in, cut_in, bar_column_in, bars_world_in, window_in, windows_in, request_in, counted, asked, request, IsChunk, IsWindow, HasChunk}
 
 then : {X Y : Type 0} (P : Y → Type 0) (f : X → Option Y) (o : Option X) → ((x : X) → IfSome (f x) P) → IfSome (option_and_then f o) P
 then P f None h = tt
@@ -20,20 +20,20 @@ mapped : {X Y : Type 0} (P : Y → Type 0) (f : X → Y) (o : Option X) → IfSo
 mapped P f None h = tt
 mapped P f (Some x) h = h
 
-number : (n : ℕ) → IfSome (cond (nat_le 1 n && nat_le n most_chunk) (Some n) None) IsChunk
-number n = here (nat_le 1 n && nat_le n most_chunk) refl
+number : (most n : ℕ) → IfSome (cond (nat_le 1 n && nat_le n most) (Some n) None) (λ n. (1 ≤ n) × (n ≤ most))
+number most n = here (nat_le 1 n && nat_le n most) refl
   where
-    here : (b : Bool) → (nat_le 1 n && nat_le n most_chunk) ≡ b → IfSome (cond b (Some n) None) IsChunk
+    here : (b : Bool) → (nat_le 1 n && nat_le n most) ≡ b → IfSome (cond b (Some n) None) (λ n. (1 ≤ n) × (n ≤ most))
     here false e = tt
     here true e =
-        let r = and_parts (nat_le 1 n) (nat_le n most_chunk) e in
+        let r = and_parts (nat_le 1 n) (nat_le n most) e in
         let low = r.0 in
         let high = r.1 in
         (grind (arith, nat_tests), grind (arith, nat_tests))
 
 value : (o : Option Word) → IfSome (chunk_or o) IsChunk
 value None = (omega arith, omega arith)
-value (Some text) = then IsChunk (λ n. cond (nat_le 1 n && nat_le n most_chunk) (Some n) None) (sid_in text) number
+value (Some text) = then IsChunk (λ n. cond (nat_le 1 n && nat_le n most_chunk) (Some n) None) (sid_in text) (number most_chunk)
 
 of-chunk : (values : Values) → IfSome (chunk_by values) IsChunk
 of-chunk values = then IsChunk chunk_or (one_value (values option.Chunk)) value
@@ -66,6 +66,17 @@ a-bench names values =
     then (λ (q : BenchRequest). IsChunk q.chunk) _ (sid_in (name names 0)) (λ number.
     mapped (λ (q : BenchRequest). IsChunk q.chunk) _ (chunk_by values) (of-chunk values))
 
+window : (text : Word) → IfSome (window_in text) IsWindow
+window text = then IsWindow (λ n. cond (nat_le 1 n && nat_le n most_window) (Some n) None) (sid_in text) (number most_window)
+
+some-windows : (names : List Word) (values : Values) → IfSome (windows_in names values) (λ q. IsWindow q.window)
+some-windows names values =
+    then (λ (q : WindowsRequest). IsWindow q.window) _ (bar_column_in (name names 3)) (λ column.
+    then (λ (q : WindowsRequest). IsWindow q.window) _ (dated (name names 4)) (λ from.
+    then (λ (q : WindowsRequest). IsWindow q.window) _ (dated (name names 5)) (λ to.
+    with-chunk (λ (q : WindowsRequest). IsWindow q.window) _ (window_in (name names 6)) (window (name names 6)) (λ n h.
+    any-of (λ (q : WindowsRequest). IsWindow q.window) _ (bars_world_in names values) (λ world. h)))))
+
 any : {X : Type 0} (f : X → Request) (o : Option X) → ((x : X) → HasChunk (f x)) → IfSome (option_map f o) HasChunk
 any f None h = tt
 any f (Some x) h = h x
@@ -81,6 +92,7 @@ of-command command.Explain names values = any Explain (explain_in names values) 
 of-command command.Verify names values = any Verify (verify_in names values) (λ q. tt)
 of-command command.Daily names values = any Daily (daily_in names values) (λ q. tt)
 of-command command.Cut names values = any Cut (cut_in names values) (λ q. tt)
+of-command command.Windows names values = mapped HasChunk Windows (windows_in names values) (some-windows names values)
 
 in-number : (c : CommandName) (names : List Word) (values : Values) → IfSome (counted c names values) HasChunk
 unfolding counted

@@ -5,9 +5,10 @@ use Rattle.std.proofs.lemmas.List.{get_or-map}
 use Rattle.pl_words.specs.declared.commands.OptionName.TheVariants.{Labels, Numbers, Adjustments, Revisions}
 use Rattle.pl_words.specs.Parts.{Word, one_value}
 use Rattle.pl_spec.specs.Decimals.{sid_in}
+use Rattle.pl_spec.specs.declared.Column.{Column}
 use Rattle.pl_spec.specs.Names.{is_name}
-use Rattle.pl_words.specs.Request.Request.{Plan, Bench, Explain}
-use Rattle.pl_words.specs.Request.{Values, Dated, Options, WorldNames, dated, name, chunk_by, plan_in, bench_in, column_in, explain_in, table_in, world_in}
+use Rattle.pl_words.specs.Request.Request.{Plan, Bench, Explain, Windows}
+use Rattle.pl_words.specs.Request.{Values, Dated, Options, WorldNames, bar_column_in, bars_world_in, dated, name, chunk_by, plan_in, bench_in, column_in, explain_in, table_in, window_in, windows_in, world_in}
 
 abbrev words : List (Bor Word) → List Word
 words vs = map (λ v. v.now) vs
@@ -39,6 +40,33 @@ pub world_read : (vs : List (Bor Word)) (values : Values) (d1 d2 d3 : Bor Word) 
     })
 world_read vs values d1 d2 d3 labels numbers adjustments revisions four l n a r =
     rw (l, n, a, r, word_at vs 1 d1 (omega arith), word_at vs 2 d2 (omega arith), word_at vs 3 d3 (omega arith)) refl
+
+pub bars_world_read : (vs : List (Bor Word)) (values : Values) (d0 d1 d2 : Bor Word) (adjustments revisions : Option Word) → 3 ≤ length vs
+    → one_value (values Adjustments) ≡ Some adjustments → one_value (values Revisions) ≡ Some revisions
+    → bars_world_in (words vs) values ≡ Some (record {
+      sessions = (slice_index_or vs 0 d0).now;
+      assets = (slice_index_or vs 1 d1).now;
+      bars = (slice_index_or vs 2 d2).now;
+      labels = None;
+      numbers = None;
+      adjustments = adjustments;
+      revisions = revisions;
+    })
+bars_world_read vs values d0 d1 d2 adjustments revisions three a r =
+    rw (a, r, word_at vs 0 d0 (omega arith), word_at vs 1 d1 (omega arith), word_at vs 2 d2 (omega arith)) refl
+
+pub windows_read : (vs : List (Bor Word)) (values : Values) (d3 d4 d5 d6 : Bor Word) (bar : Column) (from to : Dated) (window : ℕ) (world : WorldNames)
+    → length vs ≡ 7 → bar_column_in (slice_index_or vs 3 d3).now ≡ Some bar → dated (slice_index_or vs 4 d4).now ≡ Some from → dated (slice_index_or vs 5 d5).now ≡ Some to
+    → window_in (slice_index_or vs 6 d6).now ≡ Some window → bars_world_in (words vs) values ≡ Some world
+    → option_map Windows (windows_in (words vs) values) ≡ Some (Windows (record { world = world; column = bar; from = from; to = to; window = window }))
+windows_read vs values d3 d4 d5 d6 bar from to window world seven bar_is from_is to_is window_is world_is =
+    rw (
+      ap bar_column_in (word_at vs 3 d3 (omega arith)) ∙ bar_is,
+      ap dated (word_at vs 4 d4 (omega arith)) ∙ from_is,
+      ap dated (word_at vs 5 d5 (omega arith)) ∙ to_is,
+      ap window_in (word_at vs 6 d6 (omega arith)) ∙ window_is,
+      world_is,
+    ) refl
 
 column_same : (text column : Word) → column_in text ≡ Some column → text ≡ column
 column_same text column is = go (is_name text) is

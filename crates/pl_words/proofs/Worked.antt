@@ -5,9 +5,11 @@ use Rattle.std.specs.Fmt.{digits as decimal_digits}
 use Rattle.pl_spec.specs.Dates.{digits, date_text, day_if, date_in}
 use Rattle.pl_spec.specs.Decimals.{sid_in}
 use Rattle.pl_words.specs.Parts.{Word}
+use Rattle.pl_spec.specs.declared.Column.{Column}
+use Rattle.pl_spec.specs.declared.Column.TheVariants.{Close, Volume}
 use Rattle.pl_spec.specs.declared.Format.{Format}
 use Rattle.pl_spec.specs.declared.Format.TheVariants.{Csv, Fixed}
-use Rattle.pl_words.specs.Request.{request, counted, RunRequest, WorldNames, Request, Run, Fmt, Check, Plan, Bench, Payouts, Explain, Verify, Daily, Cut}
+use Rattle.pl_words.specs.Request.{request, counted, RunRequest, WorldNames, Request, Run, Fmt, Check, Plan, Bench, Payouts, Explain, Verify, Daily, Cut, Windows}
 use Rattle.pl_words.specs.declared.request.WorldPart.{WorldPart}
 use Rattle.pl_words.specs.declared.request.WorldPart.TheVariants as piece
 
@@ -184,3 +186,29 @@ parts_asked : map (λ (options : List Word). request (codes "cut" ∷ (options +
     ≡ of_part (Some (over None None None None)) piece.Sessions ∷ of_part (Some (over None None (Some (codes "a.db")) None)) piece.Splits ∷ None ∷ None ∷ None ∷ None ∷ []
 unfolding request counted date_in day_if days_from_civil day_count days_of_years days_of_months decimal_digits digits date_text
 parts_asked = refl
+
+abbrev in_windows : Option Word → Option Word → Column → ℕ → Option Request
+in_windows adjustments revisions bar window =
+    Some (Windows (record {
+      world = over None None adjustments revisions;
+      column = bar;
+      from = record { text = codes "2024-01-03"; day = pos 19725 };
+      to = record { text = codes "2024-01-04"; day = pos 19726 };
+      window = window;
+    }))
+
+abbrev files : List Word
+files = codes "sessions.csv" ∷ codes "assets.csv" ∷ codes "bars.csv" ∷ []
+
+windows_asked : map (λ (ws : List Word). request (codes "windows" ∷ (files ++ ws))) (
+    (codes "close" ∷ (dates ++ codes "20" ∷ []))
+    ∷ (codes "volume" ∷ (dates ++ codes "1260" ∷ codes "--adjustments=a.db" ∷ codes "--revisions" ∷ codes "r" ∷ []))
+    ∷ (codes "price" ∷ (dates ++ codes "20" ∷ []))
+    ∷ (codes "close" ∷ (dates ++ codes "0" ∷ []))
+    ∷ (codes "close" ∷ (dates ++ codes "1261" ∷ []))
+    ∷ (codes "close" ∷ (dates ++ codes "020" ∷ []))
+    ∷ (codes "close" ∷ (dates ++ codes "20" ∷ codes "--labels=l" ∷ []))
+    ∷ (codes "close" ∷ dates) ∷ [])
+    ≡ in_windows None None Close 20 ∷ in_windows (Some (codes "a.db")) (Some (codes "r")) Volume 1260 ∷ None ∷ None ∷ None ∷ None ∷ None ∷ None ∷ []
+unfolding request counted sid_in date_in day_if days_from_civil day_count days_of_years days_of_months decimal_digits digits date_text
+windows_asked = refl

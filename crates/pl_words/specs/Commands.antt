@@ -3,11 +3,11 @@ use Rattle.std.specs.Prelude.{ℕ, List, [], ◌∷◌, Option, find, bytes_eq, 
 use Rattle.pl_words.specs.declared.commands.OptionName.{OptionName}
 use Rattle.pl_words.specs.declared.commands.OptionName.TheVariants.{Labels, Numbers, Adjustments, Revisions, Chunk, Format, Stats, AsOf, Part}
 use Rattle.pl_words.specs.declared.commands.CommandName.{CommandName}
-use Rattle.pl_words.specs.declared.commands.CommandName.TheVariants.{Run, Check, Fmt, Plan, Bench, Payouts, Explain, Verify, Daily, Cut}
+use Rattle.pl_words.specs.declared.commands.CommandName.TheVariants.{Run, Check, Fmt, Plan, Bench, Payouts, Explain, Verify, Daily, Cut, Windows}
 use Rattle.pl_words.specs.Parts.{Word}
 
 abbrev pub all_commands : List CommandName
-all_commands = Run ∷ Check ∷ Fmt ∷ Plan ∷ Bench ∷ Payouts ∷ Explain ∷ Verify ∷ Daily ∷ Cut ∷ []
+all_commands = Run ∷ Check ∷ Fmt ∷ Plan ∷ Bench ∷ Payouts ∷ Explain ∷ Verify ∷ Daily ∷ Cut ∷ Windows ∷ []
 
 abbrev pub command_text : CommandName → Word
 command_text Run = codes "run"
@@ -20,6 +20,7 @@ command_text Explain = codes "explain"
 command_text Verify = codes "verify"
 command_text Daily = codes "daily"
 command_text Cut = codes "cut"
+command_text Windows = codes "windows"
 
 -- how many names it takes
 abbrev pub places_of : CommandName → ℕ
@@ -33,6 +34,7 @@ places_of Explain = 7  -- PIPELINE SESSIONS ASSETS BARS SID DATE COLUMN
 places_of Verify = 5  -- PIPELINE SESSIONS ASSETS BARS DERIVATION
 places_of Daily = 6  -- PIPELINE SESSIONS ASSETS BARS FROM TO
 places_of Cut = 6  -- PIPELINE SESSIONS ASSETS BARS FROM TO
+places_of Windows = 7  -- SESSIONS ASSETS BARS COLUMN FROM TO WINDOW
 
 -- the options that it knows
 abbrev pub options_of : CommandName → List OptionName
@@ -46,6 +48,7 @@ options_of Explain = Labels ∷ Numbers ∷ Adjustments ∷ Revisions ∷ []
 options_of Verify = Labels ∷ Numbers ∷ Adjustments ∷ Revisions ∷ []
 options_of Daily = Labels ∷ Numbers ∷ Adjustments ∷ Revisions ∷ Format ∷ []
 options_of Cut = Labels ∷ Numbers ∷ Adjustments ∷ Revisions ∷ Part ∷ []
+options_of Windows = Adjustments ∷ Revisions ∷ []
 
 abbrev pub command_named : Word → Option CommandName
 command_named word = find (λ c. bytes_eq word (command_text c)) all_commands

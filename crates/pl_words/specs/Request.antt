@@ -1,10 +1,12 @@
 -- What the words ask for.
 use Rattle.std.specs.Prelude.{ℕ, ◌≤◌, ⊤, ℤ, List, [], ◌∷◌, Bool, false, ◌==◌, ◌&&◌, nat_le, if◌then◌else◌, Option, Some, None, option_map, option_and_then, is_some, find, length, slice_index_or, bytes_eq, codes}
 use Rattle.std.specs.List.{list_all}
-use Rattle.pl_spec.specs.Limits.{most_chunk}
+use Rattle.pl_spec.specs.Limits.{most_chunk, most_window}
 use Rattle.pl_spec.specs.Dates.{date_in}
 use Rattle.pl_spec.specs.Decimals.{sid_in}
-use Rattle.pl_spec.specs.Names.{is_name}
+use Rattle.pl_spec.specs.Names.{column_name, is_name}
+use Rattle.pl_spec.specs.declared.Column.{Column}
+use Rattle.pl_spec.specs.declared.Column.TheVariants.{OpenPrice, High, Low, Close, Volume}
 use Rattle.pl_spec.specs.declared.Format as form
 use Rattle.pl_spec.specs.declared.Format.TheVariants.{Csv, Fixed, Cells}
 use Rattle.pl_words.specs.declared.request.RangeDate.{RangeDate}
@@ -90,9 +92,18 @@ pub record PayoutsRequest : Type 0 where
   pub bars : List ℕ
   pub payouts : List ℕ
 
+-- the windows of so many sessions over a bar column of a world, from a date to a date
+pub record WindowsRequest : Type 0 where
+  pub world : WorldNames
+  pub column : Column
+  pub from : Dated
+  pub to : Dated
+  pub window : ℕ
+
 -- the table of a pipeline, the canonical text of a pipeline file, whether it keeps the rules, a plan, the
 -- numbers of a run over a stated world, the ratios of payouts, the derivation of a cell, whether a derivation
--- is right, a table that is computed session by session, or a part of what a table reads
+-- is right, a table that is computed session by session, a part of what a table reads, or the windows of a bar
+-- column
 pub data Request : Type 0 where
   Run : RunRequest → Request
   Fmt : (pipeline : List ℕ) → Request
@@ -104,6 +115,7 @@ pub data Request : Type 0 where
   Verify : VerifyRequest → Request
   Daily : RunRequest → Request
   Cut : CutRequest → Request
+  Windows : WindowsRequest → Request
 
 abbrev pub dated : Word → Option Dated
 dated text = option_map (λ day. record { text = text; day = day }) (date_in text)
@@ -273,6 +285,43 @@ abbrev pub verify_in : List Word → Values → Option VerifyRequest
 verify_in names values =
     option_map (λ world. record { pipeline = name names 0; world = world; derivation = name names 4 }) (world_in names values)
 
+-- the names of a world without labels and numbers: three names, and two options
+abbrev pub bars_world_over : List Word → Option Word → Option Word → WorldNames
+bars_world_over names adjustments revisions =
+    record {
+      sessions = name names 0;
+      assets = name names 1;
+      bars = name names 2;
+      labels = None;
+      numbers = None;
+      adjustments = adjustments;
+      revisions = revisions;
+    }
+
+abbrev pub bars_world_in : List Word → Values → Option WorldNames
+bars_world_in names values =
+    option_and_then (λ adjustments. option_map (λ revisions. bars_world_over names adjustments revisions)
+    (one_value (values option.Revisions))) (one_value (values option.Adjustments))
+
+-- the bar column of a name
+abbrev pub bar_column_in : Word → Option Column
+bar_column_in text = find (λ c. bytes_eq text (column_name c)) (OpenPrice ∷ High ∷ Low ∷ Close ∷ Volume ∷ [])
+
+-- from 1 to the most that a window has, in digits without sign or leading zeros
+abbrev pub window_in : Word → Option ℕ
+window_in text = option_and_then (λ n. if nat_le 1 n && nat_le n most_window then Some n else None) (sid_in text)
+
+abbrev pub windows_over : Column → Dated → Dated → ℕ → WorldNames → WindowsRequest
+windows_over column from to window world =
+    record { world = world; column = column; from = from; to = to; window = window }
+
+-- three names, a bar column, two dates and how many sessions a window has, and the options
+abbrev pub windows_in : List Word → Values → Option WindowsRequest
+windows_in names values =
+    option_and_then (λ column. option_and_then (λ from. option_and_then (λ to. option_and_then (λ window.
+    option_map (windows_over column from to window) (bars_world_in names values))
+    (window_in (name names 6))) (dated (name names 5))) (dated (name names 4))) (bar_column_in (name names 3))
+
 -- what a command asks for by its names and its options' values
 abbrev pub request_in : CommandName → List Word → Values → Option Request
 request_in command.Run names values = option_map Run (run_in names values)
@@ -285,6 +334,7 @@ request_in command.Explain names values = option_map Explain (explain_in names v
 request_in command.Verify names values = option_map Verify (verify_in names values)
 request_in command.Daily names values = option_map Daily (daily_in names values)
 request_in command.Cut names values = option_map Cut (cut_in names values)
+request_in command.Windows names values = option_map Windows (windows_in names values)
 
 -- It takes exactly its number of names.
 unfoldable pub counted : CommandName → List Word → Values → Option Request
@@ -305,9 +355,14 @@ request (first ∷ words) = option_and_then (λ command. asked command words) (c
 abbrev pub IsChunk : ℕ → Type 0
 IsChunk n = (1 ≤ n) × (n ≤ most_chunk)
 
+abbrev pub IsWindow : ℕ → Type 0
+IsWindow n = (1 ≤ n) × (n ≤ most_window)
+
+-- a chunk and a window have a length that is allowed
 abbrev pub HasChunk : Request → Type 0
 HasChunk (Run q) = IsChunk q.options.chunk
 HasChunk (Bench q) = IsChunk q.chunk
+HasChunk (Windows q) = IsWindow q.window
 HasChunk request = ⊤
 
 -- ---- what words name
@@ -330,6 +385,7 @@ world_of (Explain q) = Some q.world
 world_of (Verify q) = Some q.world
 world_of (Daily q) = Some q.world
 world_of (Cut q) = Some q.table.world
+world_of (Windows q) = Some q.world
 world_of q = None
 
 abbrev pub world_file : WorldNames → InputFile → Option (List ℕ)
@@ -366,6 +422,8 @@ date_named (Cut q) date = table_date q.table date
 date_named (Plan q) From = Some q.from.text
 date_named (Plan q) To = Some q.to.text
 date_named (Explain q) At = Some q.date.text
+date_named (Windows q) From = Some q.from.text
+date_named (Windows q) To = Some q.to.text
 date_named q date = None
 
 abbrev pub column_named : Request → Option (List ℕ)

@@ -3,7 +3,7 @@ use Rattle.std.specs.Prelude.{◌≡◌, ℕ, List, Option, None, Some, MatchOpt
 use Rattle.std.specs.Borrow.{Bor}
 use Rattle.pl_words.specs.Request as spec
 use Rattle.pl_words.specs.declared.request.Request.{Request}
-use Rattle.pl_words.specs.declared.request.Request.TheVariants.{Run, Fmt, Check, Plan, Bench, Payouts, Explain, Verify, Daily, Cut}
+use Rattle.pl_words.specs.declared.request.Request.TheVariants.{Run, Fmt, Check, Plan, Bench, Payouts, Explain, Verify, Daily, Cut, Windows}
 use Rattle.pl_words.specs.declared.request.RunRequest.{RunRequest}
 use Rattle.pl_words.specs.declared.request.PlanRequest.{PlanRequest}
 use Rattle.pl_words.specs.declared.request.BenchRequest.{BenchRequest}
@@ -12,6 +12,7 @@ use Rattle.pl_words.specs.declared.request.WorldNames.{WorldNames}
 use Rattle.pl_words.specs.declared.request.ExplainRequest.{ExplainRequest}
 use Rattle.pl_words.specs.declared.request.VerifyRequest.{VerifyRequest}
 use Rattle.pl_words.specs.declared.request.CutRequest.{CutRequest}
+use Rattle.pl_words.specs.declared.request.WindowsRequest.{WindowsRequest}
 use Rattle.pl_words.specs.declared.request.DateWord.{DateWord}
 use Rattle.pl_words.specs.declared.request.Options.{Options}
 
@@ -68,6 +69,10 @@ verify_of r = record { pipeline = r.pipeline.now; world = world_names_of r.world
 abbrev pub cut_of : CutRequest → spec.CutRequest
 cut_of r = record { table = run_of r.table; part = r.part }
 
+abbrev pub windows_of : WindowsRequest → spec.WindowsRequest
+windows_of r =
+    record { world = world_names_of r.world; column = r.column; from = dated_of r.from; to = dated_of r.to; window = r.window }
+
 abbrev pub request_of : Request → spec.Request
 request_of (Run r) = spec.Run (run_of r)
 request_of (Fmt name) = spec.Fmt name.now
@@ -79,6 +84,7 @@ request_of (Explain r) = spec.Explain (explain_of r)
 request_of (Verify r) = spec.Verify (verify_of r)
 request_of (Daily r) = spec.Daily (run_of r)
 request_of (Cut r) = spec.Cut (cut_of r)
+request_of (Windows r) = spec.Windows (windows_of r)
 
 -- The code's answer is what is asked for.
 abbrev pub Says : Option Request → Option spec.Request → Type 0

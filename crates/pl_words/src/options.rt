@@ -2,7 +2,7 @@
 
 ghost use Rattle.std.specs.Prelude.{◌≡◌, ◌≤◌, None, Some, MatchOption, length, map, option_map};
 ghost use Rattle.pl_words.specs.Apps.{values_in};
-ghost use Rattle.pl_words.specs.Request.{as_of_by, dated, chunk_in, chunk_by, format_in, format_by, stats_by, options_by, part_by, part_in, usual, world_in, column_in};
+ghost use Rattle.pl_words.specs.Request.{as_of_by, dated, chunk_in, chunk_by, format_in, format_by, stats_by, options_by, part_by, part_in, usual, bar_column_in, bars_world_in, column_in, window_in, world_in};
 ghost use Rattle.pl_words.specs.Views.{dated_of, options_of, world_names_of};
 
 use crate::commands::OptionName;
@@ -68,16 +68,16 @@ pub(crate) fn bars_world_in<'a>(
         (λ r. bars_world_in (map (λ v. v.now) names.now) (values_in matches.now)
         ≡ Some (world_names_of r)) }
 {
-    let adjustments = value(matches, OptionName::Adjustments).ok()?;
-    let revisions = value(matches, OptionName::Revisions).ok()?;
+    let adjusted = value(matches, OptionName::Adjustments).ok()?;
+    let revised = value(matches, OptionName::Revisions).ok()?;
     Some(WorldNames {
         sessions: names[0],
         assets: names[1],
         bars: names[2],
         labels: None,
         numbers: None,
-        adjustments,
-        revisions,
+        adjustments: adjusted,
+        revisions: revised,
     })
 }
 

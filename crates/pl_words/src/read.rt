@@ -213,15 +213,15 @@ fn windows_in<'a>(names: &[&'a str], matches: &ArgMatches<'a>) -> Option<Request
     ensures { Says result (request_in commands.Windows (map (λ v. v.now) names.now) (values_in matches.now)) }
 {
     let column = bar_column_in(names[3])?;
-    let from = date_in(names[4])?;
-    let to = date_in(names[5])?;
+    let first = date_in(names[4])?;
+    let last = date_in(names[5])?;
     let window = window_in(names[6])?;
     let world = bars_world_in(names, matches)?;
     Some(Request::Windows(WindowsRequest {
         world,
         column,
-        from,
-        to,
+        from: first,
+        to: last,
         window,
     }))
 }

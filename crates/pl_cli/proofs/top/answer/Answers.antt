@@ -66,3 +66,8 @@ pub returns-in-Some-Cut : goal.returns-in-Some-Cut
 returns-in-Some-Cut g c =
     rw (lent c.in-Some-Cut.is (rw c.in-Some-Cut.is at c.in-Some-Cut.field-0-is))
     (c.cut_command.ensures c.args.steps.now)
+
+pub returns-in-Some-Windows : goal.returns-in-Some-Windows
+returns-in-Some-Windows g c =
+    rw (lent c.in-Some-Windows.is (rw c.in-Some-Windows.is at c.in-Some-Windows.field-0-is))
+    (c.windows_command.ensures c.args.steps.now)
