@@ -1,24 +1,21 @@
 -- Formulas over prices in another unit.
-use Rattle.std.proofs.Common.{◌≡◌, ℕ, zero, suc, ◌+◌, ◌-◌, ◌*◌, ◌/◌, ◌<◌, ◌≤◌, ◌==◌, Bool, true, false, not, ◌||◌, ◌&&◌, if◌then◌else◌, cond, ℤ, pos, negsuc, ◌+ℤ◌, ◌-ℤ◌, ◌*ℤ◌, neg_ℤ, List, [], ◌∷◌, length, map, filter, fold, drop, Option, Some, None, refl, sym, ◌∙◌, ap, arith, inl, inr, ◌⊎◌}
-use Rattle.std.specs.Int.RustNames.{unsigned_abs, int_lt}
-use Rattle.std.specs.List.{list_any, position, range_with_len}
-use Rattle.std.specs.Ordering.{int_eq}
-use Rattle.std.specs.Prelude.{sum_by, unwrap_or}
+use Rattle.std.proofs.Common.{◌≡◌, ℕ, zero, suc, ◌+◌, ◌*◌, ◌/◌, ◌<◌, ◌≤◌, ◌==◌, Bool, true, false, not, ◌||◌, if◌then◌else◌, ℤ, pos, negsuc, ◌+ℤ◌, ◌-ℤ◌, ◌*ℤ◌, List, [], ◌∷◌, length, map, fold, refl, sym, ◌∙◌, ap, arith, inl, inr}
+use Rattle.std.specs.Int.RustNames.{unsigned_abs}
+use Rattle.std.specs.List.{list_any, range_with_len}
+use Rattle.std.specs.Prelude.{sum_by}
 use Rattle.std.proofs.Math.Nat.{mul-pos, mul-div_cancel}
 use Rattle.std.proofs.lemmas.Bool.{true≢false, ne_eqb}
-use Rattle.std.proofs.lemmas.Int.{ints, unsigned_abs-mul}
+use Rattle.std.proofs.lemmas.Int.{unsigned_abs-mul}
 use Rattle.std.proofs.lemmas.List.{length-map}
-use Rattle.pl_spec.specs.Cells.{total, count, present_values, greatest, least}
-use Rattle.pl_spec.specs.Rounding.{LIMIT, MILLION, MISSING, Fraction, IsRoot, is_missing, is_present, scaled, div_round, to_cell, quot, of_both, add, sub, mul, isqrt}
+use Rattle.pl_spec.specs.Cells.{total, count, present_values}
+use Rattle.pl_spec.specs.Rounding.{LIMIT, MILLION, MISSING, Fraction, is_missing, scaled, div_round, to_cell, quot, of_both, add, sub, mul, isqrt}
 use Rattle.pl_spec.specs.Window.{downward}
 use Rattle.pl_spec.proofs.Each.{Each}
 use Rattle.pl_spec.proofs.Roots.{isqrt-is_root, one_root}
-use Rattle.pl_spec.proofs.Signed.{int_eq-true, eq-int_eq}
-use Rattle.pl_pipeline.specs.Formula.{HUNDRED, oldest, newest, mean, if_any, square, spread, deviation, present_pairs, products, differences, gains, losses, FINE, places, weights, faded_mean, place_of, of_all, formula}
-use Rattle.pl_invariance.specs.Exact.{Divides}
+use Rattle.pl_pipeline.specs.Formula.{mean, if_any, square, spread, deviation, products, places, FINE, weights, faded_mean, formula}
 use Rattle.pl_invariance.specs.Ranked.{IsExact}
-use Rattle.pl_invariance.specs.Units.{IsRatio, AreExact, IsUnrounded, middle, IsSpreadExact, IsBandExact, FormulasHaveUnits, IndicatorsHaveNoUnit}
-use Rattle.pl_invariance.proofs.Compared.{oldest_scaled, newest_scaled, quot_same}
+use Rattle.pl_invariance.specs.Units.{IsRatio, AreExact, IsUnrounded, middle, IsSpreadExact, IsBandExact, FormulasHaveUnits}
+use Rattle.pl_invariance.proofs.Compared.{oldest_scaled}
 use Rattle.pl_invariance.proofs.Exact.{missing_stays, other_sign, same_factor}
 use Rattle.pl_invariance.proofs.Units as units
 

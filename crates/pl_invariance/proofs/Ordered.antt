@@ -1,6 +1,6 @@
 -- Percentiles lie between the values, and ranks of windows are ranks.
-use Rattle.std.proofs.Common.{◌≡◌, ℕ, zero, suc, ◌+◌, ◌-◌, ◌*◌, ◌/◌, ◌<◌, ◌≤◌, ℤ, pos, neg_ℤ, ◌+ℤ◌, ◌*ℤ◌, ◌≤ℤ◌, List, [], ◌∷◌, length, map, fold, unwrap_or, nat_eq, ne_eqb, unsigned_abs, refl, sym, ap, ap₂, ◌∙◌, arith, true, false, inl, inr}
-use Rattle.std.specs.List.{All, Contains, reduce}
+use Rattle.std.proofs.Common.{◌≡◌, ℕ, zero, suc, ◌+◌, ◌-◌, ◌*◌, ◌/◌, ◌<◌, ◌≤◌, ℤ, pos, neg_ℤ, ◌+ℤ◌, ◌*ℤ◌, ◌≤ℤ◌, List, [], ◌∷◌, length, fold, unwrap_or, nat_eq, ne_eqb, unsigned_abs, refl, sym, ap, ap₂, ◌∙◌, arith, false, inl, inr}
+use Rattle.std.specs.List.{All, reduce}
 use Rattle.std.specs.Int.{int_max, int_min}
 use Rattle.std.proofs.lemmas.Bool.{cases_lt}
 use Rattle.std.proofs.lemmas.Int.{ints, fold-int_max_bounds, fold-int_min_bounds}
@@ -8,11 +8,11 @@ use Rattle.std.proofs.lemmas.List.{length-map}
 use Rattle.std.proofs.lemmas.List.Elements.{All-filter, filter_passes, All-cons, All-contains}
 use Rattle.std.proofs.lemmas.Nat.{mul-le}
 use Rattle.std.proofs.Math.Nat.{mul-div-mul_left}
-use Rattle.pl_spec.specs.Rounding.{IsNearest, MISSING, MILLION, LIMIT, IsCell, is_missing, is_present, div_round, to_cell, quot}
+use Rattle.pl_spec.specs.Rounding.{IsNearest, MISSING, MILLION, LIMIT, IsCell, is_present, div_round, to_cell, quot}
 use Rattle.pl_spec.specs.Cells.{present_values, count, greatest, least}
 use Rattle.pl_spec.proofs.Nearest.{div_round-is_nearest}
 use Rattle.pl_spec.proofs.Within.{to_cell-within, present-within}
-use Rattle.pl_pipeline.specs.Cross.{Entry, values, cross}
+use Rattle.pl_pipeline.specs.Cross.{cross}
 use Rattle.pl_pipeline.specs.declared.WindowKind.TheVariants.{WindowPercentile}
 use Rattle.pl_pipeline.specs.Formula.{formula, newest}
 use Rattle.pl_pipeline.specs.Order.{count_less, count_equal, twice_rank, value_at, edge, percentile}
@@ -83,7 +83,7 @@ module _ (vs : List ℤ) (percent : ℕ) (some : 0 < length vs) (few : percent �
     to : (c : ℤ) → All (λ x. x ≤ℤ c) vs → rounded ≤ℤ c
     to c all = omega (arith, ints, near.near, edge-to c all)
 
-    pub percentile-is : percentile percent vs ≡ rounded
+    percentile-is : percentile percent vs ≡ rounded
     unfolding quot rounded
     percentile-is =
         let low = from (neg_ℤ (pos LIMIT)) (λ k d h. (let s = small k d h in omega (arith, ints, s))) in

@@ -1,22 +1,21 @@
 -- Numbers in another unit, and the quotients, sums and extremes of lists of them.
-use Rattle.std.proofs.Common.{◌≡◌, ℕ, zero, suc, ◌+◌, ◌*◌, ◌<◌, ◌≤◌, Bool, true, false, not, ◌&&◌, nat_le, cond, ℤ, pos, negsuc, ◌+ℤ◌, ◌-ℤ◌, ◌*ℤ◌, neg_ℤ, ◌<ℤ◌, ◌≤ℤ◌, List, [], ◌∷◌, length, map, filter, fold, Option, Some, None, option_map, unwrap_or, refl, sym, ◌∙◌, ap, arith, inl, inr, ◌⊎◌}
+use Rattle.std.proofs.Common.{◌≡◌, ℕ, zero, suc, ◌*◌, ◌<◌, ◌≤◌, Bool, true, false, not, nat_le, ℤ, pos, negsuc, ◌+ℤ◌, ◌-ℤ◌, ◌*ℤ◌, neg_ℤ, ◌<ℤ◌, ◌≤ℤ◌, List, [], ◌∷◌, length, map, fold, unwrap_or, refl, sym, ◌∙◌, ap, arith, inl, inr}
 use Rattle.std.specs.Int.{int_max, int_min}
 use Rattle.std.specs.Int.RustNames.{unsigned_abs, int_lt, int_le}
 use Rattle.std.specs.Ordering.{int_eq}
 use Rattle.std.specs.Cmp.{both_ways}
 use Rattle.std.specs.List.{reduce}
-use Rattle.std.specs.Prelude.{zip}
 use Rattle.std.proofs.Math.IntN.{*ℤ_comm}
 use Rattle.std.proofs.lemmas.Bool.{true≢false, false_from_ne_true, leb-true}
 use Rattle.std.proofs.lemmas.Bool.Decides.{nat_tests}
 use Rattle.std.proofs.lemmas.Int.{ints, by_lt_z, int_max_is, int_min_is}
 use Rattle.std.proofs.lemmas.List.{length-map}
 use Rattle.pl_spec.specs.Cells.{total, count, present_values, greatest, least}
-use Rattle.pl_spec.specs.Rounding.{LIMIT, MISSING, Fraction, IsNearest, is_missing, is_present, scaled, div_round, to_cell, quot}
+use Rattle.pl_spec.specs.Rounding.{LIMIT, MISSING, Fraction, is_missing, is_present, scaled, div_round, to_cell, quot}
 use Rattle.pl_spec.proofs.Each.{Each}
 use Rattle.pl_spec.proofs.Nearest.{nearest_is-div_round}
 use Rattle.pl_spec.proofs.Signed.{int_eq-true, eq-int_eq, lt-int_lt, lt-int_le, le-int_le, int_le-true, le-both, lt-is-le}
-use Rattle.pl_pipeline.specs.Formula.{present_pairs, products}
+use Rattle.pl_pipeline.specs.Formula.{products}
 use Rattle.pl_pipeline.proofs.Bins.{times-le}
 use Rattle.pl_invariance.specs.Exact.{Divides}
 use Rattle.pl_invariance.specs.Ranked.{IsExact}
