@@ -29,6 +29,7 @@ pub record EndsAfterRun {E : Type 0} (sink : Ghosts E) (asked : Option Request) 
   pub steps : ℕ
   pub between : E
   pub run : IsRun (seen_by taken taken_now names steps) asked ran line numbers
+  pub kept : ¬ (ran ≡ 0) → ¬ (ran ≡ 9) → taken_now ≡ taken
   pub told : IsTold sink.taken sink.faults sink.sound sink.room err between (line ++ numbers)
   pub ends : ((status ≡ ran) × (err_now ≡ between))
       ⊎ ((ran ≡ 0) × (status ≡ 9) × IsTold sink.taken sink.faults sink.sound sink.room between err_now (codes "write\n"))

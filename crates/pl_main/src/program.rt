@@ -110,6 +110,7 @@ fn run<L: Ledger, O: Sink, E: Sink>(
     ensures usage { result ≡ 2 → request (map (λ s. string_bytes s) words.now) ≡ None }
     ensures refused { request (map (λ s. string_bytes s) words.now) ≡ None → ¬ (result ≡ 10) → result ≡ 2 }
     ensures write { result ≡ 9 → Rose (O.faults out.old) (O.faults out.new) }
+    ensures kept { ¬ (result ≡ 0) → ¬ (result ≡ 9) → O.taken out.new ≡ O.taken out.old }
     ensures err { LeavesSink E.sound E.faults err.old err.new }
 {
     let mut steps = Steps::<L>::new(blank);
