@@ -1,8 +1,10 @@
 #!/usr/bin/env python3
 """A model of scikit-learn: what the assets with the most similar quarter did in the week after it.
 
-Each session it learns from the windows that it is given alone: from the first 58 sessions of the returns the shape of each
-asset's quarter, and what came in the next five. Then it says of the newest 58 what may come. Usage: neighbours.py DATA FROM TO
+Each session it learns from the windows that it is given alone: from the first 58 returns the shape of each asset's
+quarter, and what came in the next five. Then it says of the newest 58 what may come.
+
+Usage: neighbours.py DATA FROM TO
 """
 import sys
 

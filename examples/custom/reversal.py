@@ -1,7 +1,10 @@
 #!/usr/bin/env python3
-"""Reversal to the median: how far the newest close is from the median of its month, in median distances, neutral to sectors.
+"""Reversal to the median: how far the newest close is from the median of its month, in median distances, and less the
+mean of its sector.
 
-One day with a wrong or a wild price moves a mean and a deviation, and hardly a median. Usage: reversal.py DATA FROM TO
+One day with a wrong or a wild price moves a mean and a deviation, and hardly a median.
+
+Usage: reversal.py DATA FROM TO
 """
 import sys
 

@@ -38,4 +38,5 @@ class Side(CustomClassifier):
 folder, start, end = sys.argv[1:]
 middle, skew = Moments()
 place = Returns(window_length=22).rank(groupby=Side())  # within those of the same side
-print(run_pipeline(Pipeline({"middle": middle, "skew": skew, "side": Side(), "place": place}), start, end, Data(folder)))
+pipe = Pipeline({"middle": middle, "skew": skew, "side": Side(), "place": place})
+print(run_pipeline(pipe, start, end, Data(folder)))

@@ -1,7 +1,7 @@
 """The command `windows` by its definition, cell by cell: the oracle of tests.
 
-Run as a program it stands in for one without the command: it answers `windows` itself, and hands all else on to the program
-that TOHMERIL_BEHIND names.
+Run as a program it stands in for one without the command: it answers `windows` itself, and hands all else on to the
+program that TOHMERIL_BEHIND names.
 """
 
 import csv

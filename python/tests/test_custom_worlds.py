@@ -1,5 +1,5 @@
-"""What code of one's own computes, over random worlds: the program's own factors written anew give the program's tables, and
-the windows are those of the definitions.
+"""What code of one's own computes, over random worlds: the program's own factors written anew give the program's tables,
+and the windows are those of the definitions.
 
 `CUSTOM_CASES` says how many worlds are drawn, 500 where it is not set.
 """

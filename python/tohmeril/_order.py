@@ -34,8 +34,8 @@ class Need(NamedTuple):
 
 @dataclass(frozen=True)
 class Order:
-    """What is computed for a range: level by level, since each is of what the levels before it have. `reach` is the number
-    of the first session whose bars are read, and `has_bars` says whether the pipeline itself reads any.
+    """What is computed for a range: level by level, since each is of what the levels before it have. `reach` is the
+    number of the first session whose bars are read, and `has_bars` says whether the pipeline itself reads any.
     """
 
     levels: tuple[tuple[Need, ...], ...]
@@ -195,7 +195,7 @@ def require_steady(custom: Custom) -> None:
                 if not fault.line.endswith("NotWindowSafe"):
                     raise
                 raise NonWindowSafeInput(
-                    f"{custom!r} can't have a window over {part!r}, which depends on adjustments that come between: give "
-                    "its rank() or zscore(), or the columns of bars that it is of, and compute it from their windows"
+                    f"{custom!r} can't have a window over {part!r}, which depends on adjustments that come between: "
+                    "give its rank() or zscore(), or the columns of bars that it is of, and compute it from their windows"
                 ) from None
     _steady.add(custom)

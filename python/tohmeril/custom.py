@@ -1,7 +1,7 @@
 """What code of one's own computes, as numbers and labels of a run.
 
-The program makes the windows that `compute` is given: those of bars by its command `windows`, those of terms by a run over
-the sessions that are needed. The results become records of files beside the user's own, which a run then reads.
+The program makes the windows that `compute` is given: those of bars by its command `windows`, those of terms by a run
+over the sessions that are needed. The results become records of files beside the user's own, which a run then reads.
 """
 
 from __future__ import annotations
@@ -65,8 +65,8 @@ def tables(
     run: Callable[[Data, Ends], Any],
     move: Callable[[float], None] = lambda days: None,
 ) -> list[Any]:
-    """What `run` makes of the data with what is computed for a range; of its parts, where its results are more than a run
-    reads. `move` is told how many sessions of the range are done.
+    """What `run` makes of the data with what is computed for a range; of its parts, where its results are more than a
+    run reads. `move` is told how many sessions of the range are done.
     """
     first = bisect_left(data.sessions, ends[0])
     waiting, found = _parts(script, names, data, ends)[::-1], []
@@ -258,7 +258,9 @@ def _sources(custom: Custom, first: int) -> list[tuple[Term, int]]:
 
 
 def requested(needs: Sequence[Need]) -> list[Request]:
-    """The windows of bars that are needed: of a column one, where the longest window from the first session on has bars."""
+    """The windows of bars that are needed: of a column one, where there are bars for the longest from the first session
+    on.
+    """
     found: dict[str, list[Request]] = {}
     for custom, first in needs:
         for column in bars_of(custom):

@@ -97,8 +97,7 @@ class Custom(Term):
     ) -> Own:
         if not callable(getattr(cls, "compute", None)):
             raise TypeError(
-                f"{cls.__name__} has no compute: write a class below it with def compute(self, today, assets, out, ..), "
-                "which fills out"
+                f"{cls.__name__} has no compute: write a class below it with def compute(self, today, assets, out, ..)"
             )
         own = {
             "inputs": inputs,
@@ -132,7 +131,7 @@ class Custom(Term):
         except TypeError:
             wrong = next(name for name, value in params if not _is_hashable(value))
             raise TypeError(
-                f"{cls.__name__}: {wrong} is {parts['params'][wrong]!r}, which may change: give a tuple, a number or a text"
+                f"{cls.__name__}: {wrong} is {parts['params'][wrong]!r}, which may change: give a tuple, a number, a text"
             ) from None
         if known is not None:
             return known
@@ -175,13 +174,13 @@ class CustomFactor(Custom, Factor):
     """A factor of one's own. Zipline's of this name: a class below it has `compute`, and most have `inputs` and
     `window_length`.
 
-    ``compute(self, today, assets, out, *inputs, **params)`` is called for each session, in their order, with the sids of
-    the assets that exist on it and pass the mask. Each input is an array with a row for each session of the window,
-    oldest first, and a column for each of these assets: of a column of bars the `window_length` sessions before today, as
-    today sees them; of a term its values of today and of the sessions before. Factors are floats with NaN for a missing
-    value, filters booleans, labels texts with None, bins whole numbers with -1. What is written into `out` is rounded to
-    millionths, ties away from zero; NaN and infinities are missing, and so is what is beyond 100,000,000,000, of which a
-    warning tells. An asset outside of the mask has the missing value.
+    ``compute(self, today, assets, out, *inputs, **params)`` is called for each session, in their order, with the sids
+    of the assets that exist on it and pass the mask. Each input is an array with a row for each session of the window,
+    oldest first, and a column for each of these assets: of a column of bars the `window_length` sessions before today,
+    as today sees them; of a term its values of today and of the sessions before. Factors are floats with NaN for a
+    missing value, filters booleans, labels texts with None, bins whole numbers with -1. What is written into `out` is
+    rounded to millionths, ties away from zero; NaN and infinities are missing, and so is what is beyond
+    100,000,000,000, of which a warning tells. An asset outside of the mask has the missing value.
 
     Parameters
     ----------
@@ -229,7 +228,7 @@ class CustomFactor(Custom, Factor):
 
 
 class CustomFilter(Custom, Filter):
-    """A filter of one's own, whose `compute` writes truth values; that of `CustomFactor` otherwise. A window may be over it.
+    """A filter of one's own, whose `compute` writes truth values; as `CustomFactor` otherwise. A window may be over it.
 
     >>> from tohmeril.pipeline.data import EquityPricing
     >>> class Rising(CustomFilter):
@@ -284,8 +283,8 @@ class CustomClassifier(Custom, Classifier):
     ----------
     dtype
         int64, where `compute` writes whole numbers and -1, or another `missing_value`, for none; or object, where it
-        writes texts, and None or an empty one for none. The program has either as a label, of which a run reads 200,000:
-        one for each asset and session on which it changes.
+        writes texts, and None or an empty one for none. The program has either as a label, of which a run reads
+        200,000: one for each asset and session on which it changes.
 
     Examples
     --------
@@ -437,8 +436,8 @@ def _inputs(cls: type[Custom], given: Any) -> tuple[Term, ...]:
         term = part.latest if isinstance(part, (NumberColumn, LabelColumn)) else part
         if not isinstance(term, Term):
             raise TypeError(
-                f"{cls.__name__}: {part!r} can't be its input, which is a column of bars, of numbers or of labels, or a "
-                "factor, filter or classifier"
+                f"{cls.__name__}: {part!r} can't be its input, which is a column of bars, of numbers or of labels, or "
+                "a factor, filter or classifier"
             )
         require_one(term)
         require_window_safe(cls.__name__, term)
@@ -459,8 +458,8 @@ def _require_places(cls: type[Custom], parts: dict[str, Any]) -> None:
     if count < least or count > len(named) and not some:
         taken = ", ".join(each.name for each in named) or "none"
         raise TypeError(
-            f"{cls.__name__}: its compute takes {taken} behind out, and there are {count} inputs: write inputs = [..], as "
-            "[EquityPricing.close], into the class or the call"
+            f"{cls.__name__}: its compute takes {taken} behind out, and there are {count} inputs: write inputs = [..], "
+            "as [EquityPricing.close], into the class or the call"
         )
 
 
@@ -473,8 +472,8 @@ def _outputs(cls: type[Custom], given: Any) -> tuple[str, ...]:
     for name in names:
         if not isinstance(name, str) or not name.isidentifier() or hasattr(CustomFactor, name) or names.count(name) > 1:
             raise ValueError(
-                f"{cls.__name__}: {name!r} can't be one of its outputs, which are different names, and none that a factor "
-                "has already"
+                f"{cls.__name__}: {name!r} can't be one of its outputs, which are different names, and none that a "
+                "factor has already"
             )
     return names
 

@@ -725,8 +725,8 @@ def require_window_safe(name: str, term: object) -> None:
     unsafe = unsafe_part(term) if isinstance(term, Factor) else None
     if unsafe is not None:
         raise NonWindowSafeInput(
-            f"{name} can't have a window over {term!r}, since {unsafe!r} is not window-safe: a value of it may depend on "
-            "adjustments that come between. Give its rank() or zscore(), or let its class say window_safe = True where "
+            f"{name} can't have a window over {term!r}, since {unsafe!r} is not window-safe: a value of it may depend "
+            "on adjustments that come between. Give its rank() or zscore(), or let its class say window_safe = True where "
             "no split or dividend changes it, as with a ratio of two prices of its window"
         )
 
