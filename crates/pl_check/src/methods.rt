@@ -219,7 +219,13 @@ fn greatest_where<'a>(
         (value_of filter.entry) (terms_of terms.old)) }
 {
     let kept = kept_where(place, object, filter, terms)?;
-    called_on(place, Operation::Summarize(Summary::Greatest), kept, &[], terms)
+    called_on(
+        place,
+        Operation::Summarize(Summary::Greatest),
+        kept,
+        &[],
+        terms,
+    )
 }
 
 /// The value of one asset, for all.

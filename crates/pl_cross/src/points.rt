@@ -23,7 +23,11 @@ fn value_at(group: &[Listed], place: usize) -> i64
     ensures value { result ≡ spec.value_at (values (entries_of group.now)) place }
     ensures size { unsigned_abs result ≤ LIMIT }
 {
-    if place < group.len() { group[place].value } else { 0 }
+    if place < group.len() {
+        group[place].value
+    } else {
+        0
+    }
 }
 
 // 10,000 times the point that lies so many 10,000ths of a place above the least value.
