@@ -128,7 +128,6 @@ class Fundamentals(DataSet):
                 "RollingSpearman",
                 "RollingPearsonOfReturns",
                 "RollingLinearRegressionOfReturns",
-                "EWMSTD",
                 "BusinessDaysUntilNextEvent",
                 "MaxDrawdown",
             )
