@@ -123,10 +123,7 @@ class Fundamentals(DataSet):
                 Inexpressible,
                 f"the language has no {name}; nearest: ",
             )
-            for name in (
-                "EWMSTD",
-                "BusinessDaysUntilNextEvent",
-            )
+            for name in ("BusinessDaysUntilNextEvent",)
         ),
         *(
             (lambda name=name: getattr(filters, name)(), Inexpressible, f"the language has no {name}; nearest: ")

@@ -199,6 +199,32 @@ MaxDrawdown = windowed(
     "where n is 0 or v is",
     "1, as 0.25 where the peak is 1.25 times the value",
 )
+_LINE: dict[str, Any] = {"source": "ours, as numpy's polyfit of the present values at their places 1 to W"}
+WindowSlope = windowed(
+    "WindowSlope",
+    "slope of the line of least squares through the points (k, x_k) whose x_k are present; missing where n < 2",
+    "those of the input, a session",
+    **_LINE,
+)
+WindowResidual = windowed(
+    "WindowResidual", "x_W less the line of `WindowSlope` at W; missing where x_W is or n < 2", **_LINE
+)
+WindowRSquared = windowed(
+    "WindowRSquared",
+    "square of the correlation of k and the present x_k; missing where n < 2 or all of them are equal",
+    "1, from 0 to 1",
+    **_LINE,
+)
+_MOMENTS: dict[str, Any] = {"source": "ours, as scipy's, over n"}
+WindowSkewness = windowed(
+    "WindowSkewness",
+    "m3 / m2^1.5, m_j the mean of (x_k - mean)^j over the present x_k; missing where all of them are equal",
+    "1",
+    **_MOMENTS,
+)
+WindowKurtosis = windowed(
+    "WindowKurtosis", "m4 / m2^2 - 3, of the moments of `WindowSkewness`; likewise", "1, 0 for a normal one", **_MOMENTS
+)
 Returns = windowed(
     "Returns", "(x_W - x_1) / x_1; missing where either is", "1, as 0.05 for 5 percent", inputs=(_CLOSE,)
 )
@@ -263,8 +289,9 @@ class VWAP(Windowed):
 class ExponentialWeightedMovingAverage(Windowed):
     """sum of w_k x_k / sum of w_k, w_W = 1 and w_(k-1) = w_k decay_rate; missing where any value is
 
-    Units: those of the input. Source: Zipline. Rounding: of `decay_rate` and of each weight to millionths, then once:
-    by about 10^-7 of the value from a float.
+    Units: those of the input. Source: Zipline. Rounding: of `decay_rate` and of each weight to millionths, then once.
+    A small weight stops fading at 0.5 / (1 - decay_rate) millionths: at 0.94 by up to 2 10^-5 of the value from a
+    float over 252 sessions, 10^-3 over 1,260. `EWMA` has finer weights.
 
     >>> ExponentialWeightedMovingAverage.from_span([EquityPricing.close], window_length=30, span=15)
     ExponentialWeightedMovingAverage(close, 30, 0.875)
@@ -286,6 +313,33 @@ class ExponentialWeightedMovingAverage(Windowed):
     def from_center_of_mass(cls, inputs: Inputs, window_length: int, center_of_mass: float, mask: Mask = None) -> Any:
         """With `decay_rate` 1 - 1 / (1 + center_of_mass)."""
         return cls(inputs, window_length=window_length, decay_rate=1 - 1 / (1 + center_of_mass), mask=mask)
+
+
+class ExponentialWeightedMovingMean(ExponentialWeightedMovingAverage):
+    """`ExponentialWeightedMovingAverage` with weights that go on fading; this is `EWMA`
+
+    Units: those of the input. Source: Zipline. Rounding: of `decay_rate` to millionths, of each weight to 10^-12, then
+    once: by 10^-10 of the value and half a millionth from a float at that rate.
+
+    >>> EWMA.from_span([EquityPricing.close], window_length=30, span=15)
+    ExponentialWeightedMovingMean(close, 30, 0.875)
+    """
+
+    function = "ExponentialWeightedMovingMean"
+
+
+class ExponentialWeightedMovingStdDev(ExponentialWeightedMovingAverage):
+    """sqrt(V sum of w_k (x_k - m)^2 / (V^2 - sum of w_k^2)), w_k and m those of `EWMA` and V the sum of w_k; missing
+    where any value is
+
+    Units: those of the input. Source: Zipline. Rounding: of `decay_rate` to millionths, of each weight to 10^-12, then
+    once: by a millionth from a float at that rate, and by 2 10^-6 of the value at rates of 0.5 and below.
+
+    >>> EWMSTD.from_halflife([EquityPricing.close], window_length=30, halflife=15)
+    ExponentialWeightedMovingStdDev(close, 30, 0.954842)
+    """
+
+    function = "ExponentialWeightedMovingStdDev"
 
 
 class Bands(NamedTuple):
@@ -470,7 +524,8 @@ class MovingAverageConvergenceDivergenceSignal(Windowed):
         return reduce(Factor.__add__, sums) / 10_000
 
 
-EWMA, MACDSignal = ExponentialWeightedMovingAverage, MovingAverageConvergenceDivergenceSignal
+EWMA, EWMSTD = ExponentialWeightedMovingMean, ExponentialWeightedMovingStdDev
+MACDSignal = MovingAverageConvergenceDivergenceSignal
 
 
 def Latest(inputs: Sequence[BoundColumn]) -> Factor:
@@ -539,9 +594,6 @@ def RollingLinearRegressionOfReturns(
     return returns.linear_regression(returns[target], regression_length, mask)
 
 
-EWMSTD, ExponentialWeightedMovingStdDev = Absent.each(
-    "EWMSTD ExponentialWeightedMovingStdDev", "WindowStd, with equal weights"
-)
 BusinessDaysSincePreviousEvent, BusinessDaysUntilNextEvent = Absent.each(
     "BusinessDaysSincePreviousEvent BusinessDaysUntilNextEvent", "a label that changes on the day of the event"
 )
