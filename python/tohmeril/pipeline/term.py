@@ -611,7 +611,7 @@ class Bins(Classifier):
         return joined_by_or(lambda one: self.eq(one[0]), choices, 1)
 
 
-KEEPING = {"rank", "zscore", "peer_count", "sign"}  # what keeps its values in a window, whatever it is of
+KEEPING = {"rank", "zscore", "peer_count", "sign", "scale", "notnull_count"}  # what keeps its values in a window, whatever it is of
 
 
 def unsafe_part(term: Term) -> Optional[Term]:
