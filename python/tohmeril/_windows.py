@@ -146,7 +146,7 @@ class Windows:
 
     def __init__(self, out: IO[bytes], length: int, sids: Array):
         self.lines, self.length, self.sids = read_lines(out), length, sids
-        self.cells = np.full((2 * length + 64, len(sids)), np.nan)
+        self.cells = np.full((length + max(length // 4, 64), len(sids)), np.nan)
         self.next = 0  # the row of the next session's newest cell
         self.known = sids[:0], np.zeros(0, int)  # the sids that were seen last, and their columns
 

@@ -702,7 +702,7 @@ class Bins(Classifier):
         return joined_by_or(lambda one: self.eq(one[0]), choices, 1)
 
 
-KEEPING = {"rank", "zscore", "peer_count", "sign"}  # what keeps its values in a window, whatever it is of
+KEEPING = {"rank", "zscore", "peer_count", "sign", "scale", "notnull_count"}  # values that no adjustment changes
 
 
 def unsafe_part(term: Term) -> Optional[Term]:
@@ -726,8 +726,8 @@ def require_window_safe(name: str, term: object) -> None:
     if unsafe is not None:
         raise NonWindowSafeInput(
             f"{name} can't have a window over {term!r}, since {unsafe!r} is not window-safe: a value of it may depend "
-            "on adjustments that come between. Give its rank() or zscore(), or let its class say window_safe = True where "
-            "no split or dividend changes it, as with a ratio of two prices of its window"
+            "on adjustments that come between. Give its rank() or zscore(), or let its class say window_safe = True "
+            "where no split or dividend changes it, as with a ratio of two prices of its window"
         )
 
 
