@@ -400,7 +400,7 @@ def SimpleBeta(target: object, regression_length: int, allowed_missing_percentag
 
 def RollingPearsonOfReturns(target: object, returns_length: int, correlation_length: int, mask: Mask = None) -> Factor:
     """`pearsonr` of an asset's returns over `returns_length` sessions with those of one asset, `target`."""
-    returns = Returns(window_length=returns_length)
+    returns: Factor = Returns(window_length=returns_length)
     return returns.pearsonr(returns[target], correlation_length, mask)
 
 
@@ -408,7 +408,7 @@ def RollingLinearRegressionOfReturns(
     target: object, returns_length: int, regression_length: int, mask: Mask = None
 ) -> Any:
     """`linear_regression` of an asset's returns over `returns_length` sessions on those of one asset, `target`."""
-    returns = Returns(window_length=returns_length)
+    returns: Factor = Returns(window_length=returns_length)
     return returns.linear_regression(returns[target], regression_length, mask)
 
 
