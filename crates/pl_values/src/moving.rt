@@ -31,6 +31,12 @@ pub fn keeps_values(kind: &TermKind) -> bool
         | TermKind::RegressionSlope
         | TermKind::RegressionIntercept
         | TermKind::RegressionError
+        | TermKind::WindowPercentile { .. }
+        | TermKind::WindowFirst
+        | TermKind::WindowSlope
+        | TermKind::WindowResidual
+        | TermKind::ExponentialWeightedMovingMean { .. }
+        | TermKind::ExponentialWeightedMovingStdDev { .. }
         | TermKind::Add
         | TermKind::Sub
         | TermKind::Mul
@@ -40,6 +46,7 @@ pub fn keeps_values(kind: &TermKind) -> bool
         | TermKind::Clip { .. }
         | TermKind::FillNa
         | TermKind::IfElse
+        | TermKind::Where
         | TermKind::Log
         | TermKind::Exp
         | TermKind::Sqrt
