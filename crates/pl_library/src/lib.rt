@@ -16,8 +16,9 @@ pub mod numbers {
 /// Files, tables of adjustments and output, as a program sees them, and such parts in memory.
 pub mod outside {
     pub use pl_outside::{
-        AdjustKeeper, Failed, KeepError, Memory, MemoryKeeper, MemoryShelf, MemorySink, NoKeeper,
-        NullSink, RawAdjust, ReadError, Shelf, Sink, Table, read_file, write_bytes,
+        AdjustKeeper, Failed, GivenLog, KeepError, LoadedLog, Memory, MemoryKeeper, MemoryShelf,
+        MemorySink, NoKeeper, NullSink, RawAdjust, ReadError, Shelf, Sink, Table, TakenLog,
+        read_file, write_bytes,
     };
 }
 
