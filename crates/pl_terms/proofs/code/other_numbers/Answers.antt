@@ -55,6 +55,10 @@ windowed c (kind.StartsWith x) e w = c.in_default.not-StartsWith x e
 windowed c (kind.EndsWith x) e w = c.in_default.not-EndsWith x e
 windowed c (kind.ElementOf x) e w = c.in_default.not-ElementOf x e
 windowed c (kind.Downsample x) e w = c.in_default.not-Downsample x e
+windowed c kind.Where e w = c.in_default.not-Where e
+windowed c (kind.Winsorize x y) e w = c.in_default.not-Winsorize x y e
+windowed c kind.Scale e w = c.in_default.not-Scale e
+windowed c (kind.Summarize x) e w = c.in_default.not-Summarize x e
 windowed c (kind.LabelIs l) e w = c.in_default.not-LabelIs l e
 windowed c (kind.LabelIsNot l) e w = c.in_default.not-LabelIsNot l e
 windowed c k e w = let bad : true ≡ false = ap is_some w in cc
