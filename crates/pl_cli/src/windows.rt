@@ -69,8 +69,9 @@ fn write_loaded<O: Sink, L: Ledger>(
     ensures memory { IsErrOf result Fault.Memory → out.new ≡ out.old }
 {
     let mut steps = Steps::<L>::new(blank);
+    let world = loaded.world.world();
     let asked = Asked {
-        world: loaded.world.world(),
+        world,
         column,
         window: window as usize,
         from: loaded.from,

@@ -1,7 +1,7 @@
 -- The faults of a range.
-use Rattle.std.proofs.Common.{◌≡◌, inl, inr, ℕ, ◌<◌, ◌≤◌, true, false, Option, get_or, ℤ, pos, ◌≤ℤ◌, ◌<ℤ◌, List, Some, None, refl, ◌∙◌, ap, arith}
+use Rattle.std.proofs.Common.{◌≡◌, inl, inr, ℕ, zero, suc, unsigned_abs, neg_ℤ, ◌-◌, ◌^◌, ◌<◌, ◌≤◌, ◌-ℤ◌, FitsSigned, to_z, of_z, w64, true, false, Option, get_or, ℤ, pos, ◌≤ℤ◌, ◌<ℤ◌, List, Some, None, refl, ◌∙◌, ap, arith}
 use Rattle.std.specs.Int.RustNames.{int_lt}
-use Rattle.std.proofs.lemmas.Int.{ints}
+use Rattle.std.proofs.lemmas.Int.{ints, fits_signed_from_abs, to_z-of_z, to_z_pos}
 use Rattle.std.specs.Ordering.{int_eq}
 use Rattle.std.proofs.lemmas.Bool.Decides.{nat_tests}
 use Rattle.std.proofs.lemmas.List.Quantifiers.{position-Some}
@@ -78,6 +78,21 @@ early z h = grind (arith, ints, nat_tests)
 pub too-soon : (size from : ℕ) (reach : ℤ) → from < size → reach ≡ before (pos from) size → first_fault (first_window_steps size from) ≡ Some (TooEarly reach)
 unfolding first_window_steps
 too-soon size from reach h is = let e = early (before (pos from) size) (omega (arith, ints, h)) in rw (is, e) refl
+
+abs-neg : (n : ℕ) → unsigned_abs (neg_ℤ (pos n)) ≡ n
+abs-neg zero = refl
+abs-neg (suc n) = refl
+
+abs-of : (n : ℕ) → unsigned_abs (pos 0 -ℤ pos n) ≡ n
+abs-of n = let e : pos 0 -ℤ pos n ≡ neg_ℤ (pos n) = omega (arith, ints) in ap unsigned_abs e ∙ abs-neg n
+
+-- the reach as the code has it
+pub reach-is : (size from : ℕ) → from < size → size < 2 ^ 32 → to_z w64 (of_z w64 (pos 0 -ℤ to_z w64 (size - from))) ≡ before (pos from) size
+reach-is size from h few =
+    let n = size - from in
+    let small : to_z w64 n ≡ pos n = to_z_pos w64 n (omega (arith, few)) in
+    let fits : FitsSigned w64 (pos 0 -ℤ pos n) = fits_signed_from_abs w64 (pos 0 -ℤ pos n) (omega (arith, few, abs-of n)) in
+    rw (small, to_z-of_z w64 (pos 0 -ℤ pos n) fits) (omega (arith, ints, h))
 
 pub soon-enough : (size from : ℕ) → size ≤ from → first_fault (first_window_steps size from) ≡ None
 unfolding first_window_steps

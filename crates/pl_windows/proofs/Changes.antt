@@ -5,8 +5,8 @@ use Rattle.std.proofs.lemmas.Bool.Decides.{nat_tests}
 use Rattle.std.proofs.lemmas.Option.{slice_get-get_or}
 use Rattle.std.specs.Prelude.{get_or}
 use Rattle.pl_spec.specs.Parts.{sid_at}
-use Rattle.pl_spec.specs.Window.{before, is_between}
-use Rattle.pl_spec.specs.World.{Event, day_of, events_of}
+use Rattle.pl_spec.specs.Window.{is_between}
+use Rattle.pl_spec.specs.World.{day_of, events_of}
 use Rattle.pl_spec.proofs.Columns.{no_asset, sid-there}
 use Rattle.pl_spec.proofs.Windows.{before-pos}
 use Rattle.pl_adjust.specs.Columns.{events_at}

@@ -1,11 +1,11 @@
 -- A divided range.
-use Rattle.std.proofs.Common.{◌≡◌, ℕ, zero, suc, ◌+◌, ◌-◌, ◌<◌, ◌≤◌, ◌==◌, Bool, true, false, ◌||◌, if◌then◌else◌, ℤ, pos, List, [], ◌∷◌, ◌++◌, map, refl, sym, ap, ◌∙◌, arith, append_assoc}
+use Rattle.std.proofs.Common.{◌≡◌, ℕ, zero, suc, ◌+◌, ◌-◌, ◌<◌, ◌==◌, Bool, true, false, if◌then◌else◌, pos, List, [], ◌∷◌, ◌++◌, map, refl, sym, ap, ◌∙◌, arith, append_assoc}
 use Rattle.std.proofs.lemmas.Bool.Decides.{nat_tests}
 use Rattle.pl_spec.specs.declared.Column.{Column}
 use Rattle.pl_spec.specs.Window.{bar_window}
 use Rattle.pl_spec.specs.World.{World, living_sids}
-use Rattle.pl_windows.specs.Windows.{WindowRow, is_anew, is_whole, rows_on, session_rows, told, window_row, window_rows}
-use Rattle.pl_windows.specs.Laws.{IsDivided, RangesDivide, whole_row}
+use Rattle.pl_windows.specs.Windows.{is_anew, is_whole, rows_on, session_rows, window_row, window_rows}
+use Rattle.pl_windows.specs.Laws.{RangesDivide, whole_row}
 use Rattle.pl_windows.proofs.SessionLines.{rows-add}
 
 map-same : {X Y : Type 0} (f g : X → Y) (xs : List X) → ((x : X) → f x ≡ g x) → map f xs ≡ map g xs

@@ -1,5 +1,5 @@
 -- A text in two pieces.
-use Rattle.std.proofs.Common.{◌≡◌, ◌++◌, ℕ, List, [], Option, Bool, Result, Ok, Err, sym}
+use Rattle.std.proofs.Common.{◌++◌, ℕ, List, [], Option, Bool, Result, Ok, Err, sym}
 use Rattle.std.proofs.lemmas.List.{append-nil}
 use Rattle.pl_outside.specs.Taken.{Writes}
 use Rattle.pl_outside.proofs.Pieces.{writing-start, writing-more, writing-end, writing-over, writing-stop}

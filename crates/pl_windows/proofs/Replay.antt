@@ -12,12 +12,12 @@ use Rattle.std.proofs.lemmas.Grind.{flat_map-append}
 use Rattle.pl_spec.specs.declared.AssetRow.{AssetRow}
 use Rattle.pl_spec.specs.declared.Column.{Column}
 use Rattle.pl_spec.specs.Rounding.{MISSING}
-use Rattle.pl_spec.specs.Window.{after_all, bar_window, before, downward, effect, effects_from, is_between, seen_cell}
-use Rattle.pl_spec.specs.World.{World, IsWorld, Event, day_of, events_of, exists, lives_on, living_sids}
+use Rattle.pl_spec.specs.Window.{after_all, bar_window, before, downward, effect, is_between, seen_cell}
+use Rattle.pl_spec.specs.World.{World, IsWorld, day_of, events_of, exists, lives_on, living_sids}
 use Rattle.pl_spec.proofs.Columns.{no_asset}
 use Rattle.pl_spec.proofs.Lists.{filter-map}
 use Rattle.pl_spec.proofs.Ranges.{range-snoc}
-use Rattle.pl_spec.proofs.Windows.{before-pos, length-downward, map-downward, no-effects}
+use Rattle.pl_spec.proofs.Windows.{length-downward, map-downward, no-effects}
 use Rattle.pl_adjarray.proofs.Slides.{moved_is_seen}
 use Rattle.pl_windows.specs.Windows.{WindowRow, has_between, is_changed, is_whole, rows_on, session_rows, told, window_row}
 use Rattle.pl_windows.specs.Laws.{RowsReplayToWindows, held_after, replayed, rows_of}

@@ -1,4 +1,4 @@
-use Rattle.std.proofs.Common.{rules, ◌≡◌, ◌≤◌, ◌∙◌, ◌==◌, ap, sym, not, length, map, pos, arith, FitsSigned, w32, ℕ}
+use Rattle.std.proofs.Common.{rules, ◌≤◌, ◌∙◌, ◌==◌, ap, sym, not, length, arith, FitsSigned, w32, ℕ}
 use Rattle.std.proofs.lemmas.Int.{to_z-of_z}
 use Rattle.std.proofs.lemmas.List.{length-map}
 use Rattle.pl_adjust.specs.Events.{event_of}

@@ -1,4 +1,4 @@
-use Rattle.std.proofs.Common.{rules, ◌≡◌, ◌++◌, ◌∷◌, ◌∙◌, [], ℕ, List, ap, sym, drop, get_or, pos, append_assoc, FitsSigned, w64, ℤ, ◌-◌, ◌≤◌, length, length-drop, arith}
+use Rattle.std.proofs.Common.{rules, ◌++◌, ◌∷◌, ◌∙◌, [], ℕ, List, ap, sym, drop, get_or, pos, append_assoc, FitsSigned, w64, ℤ, ◌-◌, length, length-drop, arith}
 use Rattle.std.proofs.lemmas.Int.{to_z-of_z}
 use Rattle.std.proofs.lemmas.List.{take_all}
 use Rattle.pl_outside.proofs.Pieces.{writes-over}

@@ -1,4 +1,4 @@
-use Rattle.std.proofs.Common.{◌≤◌, ◌+◌, ◌-◌, ◌++◌}
+use Rattle.std.proofs.Common.{◌≤◌, ◌+◌, ◌-◌}
 use Rattle.pl_outside.proofs.Pieces.{Writing}
 use Rattle.pl_windows.specs.Ranges.{asked_lines, asked_text}
 use Rattle.pl_windows.proofs.run.write_all.Given as goal

@@ -1,4 +1,4 @@
-use Rattle.std.proofs.Common.{◌≡◌, ◌≤◌, ◌-◌, ◌∙◌, ℕ, ap, length, pos, List, ℤ, drop, arith, length-drop}
+use Rattle.std.proofs.Common.{◌≡◌, ◌-◌, ◌∙◌, ℕ, ap, length, pos, List, ℤ, drop, arith, length-drop}
 use Rattle.pl_outside.proofs.Pieces.{writes-over}
 use Rattle.pl_spec.specs.Parts.{sid_at}
 use Rattle.pl_windows.specs.Ranges.{asked_world}

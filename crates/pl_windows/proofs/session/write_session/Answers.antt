@@ -1,4 +1,4 @@
-use Rattle.std.proofs.Common.{◌≤◌, ◌+◌, ◌∙◌, ap, length, drop, arith}
+use Rattle.std.proofs.Common.{◌+◌, length, drop, arith}
 use Rattle.std.proofs.lemmas.Result.{err_from_is_err_and}
 use Rattle.pl_outside.proofs.Pieces.{writing-more, writing-end, writing-stop, writing-over, writes-over}
 use Rattle.pl_spec.specs.Parts.{sid_at}

@@ -1,6 +1,5 @@
 use Rattle.std.proofs.Common.{drop}
 use Rattle.pl_outside.proofs.Pieces.{Writing}
-use Rattle.pl_windows.specs.Ranges.{asked_lines}
 use Rattle.pl_windows.proofs.SessionLines.{asked_sids, lines_of}
 use Rattle.pl_windows.proofs.session.write_session.Given as goal
 
