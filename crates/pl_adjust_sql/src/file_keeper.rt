@@ -28,9 +28,9 @@ struct Copied {
     connection: Connection<FileStore<Memory>>,
 }
 
-/// Database files of SQLite by their paths. The first load of a name reads the named file, and all further
-/// ones read the same copy, so that the tables are of one state. What the file holds no contract sees; what was
-/// loaded, the log has.
+/// Database files of SQLite by their paths. The first load of a name reads the named file, and the next ones
+/// of that name read the same copy, so that the tables are of one state. What the file holds no contract
+/// sees; what was loaded, the log has.
 #[derive(Drop)]
 pub struct FileKeeper<'a> {
     rt: &'a HostRuntime,
@@ -166,7 +166,8 @@ fn open_copy(
 ) -> Result<Connection<FileStore<Memory>>, TableError>
     requires log { IsTrue (memory_is_usable files.log) }
     requires db { IsTrue (memory_is_usable files.db) }
-    ensures found { IfOk result (λ connection. HasCleanDisk (file_state connection) → Finds files connection) }
+    ensures found { IfOk result (λ connection. HasCleanDisk (file_state connection)
+        → Finds files connection) }
 {
     match Connection::open_files(alloc, files, Options::new(1)) {
         Ok(connection) => Ok(connection),

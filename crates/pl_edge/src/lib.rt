@@ -1,8 +1,8 @@
 //! The adapters to the outside: files, standard output and standard error, and what the program does around
 //! its run.
 //!
-//! What a file holds and what a stream shows, no clause can say: that step is trusted. What was given and taken
-//! is in their logs.
+//! What a file holds and what a stream shows, no clause can say: that step is trusted. What was given and
+//! taken is in their logs.
 #![tactic(auto)]
 
 mod command_line;

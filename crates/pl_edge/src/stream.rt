@@ -9,8 +9,8 @@ use crate::faults::failed;
 use pl_outside::{Failed, Sink, TakenLog};
 use std::io::{BufWriter, Write};
 
-/// A writer of the system as a sink. It tells the bytes that it took since it was made. What its writer holds,
-/// where that is known, grows by exactly the same.
+/// A writer of the system as a sink. It tells the bytes that it took since it was made. What its writer
+/// holds, where that is known, grows by exactly the same.
 #[derive(Drop)]
 pub struct Stream<W: Write + Drop> {
     to: W,

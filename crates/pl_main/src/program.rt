@@ -37,8 +37,8 @@ pub const GATHERED: usize = 65_536;
 /// - 2 with the line `usage` where a word is no text in UTF-8, and 10 with the line `memory` where there is
 ///   no memory for the words or for what `out` gathers: then nothing was run.
 ///
-/// What was run took exactly the bytes of its text with status 0, and with another none but a prefix of it. With
-/// status 0 nothing is left in what `out` gathers.
+/// Of a run with status 0 `out` took exactly the text, and of another nothing but a prefix of it. With status
+/// 0 nothing is left in what `out` gathers.
 pub fn program<L: Ledger, W: Write + Drop, E: Sink>(
     rt: &HostRuntime,
     args: io::Result<Args>,

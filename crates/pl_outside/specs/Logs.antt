@@ -13,14 +13,15 @@ pub record Given : Type 0 where
 abbrev pub begins : List Given → List ℕ → List Given
 begins files name = record { name = name; bytes = []; ended = false } ∷ files
 
--- More bytes of the file that was begun last are given, or its end is seen. Where no file was begun, they are of none.
+-- More bytes of the file that was begun last are given, or its end is seen. Where no file was begun, they are
+-- of none.
 abbrev pub gives : List Given → List ℕ → Bool → List Given
 gives [] bytes ended = []
 gives (file ∷ files) bytes ended =
     record { name = file.name; bytes = file.bytes ++ bytes; ended = file.ended || ended } ∷ files
 
--- A call of `next` gave so many bytes at the front of the buffer, and none for a nonempty one is the end. A call
--- that failed gave nothing.
+-- A call of `next` gave so many bytes at the front of the buffer, and none for a nonempty one is the end. A
+-- call that failed gave nothing.
 abbrev pub GivesIn : {E : Type 0} → List Given → List Given → List ℕ → Result ℕ E → Type 0
 GivesIn old new buffer (Ok n) = new ≡ gives old (take n buffer) (n == 0 && nat_lt 0 (length buffer))
 GivesIn old new buffer (Err e) = new ≡ old

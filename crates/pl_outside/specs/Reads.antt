@@ -10,8 +10,8 @@ abbrev pub IsReadWhole : ℕ → Option (List ℕ) → Result (Vec ℕ Global) R
 IsReadWhole cap file result =
     IsSomeAnd file (λ bytes. MatchBool (nat_le (length bytes) cap) (IsOkAnd result (λ read. read.items ≡ bytes)) (result ≡ Err TooLong))
 
--- One file more was given, of this name. The read answers its bytes exactly where its end was seen; it is too long
--- where `cap + 1` bytes of it were given.
+-- One file more was given, of this name. The read answers its bytes exactly where its end was seen; it is too
+-- long where `cap + 1` bytes of it were given.
 pub record IsGiven (cap : ℕ) (old new : List Given) (name : List ℕ) (result : Result (Vec ℕ Global) ReadError) : Type 0 where
   pub file : Given
   pub added : new ≡ file ∷ old

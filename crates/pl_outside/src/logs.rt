@@ -1,8 +1,8 @@
 //! What was given, loaded and taken, as clauses alone read it: a log has no bytes, and its methods do nothing
 //! at run time.
 //!
-//! A log says what its owner tells it. So each method of the traits has a clause that ties the log to what the
-//! call answered, and a caller that sees an object through its trait changes the log by those calls alone.
+//! A log says what its owner tells it. So each method of the traits has a clause that ties the log to what
+//! the call answered, and a caller that sees an object through its trait changes the log by those calls alone.
 
 ghost use Rattle.std.specs.Prelude.{◌≡◌, ◌++◌, ◌∷◌, ℕ, List, []};
 ghost use Rattle.std.specs.Borrow.{ftrue};
