@@ -2,7 +2,7 @@
 ghost use Rattle.std.specs.Prelude.{◌≡◌, ◌≤◌, ◌<◌, ◌+◌, ◌-◌, ◌*◌, ◌/◌, ◌*ℤ◌, pos, All, length, unsigned_abs};
 ghost use Rattle.pl_spec.specs.Limits.{most_assets};
 ghost use Rattle.pl_spec.specs.Rounding.{LIMIT, MILLION};
-ghost use Rattle.pl_pipeline.specs.Cross as spec;
+ghost use Rattle.pl_pipeline.specs.Order as spec;
 ghost use Rattle.pl_pipeline.specs.Cross.{values};
 ghost use Rattle.pl_pipeline.specs.Kind.CrossKind.{Winsorize};
 ghost use Rattle.pl_cross.specs.Listing.{entries_of, IsGroup, HasCell, AreAnswers};
