@@ -13,8 +13,8 @@ use Rattle.pl_world.specs.Worlds.{owned_world}
 use Rattle.pl_cli.specs.Commands.{loaded_windows}
 use Rattle.pl_cli.specs.Texts.{text_of}
 
-same-windows : (v w : World) (column : Column) (size a b from to : ℕ) → v ≡ w → a ≡ from → b ≡ to → windows_text w column size from to ≡ windows_text v column size a b
-same-windows v w column size a b from to e f t = rw (e, f, t) refl
+same-windows : (v w : World) (bar : Column) (size a b from to : ℕ) → v ≡ w → a ≡ from → b ≡ to → windows_text w bar size from to ≡ windows_text v bar size a b
+same-windows v w bar size a b from to e f t = rw (e, f, t) refl
 
 pub windows-text : (held : Contents) (q : WindowsRequest) (l : LoadedWindows) → AreWindowsHeld held q l → loaded_windows l q.column q.window ≡ text_of held (Some (Windows q))
 unfolding text_of
