@@ -37,8 +37,8 @@ use Rattle.pl_pieces.specs.Tables.{IsTableOf}
 
 -- ---- texts that are read again
 
--- The readers over the texts of a world that files can hold give its parts: the same sessions and assets, bars
--- and labels in the same order, the numbers in some order. Whoever loads a table of its text has the
+-- The readers over the texts of a world that files can hold give its parts: the same sessions and assets,
+-- bars and labels in the same order, the numbers in some order. Whoever loads a table of its text has the
 -- adjustments of that kind. The revisions are its own, where no reader refuses them. Put together by day, the
 -- rows act on each asset as the adjustments of the world do.
 pub record TextsReadBack (w : World) : Type 0 where
@@ -58,7 +58,8 @@ pub record TextsReadBack (w : World) : Type 0 where
       → revisions_of w.days w.assets (csv_records (revisions_text w)) ≡ Ok rows
       → map revised rows ≡ rows_in Revision w
   pub acting : (a : ℕ) → map (λ x. x.event) (filter (λ x. x.sid == a)
-      (by_day (rows_in Split w ++ rows_in Merger w ++ rows_in Dividend w ++ rows_in Revision w))) ≡ events_of w a
+      (by_day (rows_in Split w ++ rows_in Merger w ++ rows_in Dividend w ++ rows_in Revision w)))
+      ≡ events_of w a
 
 abbrev pub PartsReadBack : Type 0
 PartsReadBack = (w : World) → IsWorld w → FilesCanHold w → TextsReadBack w
@@ -113,8 +114,8 @@ pub record IsPieceOf (held piece : Contents) (q : RunRequest) : Type 0 where
   pub revisions : ForSome q.world.revisions (λ name.
       piece.file files.Revisions ≡ Some (part_of held q parts.Revisions))
 
--- A run over the files that the command cut writes prints the bytes that the run over the whole prints for the
--- range, by `run` and by `daily`, in both formats and for all sizes of chunks, where neither has a fault.
+-- A run over the files that the command cut writes prints the bytes that the run over the whole prints for
+-- the range, by `run` and by `daily`, in both formats and for all sizes of chunks, where neither has a fault.
 abbrev pub CutFilesHaveTheRows : Type 0
 CutFilesHaveTheRows = (held piece : Contents) (a b : Request) (q r : RunRequest)
     → AsksTable a q → AsksTable b r → AskSame q r → q.options.as_of ≡ None → IsChecked (pipeline_held held)
@@ -124,7 +125,8 @@ CutFilesHaveTheRows = (held piece : Contents) (a b : Request) (q r : RunRequest)
 -- What comes later changes no byte of a run over the files of a cut either: where the contents that are cut
 -- agree up to a session, the tables up to it over their pieces are the same bytes.
 abbrev pub LaterDataChangeNoPiece : Type 0
-LaterDataChangeNoPiece = (one other piece piece' : Contents) (a b x y : Request) (q r : RunRequest) (d : ℕ) (day : ℤ)
+LaterDataChangeNoPiece = (one other piece piece' : Contents) (a b x y : Request) (q r : RunRequest)
+    → (d : ℕ) (day : ℤ)
     → AsksTable a q → AsksTable b r → AsksTable x q → AsksTable y r → AskAlike q r day
     → q.options.as_of ≡ None → r.options.as_of ≡ None → IsChecked (pipeline_held one)
     → AgreeUpTo one other q.world r.world d day → IsPieceOf one piece q → IsPieceOf other piece' r

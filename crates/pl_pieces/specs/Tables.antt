@@ -52,7 +52,8 @@ table_header = codes "id" ∷ codes "effective_date" ∷ codes "num" ∷ codes "
 -- a row as five whole numbers
 abbrev pub table_record : RawAdjust → Record
 table_record r =
-    signed_decimal r.id ∷ signed_decimal r.effective ∷ signed_decimal r.num ∷ signed_decimal r.den ∷ signed_decimal r.sid ∷ []
+    signed_decimal r.id ∷ signed_decimal r.effective ∷ signed_decimal r.num ∷ signed_decimal r.den
+    ∷ signed_decimal r.sid ∷ []
 
 -- whole numbers, as a database has them
 pub record IsWhole (r : RawAdjust) : Type 0 where
@@ -71,7 +72,8 @@ pub record IsTableOf (text : List ℕ) (rows : List RawAdjust) : Type 0 where
 
 -- a ratio of parts from 1 to 10^9; a revision of the bar of an earlier session
 abbrev pub IsChangeIn : List ℤ → ℤ → AdjustmentKind → Change → Type 0
-IsChangeIn days day Revision (Overwrite bar_day _ value) = Contains days bar_day × (bar_day <ℤ day) × IsTrue (is_bar_cell value)
+IsChangeIn days day Revision (Overwrite bar_day _ value) =
+    Contains days bar_day × (bar_day <ℤ day) × IsTrue (is_bar_cell value)
 IsChangeIn days day Revision (Scale f) = ⊥
 IsChangeIn days day kind (Scale f) = IsTrue (is_part (pos f.num)) × IsTrue (is_part (pos f.den))
 IsChangeIn days day kind (Overwrite _ _ _) = ⊥
@@ -90,7 +92,8 @@ of_kind kind e = is_kind kind e.kind
 abbrev pub KindsInOrder : List Event → Type 0
 KindsInOrder es = (day : ℤ) → filter (on_day day) es
     ≡ filter (of_kind Split) (filter (on_day day) es) ++ filter (of_kind Merger) (filter (on_day day) es)
-    ++ filter (of_kind Dividend) (filter (on_day day) es) ++ filter (of_kind Revision) (filter (on_day day) es)
+    ++ filter (of_kind Dividend) (filter (on_day day) es)
+    ++ filter (of_kind Revision) (filter (on_day day) es)
 
 pub record AreAdjustmentsOf (w : World) : Type 0 where
   pub known : (a : ℕ) → events_of w a ≢ [] → IsSidOf w.assets a

@@ -17,8 +17,8 @@ pub fn commands_cover_the_range()
     ensures { CommandsCoverTheRange }
 {}
 
-/// A run over the files that the command cut writes prints the bytes that the run over the whole prints for the
-/// range.
+/// A run over the files that the command cut writes prints the bytes that the run over the whole prints for
+/// the range.
 pub fn cut_files_have_the_rows()
     ensures { CutFilesHaveTheRows }
 {}
