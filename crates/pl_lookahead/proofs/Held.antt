@@ -119,13 +119,13 @@ module _ (held : Contents) (q : WorldNames) (read : AreRead held q) where
   abbrev pub told_tables : List Adjustment
   told_tables = of_tables assets q.adjustments held.rows
 
-  abbrev told : List Adjustment
+  abbrev pub told : List Adjustment
   told = told_tables ++ map revised (revisions_held held q)
 
   pub days-are : AreDays days
   days-are = AreDays-read (records_in (held.file Sessions)) days read.days
 
-  assets-are : AreAssets assets
+  pub assets-are : AreAssets assets
   assets-are = AreAssets-read (records_in (held.file Assets)) assets read.assets
 
   parts-are : AreParts days assets labels.rows (bars_held held)
@@ -143,12 +143,12 @@ module _ (held : Contents) (q : WorldNames) (read : AreRead held q) where
   pub apart : Apart days assets (revisions_held held q)
   apart = revisions-apart assets days days-are assets-are q.revisions (held.file Revisions) read.revisions
 
-  told-known : All (Known assets) told
+  pub told-known : All (Known assets) told
   told-known =
       All-append (Known assets) told_tables (map revised (revisions_held held q)) (tables-known assets q.adjustments held.rows)
       (revised_known assets (revisions_held held q) (revisions-known assets days days-are assets-are q.revisions (held.file Revisions) read.revisions))
 
-  is-placed : adjustments_held held q ≡ placed assets told
+  pub is-placed : adjustments_held held q ≡ placed assets told
   is-placed =
       ap (λ xs. revised_asked days assets xs q.revisions (held.file Revisions)) (tables-placed assets q.adjustments held.rows read.tables)
       ∙ revised-is assets days told_tables q.revisions (held.file Revisions)

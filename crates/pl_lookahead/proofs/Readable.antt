@@ -31,7 +31,7 @@ use Rattle.pl_load.specs.Work.{file_fault, fault_in, fault_of_rows, sessions_rul
 
 -- ---- steps without a fault
 
-or-none : {A : Type 0} (o p : Option A) → option_or o p ≡ None → (o ≡ None) × (p ≡ None)
+pub or-none : {A : Type 0} (o p : Option A) → option_or o p ≡ None → (o ≡ None) × (p ≡ None)
 or-none None p h = (refl, h)
 or-none (Some x) p h = absurd (cc)
 
@@ -156,7 +156,7 @@ pub record AreFound (from to : Dated) (days : List ℤ) : Type 0 where
   pub last_is : session_of days to.day ≡ Some last
   pub forward : first ≤ last
 
-unlike : (b : Bool) (f : Fault) → when b f ≡ None → b ≡ false
+pub unlike : (b : Bool) (f : Fault) → when b f ≡ None → b ≡ false
 unlike true f h = absurd (cc)
 unlike false f h = refl
 

@@ -35,7 +35,7 @@ use Rattle.pl_lookahead.proofs.Readable.{AreRead, data-read, dates-found, first-
 -- ---- a run without a fault
 
 -- its data are read, and its range is one of sessions
-record IsJudged (held : Contents) (q : RunRequest) : Type 0 where
+pub record IsJudged (held : Contents) (q : RunRequest) : Type 0 where
   pub read : AreRead held q.world
   pub from : ℕ
   pub from_at : slice_get (days_held held) from ≡ Some q.from.day
@@ -44,6 +44,7 @@ record IsJudged (held : Contents) (q : RunRequest) : Type 0 where
   pub to_at : slice_get (days_held held) to ≡ Some q.to.day
   pub to_is : index_of (days_held held) q.to.day ≡ to
   pub forward : from ≤ to
+  pub plan : first_fault (plan_steps (pipeline_held held) (days_held held) (index_of (days_held held) q.from.day) (index_of (days_held held) q.to.day)) ≡ None
 
 pub place-at : (days : List ℤ) (day : ℤ) (i : ℕ) → session_of days day ≡ Some i → slice_get days i ≡ Some day
 place-at days day i f =
@@ -68,9 +69,10 @@ run-judged held q h =
       to_at = place-at days q.to.day at.last at.last_is;
       to_is = ap (λ o. unwrap_or o 0) at.last_is;
       forward = at.forward;
+      plan = three.1;
     }
 
-judged : (held : Contents) (a : Request) (q : RunRequest) → AsksTable a q → HasNoFault held a → IsJudged held q
+pub judged : (held : Contents) (a : Request) (q : RunRequest) → AsksTable a q → HasNoFault held a → IsJudged held q
 unfolding work
 judged held a q asks h = elim asks [
   | inl run ↦ run-judged held q (rw run at h)
