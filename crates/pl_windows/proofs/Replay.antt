@@ -104,8 +104,14 @@ held-few w ok c size from a (suc k) some = rw (held-next w ok c size from a k) (
 
     here : (b : Bool) → length (held w c size from a k) ≤ size → length (fold replayed (held w c size from a k) (cond b (window_row w c size from (from + k) a ∷ []) [])) ≤ size
     here true few =
-        omega (arith, length-append (drop (length cells) (held w c size from a k)) cells, length-drop (length cells) (held w c size from a k),
-        window-long w c (told w size from a (from + k)) a (pos (from + k)), told-few w size from a (from + k) some, few)
+        omega (
+          arith,
+          length-append (drop (length cells) (held w c size from a k)) cells,
+          length-drop (length cells) (held w c size from a k),
+          window-long w c (told w size from a (from + k)) a (pos (from + k)),
+          told-few w size from a (from + k) some,
+          few,
+        )
     here false few = few
 
 -- ---- a window that moves on by a session

@@ -18,8 +18,15 @@ pub write_line-requires-clause-some : goal.write_line-requires-clause-some
 write_line-requires-clause-some g c =
     let a = c.args.asked.now in
     let long = ap length c.window_of-window.ensures.value in
-    omega (arith, c.cells_told.ensures.some, c.cells_told.ensures.most, long, window-long (asked_world a) a.column a.window (sid_at a.world.assets.now c.args.place.col) (pos c.args.place.session),
-    ap length c.newest-cells.ensures.value, length-drop (length c.window_of-window.result.now - c.cells_told.result) c.window_of-window.result.now)
+    omega (
+      arith,
+      c.cells_told.ensures.some,
+      c.cells_told.ensures.most,
+      long,
+      window-long (asked_world a) a.column a.window (sid_at a.world.assets.now c.args.place.col) (pos c.args.place.session),
+      ap length c.newest-cells.ensures.value,
+      length-drop (length c.window_of-window.result.now - c.cells_told.result) c.window_of-window.result.now,
+    )
 
 pub returns : goal.returns
 returns g c =
