@@ -2,7 +2,7 @@
 
 ghost use Rattle.std.specs.Prelude.{◌≡◌, None};
 ghost use Rattle.pl_spec.specs.Names.{column_name};
-ghost use Rattle.pl_terms.specs.Kinds.{kind_of};
+ghost use Rattle.pl_terms.specs.Kinds.{is_kind, is_not_kind, kind_of};
 ghost use Rattle.pl_terms.specs.Windows.{window_in};
 ghost use Rattle.pl_planner.specs.Names.{kind_name, summary_name};
 
@@ -58,18 +58,8 @@ fn other_name(kind: &TermKind) -> &'static str
         TermKind::GreaterEqual => "GreaterEqual",
         TermKind::Equal => "Equal",
         TermKind::NotEqual => "NotEqual",
-        TermKind::LabelIs {
-            label: LabelValue::Text(_),
-        } => "LabelIs",
-        TermKind::LabelIs {
-            label: LabelValue::Number(_),
-        } => "LabelIs",
-        TermKind::LabelIsNot {
-            label: LabelValue::Text(_),
-        } => "LabelIsNot",
-        TermKind::LabelIsNot {
-            label: LabelValue::Number(_),
-        } => "LabelIsNot",
+        TermKind::LabelIs { label } => equal_name(label),
+        TermKind::LabelIsNot { label } => unequal_name(label),
         TermKind::Clip { .. } => "Clip",
         TermKind::FillNa => "FillNa",
         TermKind::IsNull => "IsNull",
@@ -98,6 +88,27 @@ fn other_name(kind: &TermKind) -> &'static str
         TermKind::ElementOf { .. } => "ElementOf",
         TermKind::Downsample { .. } => "Downsample",
         _ => "",
+    }
+}
+
+// The name of a comparison with a label, or with a number.
+#[tactic(auto, unfolding(crate::specs::Names::kind_name))]
+fn equal_name(label: &LabelValue) -> &'static str
+    ensures { result.now ≡ kind_name (is_kind label.now) }
+{
+    match label {
+        LabelValue::Number(_) => "LabelIs",
+        LabelValue::Text(_) => "LabelIs",
+    }
+}
+
+#[tactic(auto, unfolding(crate::specs::Names::kind_name))]
+fn unequal_name(label: &LabelValue) -> &'static str
+    ensures { result.now ≡ kind_name (is_not_kind label.now) }
+{
+    match label {
+        LabelValue::Number(_) => "LabelIsNot",
+        LabelValue::Text(_) => "LabelIsNot",
     }
 }
 

@@ -402,8 +402,8 @@ class IchimokuKinkoHyo(Windowed):
     `senkou_span_b`: the same of the window; `chikou_span`: the close that has `chikou_span_length` of the window
     before it
 
-    A line is missing where a high or a low of its sessions is. Units: those of the close. Source: Zipline. Rounding:
-    each quotient once, to the nearest millionth.
+    A line is missing where a high or a low of its sessions is. Units: those of the close. Source: Zipline.
+    Rounding: each quotient once, to the nearest millionth.
 
     >>> IchimokuKinkoHyo().chikou_span
     WindowFirst(close, 26)
