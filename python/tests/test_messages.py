@@ -106,7 +106,6 @@ class Fundamentals(DataSet):
         ),
         (lambda: filters.SingleAsset("AAPL"), TypeError, r"write StaticSids\(data.sids\(\['AAPL'\]\)\)"),
         (lambda: StaticSids([1.5]), TypeError, "1.5 is no sid, which is a whole number"),
-        (lambda: y[24], Inexpressible, r"no y\[asset\]; nearest: StaticSids"),
         (lambda: y % 2, Inexpressible, "no y % z; nearest: / and clip"),
         (lambda: np.tanh(y), Inexpressible, "no tanh; nearest: y itself where its order counts"),
         (lambda: np.rint(y), Inexpressible, "no numpy.rint"),
@@ -259,8 +258,14 @@ def test_a_folder_is_data(data):
         (AtLeastN([y > 0], window_length=5, N=6), "AtLeastN: N is a whole number from 1 to the window"),
         (
             factors.EWMA([close], window_length=5, decay_rate=1),
-            "ExponentialWeightedMovingAverage: the decay rate is above 0 and below 1",
+            "ExponentialWeightedMovingMean: the decay rate is above 0 and below 1",
         ),
+        (
+            factors.EWMSTD([close], window_length=5, decay_rate=0),
+            "ExponentialWeightedMovingStdDev: the decay rate is above 0 and below 1",
+        ),
+        (factors.WindowPercentile([close], window_length=5, percent=101), "WindowPercentile: the percent is from 0 to"),
+        (y.winsorize(0.5, 0.5), "winsorize: both shares are from 0 to 1, the first below the second"),
         (BollingerBands(window_length=5, k=0).upper, "BollingerUpper: k is above 0"),
         (StaticSids([2**32]), "StaticSids: sids are whole numbers"),
         (Label("a" * 33), "label: a name is a letter or _"),

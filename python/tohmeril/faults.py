@@ -82,7 +82,12 @@ ARGUMENTS = {  # what the arguments of a function or a member may be, for BadArg
     "clip": "the first bound is no greater than the second",
     "downsample": 'the frequency is "year_start", "quarter_start", "month_start" or "week_start"',
     "AtLeastN": "N is a whole number from 1 to the window",
-    "ExponentialWeightedMovingAverage": "the decay rate is above 0 and below 1",
+    **dict.fromkeys(
+        [f"ExponentialWeightedMoving{end}" for end in ("Average", "Mean", "StdDev")],
+        "the decay rate is above 0 and below 1",
+    ),
+    **dict.fromkeys(("WindowPercentile", "percentile"), "the percent is from 0 to 100, whole hundredths"),
+    "winsorize": "both shares are from 0 to 1, the first below the second",
     **dict.fromkeys(("BollingerLower", "BollingerUpper"), "k is above 0"),
     "StaticSids": "sids are whole numbers from 0 to 4,294,967,295",
     **dict.fromkeys(("label", "number"), "a name is a letter or _, and then letters, digits or _, at most 32 in all"),
