@@ -279,6 +279,8 @@ def compare(seed: int, folder: Path) -> bytes:
     text = table("run", one)
     assert table("run", other) == text, f"run, case {seed}"
     assert table("daily", other) == text, f"daily, case {seed}"
+    if form[1] == "cells":
+        text = program.call("run", str(script), *words(one), str(first), str(last))
     rows = [line.replace(b",", b" ").split() for line in text.splitlines()[1:]]
     if (
         rows and "label" not in script.read_text()
