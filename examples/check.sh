@@ -321,6 +321,7 @@ recipes() {
     try bars.py "$python" "$recipes/bars.py" made close.csv
     sqlite3 examples/market/adjustments.db < examples/market/adjustments.sql
     try table.py "$python" "$recipes/table.py" examples/market/liquidity.pl examples/market 2023-12-01 2023-12-08
+    try neutral.py "$python" "$recipes/neutral.py" examples/market 2023-12-01 2023-12-04 101 60
     is_left_out matplotlib || try picture.py "$python" "$recipes/picture.py" examples/market 2023-10-02 2023-11-30 5 .
 }
 

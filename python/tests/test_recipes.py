@@ -1,14 +1,20 @@
 """The recipes in Python run as they are."""
 
 import importlib.util
+import io
 import os
 import subprocess
 import sys
 
+import numpy as np
+import pandas as pd
 import pytest
 from conftest import CHECKOUT
 
-from tohmeril import Data
+from tohmeril import Data, run_pipeline
+from tohmeril.pipeline import Pipeline
+from tohmeril.pipeline.data import Labels
+from tohmeril.pipeline.factors import Returns
 
 
 def recipe(name, *words, folder="recipes", also=""):
@@ -34,6 +40,22 @@ def test_bars(tmp_path):
 def test_table(market):
     shown = recipe("table.py", market / "liquidity.pl", market, "2023-12-01", "2023-12-08")
     assert "2023-12-01 101" in shown and "fifth      int64" in shown
+
+
+def test_neutral(market):
+    data, day, length = Data(market), "2023-12-04", 60
+    first = data.sessions[data.sessions.index(day) - length + 1]
+    seen = run_pipeline(Pipeline({"r": Returns(window_length=2), "sector": Labels.sector.latest}), first, day, data)
+    returns = seen["r"].unstack()
+    whole = returns.dropna(axis=1)
+    spy = whole.columns[0]
+    got = pd.read_csv(io.StringIO(recipe("neutral.py", market, day, day, spy, length)), index_col="asset")
+    slopes = whole.apply(lambda own: np.polyfit(whole[spy], own, 1)[0])
+    assert len(slopes) > 9 and np.allclose(got["beta"][slopes.index], slopes, atol=1e-4)
+    left = got["return"] - got["beta"] * whole[spy].iloc[-1]
+    assert np.allclose(got["left"], left, atol=3e-6, equal_nan=True)
+    means = got["neutral"].groupby(seen["sector"].xs(pd.Timestamp(day)).astype(str)).mean()
+    assert np.allclose(means.dropna(), 0, atol=2e-6)
 
 
 def test_picture(market, tmp_path):
