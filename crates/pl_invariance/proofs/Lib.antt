@@ -18,3 +18,4 @@ pub mod Units
 pub mod Formulas
 pub mod Crossed
 pub mod Indicators
+pub mod Scales

@@ -8,6 +8,7 @@ ghost use Rattle.pl_invariance.specs.Priced.{PricesHaveUnits};
 ghost use Rattle.pl_invariance.specs.Ranked.{RanksHaveNoUnit};
 ghost use Rattle.pl_invariance.specs.Renamed.{SidsAreNames};
 ghost use Rattle.pl_invariance.specs.Restated.{SplitsMayBeRestated, WorldsCanBeRestated};
+ghost use Rattle.pl_invariance.specs.Scales.{CorrelationsHaveNoScale, RegressionsHaveUnits};
 ghost use Rattle.pl_invariance.specs.Units.{FormulasHaveUnits, IndicatorsHaveNoUnit};
 
 /// A number beside bars is the same whatever the bars, the adjustments and the labels are. It guards the way
@@ -67,6 +68,18 @@ pub fn pairs_have_no_order()
 /// guards the sign of the root, and which of the two inputs a regression divides by.
 pub fn values_explain_themselves()
     ensures { ValuesExplainThemselves }
+{}
+
+/// A correlation, one of ranks too, and the share of the variance that a line explains are the same where one
+/// side is multiplied by a ratio above 0 that rounds none of its values. It guards the spreads that a
+/// correlation is divided by, and its sign.
+pub fn correlations_have_no_scale()
+    ensures { CorrelationsHaveNoScale }
+{}
+
+/// A covariance and a slope are multiplied by the ratio by which y is, where nothing is rounded.
+pub fn regressions_have_units()
+    ensures { RegressionsHaveUnits }
 {}
 
 /// So does a correlation of ranks.
