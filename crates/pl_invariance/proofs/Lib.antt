@@ -19,3 +19,5 @@ pub mod Formulas
 pub mod Crossed
 pub mod Indicators
 pub mod Scales
+pub mod Lines
+pub mod Shares

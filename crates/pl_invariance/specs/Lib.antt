@@ -11,3 +11,4 @@ pub mod Ordered
 pub mod Units
 pub mod Crossed
 pub mod Scales
+pub mod Lines

@@ -8,6 +8,7 @@ ghost use Rattle.pl_invariance.specs.Priced.{PricesHaveUnits};
 ghost use Rattle.pl_invariance.specs.Ranked.{RanksHaveNoUnit};
 ghost use Rattle.pl_invariance.specs.Renamed.{SidsAreNames};
 ghost use Rattle.pl_invariance.specs.Restated.{SplitsMayBeRestated, WorldsCanBeRestated};
+ghost use Rattle.pl_invariance.specs.Lines.{LinesGoThroughMeans, ScalesAddUp};
 ghost use Rattle.pl_invariance.specs.Scales.{CorrelationsHaveNoScale, RegressionsHaveUnits};
 ghost use Rattle.pl_invariance.specs.Units.{FormulasHaveUnits, IndicatorsHaveNoUnit};
 
@@ -80,6 +81,19 @@ pub fn correlations_have_no_scale()
 /// A covariance and a slope are multiplied by the ratio by which y is, where nothing is rounded.
 pub fn regressions_have_units()
     ensures { RegressionsHaveUnits }
+{}
+
+/// Where x is at its mean, the line of a regression is at the mean of y: exactly before slope and intercept are
+/// rounded, and after it within half a millionth for the intercept and half a millionth of the mean of x for
+/// the slope. It guards that both are of one line.
+pub fn lines_go_through_means()
+    ensures { LinesGoThroughMeans }
+{}
+
+/// The magnitudes of what a scale gives add up to 1, within half a millionth for each value, where not all
+/// values are 0. It guards what the values are divided by.
+pub fn scales_add_up()
+    ensures { ScalesAddUp }
 {}
 
 /// So does a correlation of ranks.
