@@ -21,3 +21,4 @@ pub mod Indicators
 pub mod Scales
 pub mod Lines
 pub mod Shares
+pub mod OneAsset

@@ -12,3 +12,4 @@ pub mod Units
 pub mod Crossed
 pub mod Scales
 pub mod Lines
+pub mod OneAsset

@@ -9,6 +9,7 @@ ghost use Rattle.pl_invariance.specs.Ranked.{RanksHaveNoUnit};
 ghost use Rattle.pl_invariance.specs.Renamed.{SidsAreNames};
 ghost use Rattle.pl_invariance.specs.Restated.{SplitsMayBeRestated, WorldsCanBeRestated};
 ghost use Rattle.pl_invariance.specs.Lines.{LinesGoThroughMeans, ScalesAddUp};
+ghost use Rattle.pl_invariance.specs.OneAsset.{OneAssetForAll};
 ghost use Rattle.pl_invariance.specs.Scales.{CorrelationsHaveNoScale, RegressionsHaveUnits};
 ghost use Rattle.pl_invariance.specs.Units.{FormulasHaveUnits, IndicatorsHaveNoUnit};
 
@@ -94,6 +95,12 @@ pub fn lines_go_through_means()
 /// values are 0. It guards what the values are divided by.
 pub fn scales_add_up()
     ensures { ScalesAddUp }
+{}
+
+/// `y.of(sid)` gives each asset that exists the value of y for the asset sid, from wherever it is seen, and
+/// none where that asset does not exist. It guards what stands for it: a greatest value of one.
+pub fn one_asset_for_all()
+    ensures { OneAssetForAll }
 {}
 
 /// So does a correlation of ranks.
