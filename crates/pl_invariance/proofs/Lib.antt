@@ -22,3 +22,4 @@ pub mod Scales
 pub mod Lines
 pub mod Shares
 pub mod OneAsset
+pub mod WorkedPairs

@@ -1,10 +1,10 @@
 -- The line of a regression goes through the means.
-use Rattle.std.proofs.Common.{◌≡◌, ℕ, zero, suc, ◌+◌, ◌*◌, ◌<◌, ◌≤◌, false, true, inl, inr, ℤ, pos, negsuc, ◌+ℤ◌, ◌-ℤ◌, ◌*ℤ◌, neg_ℤ, List, unsigned_abs, arith, refl, sym, ap, ap₂, ◌∙◌}
+use Rattle.std.proofs.Common.{◌≡◌, ℕ, zero, suc, ◌+◌, ◌*◌, ◌<◌, ◌≤◌, false, true, inl, inr, ℤ, pos, negsuc, ◌+ℤ◌, ◌-ℤ◌, ◌*ℤ◌, neg_ℤ, unsigned_abs, arith, refl, sym, ap, ap₂, ◌∙◌}
 use Rattle.std.proofs.lemmas.Int.{ints, unsigned_abs-mul}
 use Rattle.std.proofs.lemmas.Bool.{cases_lt, true≢false}
 use Rattle.std.proofs.lemmas.Nat.{mul-le}
 use Rattle.std.proofs.Math.IntN.{*ℤ_comm}
-use Rattle.pl_spec.specs.Rounding.{IsNearest, MISSING, MILLION, is_missing, div_round, to_cell, quot}
+use Rattle.pl_spec.specs.Rounding.{MILLION, is_missing, div_round, to_cell, quot}
 use Rattle.pl_spec.proofs.Nearest.{div_round-is_nearest}
 use Rattle.pl_pipeline.specs.Formula.{PairSums, pair_sums, present_pairs, spread_x, joint_spread, slope, intercept, formula}
 use Rattle.pl_invariance.specs.Lines.{IsThroughMeans, LinesGoThroughMeans, off_means}

@@ -1,6 +1,6 @@
 -- One asset's value for all.
-use Rattle.std.proofs.Common.{◌≡◌, ℕ, zero, suc, ◌+◌, ◌-◌, ◌<◌, Bool, true, false, ◌&&◌, ◌||◌, ◌==◌, cond, if◌then◌else◌, ℤ, pos, List, [], ◌∷◌, length, map, filter, refl, sym, ap, ◌∙◌, arith, inl, inr}
-use Rattle.std.specs.List.{list_any, Contains}
+use Rattle.std.proofs.Common.{◌≡◌, ℕ, ◌-◌, ◌<◌, Bool, true, false, ◌&&◌, ◌==◌, cond, if◌then◌else◌, ℤ, List, [], ◌∷◌, length, map, filter, refl, sym, ap, ◌∙◌, arith, inl, inr}
+use Rattle.std.specs.List.{list_any}
 use Rattle.std.specs.Cmp.{both_ways}
 use Rattle.std.proofs.lemmas.Bool.{or_left, or_right, eqb-true, eq-eqb, true≢false}
 use Rattle.std.proofs.Math.Bool.{and-true}
@@ -11,7 +11,7 @@ use Rattle.pl_spec.proofs.Each.{Each}
 use Rattle.pl_spec.proofs.Members.{In, contains-in}
 use Rattle.pl_spec.proofs.Signed.{int_eq-true}
 use Rattle.pl_pipeline.specs.Cross.{Entry, values, if_some, cross, summary}
-use Rattle.pl_pipeline.specs.Kind.Kind.{StaticSids, Point, Cross}
+use Rattle.pl_pipeline.specs.Kind.Kind.{StaticSids, Point}
 use Rattle.pl_pipeline.specs.Kind.PointKind.{Where}
 use Rattle.pl_pipeline.specs.Kind.CrossKind.{Summarize}
 use Rattle.pl_pipeline.specs.declared.Summary.TheVariants.{Greatest}
@@ -19,7 +19,7 @@ use Rattle.pl_pipeline.specs.Order.{value_at}
 use Rattle.pl_pipeline.specs.Pointwise.{pointwise}
 use Rattle.pl_pipeline.specs.Term.{Term}
 use Rattle.pl_pipeline.specs.Term.Term.{absent, column, node}
-use Rattle.pl_pipeline.specs.Value.{Value, View, Own, Operands, part_from, number_of, value_of_part, entry, counts_for, eligible, kind_value, seen, seen_operands, value}
+use Rattle.pl_pipeline.specs.Value.{View, Own, Operands, part_from, number_of, value_of_part, entry, counts_for, eligible, kind_value, seen, seen_operands, value}
 use Rattle.pl_pipeline.specs.Value.Value.{Number}
 use Rattle.pl_pipeline.proofs.SortedValues.{value_at-counted}
 use Rattle.pl_invariance.specs.OneAsset.{of_asset, OneAssetForAll}

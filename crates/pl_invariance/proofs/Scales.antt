@@ -1,15 +1,15 @@
 -- Correlations and regressions of values in another unit.
-use Rattle.std.proofs.Common.{◌≡◌, ℕ, zero, suc, ◌+◌, ◌*◌, ◌/◌, ◌^◌, ◌<◌, ◌==◌, Bool, true, false, cond, ℤ, pos, negsuc, ◌+ℤ◌, ◌-ℤ◌, ◌*ℤ◌, List, [], ◌∷◌, length, map, fold, unsigned_abs, arith, refl, sym, ap, ap₂, ◌∙◌}
+use Rattle.std.proofs.Common.{◌≡◌, ℕ, zero, suc, ◌+◌, ◌*◌, ◌/◌, ◌^◌, ◌<◌, ◌==◌, Bool, true, false, cond, ℤ, pos, negsuc, ◌*ℤ◌, List, [], ◌∷◌, length, map, fold, unsigned_abs, arith, refl, sym, ap, ap₂, ◌∙◌}
 use Rattle.std.specs.Int.RustNames.{int_lt}
 use Rattle.std.specs.Ordering.{int_eq}
-use Rattle.std.proofs.lemmas.Int.{ints, unsigned_abs-mul}
+use Rattle.std.proofs.lemmas.Int.{unsigned_abs-mul}
 use Rattle.std.proofs.lemmas.List.{length-map}
 use Rattle.std.proofs.lemmas.Bool.Decides.{nat_tests}
 use Rattle.std.proofs.Math.Nat.{mul-pos, mul-div-mul_right}
 use Rattle.pl_spec.specs.Cells.{total}
-use Rattle.pl_spec.specs.Rounding.{MISSING, MILLION, Fraction, is_present, scaled, quot, to_cell}
-use Rattle.pl_pipeline.specs.Formula.{PairSums, present_pairs, pair_sums, sums_of_pairs, spread_x, spread_y, joint_spread, square, near_root, root_quot, with_sign, correlation, covariance, slope, r_squared, ranked, places, trend_sums, formula}
-use Rattle.pl_pipeline.specs.Order.{count_less, count_equal, twice_rank}
+use Rattle.pl_spec.specs.Rounding.{MILLION, Fraction, is_present, scaled, quot, to_cell}
+use Rattle.pl_pipeline.specs.Formula.{PairSums, present_pairs, pair_sums, sums_of_pairs, spread_x, spread_y, joint_spread, square, near_root, root_quot, correlation, covariance, slope, r_squared, ranked, places, trend_sums, formula}
+use Rattle.pl_pipeline.specs.Order.{twice_rank}
 use Rattle.pl_invariance.specs.Units.{IsRatio, AreExact, IsUnrounded}
 use Rattle.pl_invariance.specs.Scales.{CorrelationsHaveNoScale, RegressionsHaveUnits}
 use Rattle.pl_invariance.proofs.Exact.{turned}

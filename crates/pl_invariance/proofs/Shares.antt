@@ -1,14 +1,12 @@
 -- The magnitudes of what a scale gives add up to 1.
-use Rattle.std.proofs.Common.{◌≡◌, ℕ, zero, suc, ◌+◌, ◌*◌, ◌<◌, ◌≤◌, ℤ, pos, ◌-ℤ◌, ◌*ℤ◌, List, [], ◌∷◌, length, unsigned_abs, arith, refl, sym, ap, ◌∙◌, inl, inr, sum_by}
+use Rattle.std.proofs.Common.{◌≡◌, ℕ, zero, suc, ◌+◌, ◌*◌, ◌<◌, ◌≤◌, ℤ, pos, ◌-ℤ◌, ◌*ℤ◌, List, [], ◌∷◌, length, unsigned_abs, arith, refl, sum_by}
 use Rattle.std.proofs.lemmas.Int.{ints, unsigned_abs-mul}
 use Rattle.std.proofs.lemmas.List.Sums.{sum_by-cons}
-use Rattle.std.proofs.lemmas.Nat.{mul-le}
-use Rattle.pl_spec.specs.Rounding.{MILLION, div_round, to_cell, quot}
+use Rattle.pl_spec.specs.Rounding.{MILLION, div_round, quot}
 use Rattle.pl_spec.proofs.Nearest.{div_round-is_nearest}
 use Rattle.pl_spec.proofs.Within.{to_cell-within}
-use Rattle.pl_pipeline.specs.Kind.CrossKind.{Scale}
 use Rattle.pl_pipeline.specs.Cross.{Entry, values, cross}
-use Rattle.pl_invariance.specs.Lines.{ScalesAddUp, scaled_sum}
+use Rattle.pl_invariance.specs.Lines.{ScalesAddUp}
 use Rattle.pl_invariance.proofs.Lines.{less-factor}
 
 -- x over the sum, in millionths
@@ -59,16 +57,17 @@ shares-near sum (e ∷ list) few =
 
 added : (sum : ℕ) (list : List Entry) → 0 < sum → sum_by unsigned_abs (values list) ≡ sum
     → let shares = sum_by (λ e. unsigned_abs (share sum e.1)) list in
-      (2 * MILLION ≤ 2 * shares + length list) × (2 * shares ≤ 2 * MILLION + length list)
+    (2 * MILLION ≤ 2 * shares + length list) × (2 * shares ≤ 2 * MILLION + length list)
 added zero list some e = absurd (omega arith)
 added (suc sum) list some e =
     let s = suc sum in
     let shares = sum_by (λ (e : Entry). unsigned_abs (share s e.1)) list in
     let near = shares-near sum list (omega (arith, e)) in
     let low : 2 * (s * MILLION) ≤ 2 * (shares * s) + length list * s = rw e at near.low in
-    let high : 2 * (shares * s) ≤ 2 * (s * MILLION) + length list * s = rw e at near.high in
-    (less-factor s (2 * MILLION) (2 * shares + length list) some (omega (arith, low)),
-     less-factor s (2 * shares) (2 * MILLION + length list) some (omega (arith, high)))
+    let high : 2 * (shares * s) ≤ 2 * (s * MILLION) + length list * s = rw e at near.high in (
+      less-factor s (2 * MILLION) (2 * shares + length list) some (omega (arith, low)),
+      less-factor s (2 * shares) (2 * MILLION + length list) some (omega (arith, high)),
+    )
 
 pub scales-add-up : ScalesAddUp
 unfolding cross

@@ -30,8 +30,8 @@ pub record LinesGoThroughMeans : Type 0 where
   pub rounded : (ys xs zs : List ℤ) → is_missing (formula RegressionSlope ys xs zs) ≡ false
       → is_missing (formula RegressionIntercept ys xs zs) ≡ false
       → let s = pair_sums xs ys in
-        2 * unsigned_abs (off_means s (formula RegressionSlope ys xs zs) (formula RegressionIntercept ys xs zs))
-        ≤ s.number * MILLION + unsigned_abs s.x
+      2 * unsigned_abs (off_means s (formula RegressionSlope ys xs zs) (formula RegressionIntercept ys xs zs))
+      ≤ s.number * MILLION + unsigned_abs s.x
 
 -- the sum of the magnitudes that a scale gives, in millionths
 abbrev pub scaled_sum : List Entry → ℕ

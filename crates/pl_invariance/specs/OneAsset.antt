@@ -8,7 +8,7 @@ use Rattle.pl_pipeline.specs.Kind.CrossKind.{Summarize}
 use Rattle.pl_pipeline.specs.declared.Summary.TheVariants.{Greatest}
 use Rattle.pl_pipeline.specs.Term.{Term}
 use Rattle.pl_pipeline.specs.Term.Term.{absent, node}
-use Rattle.pl_pipeline.specs.Value.{Value, View, number_of, seen, value}
+use Rattle.pl_pipeline.specs.Value.{View, number_of, seen, value}
 use Rattle.pl_pipeline.specs.Value.Value.{Number}
 
 -- What `y.of(sid)` stands for, `y.where(StaticSids(sid)).max()`. None of the three has a window: size is any

@@ -61,6 +61,11 @@ pub fn correlations_are_bounded()
     ensures { CorrelationsAreBounded }
 {}
 
+/// So does a correlation of ranks.
+pub fn rank_correlations_are_bounded()
+    ensures { RankCorrelationsAreBounded }
+{}
+
 /// A correlation and a covariance are the same with the two inputs swapped. It guards the sums of pairs.
 pub fn pairs_have_no_order()
     ensures { PairsHaveNoOrder }
@@ -101,11 +106,6 @@ pub fn scales_add_up()
 /// none where that asset does not exist. It guards what stands for it: a greatest value of one.
 pub fn one_asset_for_all()
     ensures { OneAssetForAll }
-{}
-
-/// So does a correlation of ranks.
-pub fn rank_correlations_are_bounded()
-    ensures { RankCorrelationsAreBounded }
 {}
 
 /// A percentile of a window lies between its least present value and its greatest, in every hundredth of a
