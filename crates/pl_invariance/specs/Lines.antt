@@ -7,9 +7,9 @@ use Rattle.pl_pipeline.specs.Formula.{PairSums, pair_sums, formula}
 use Rattle.pl_pipeline.specs.Kind.CrossKind.{Scale}
 use Rattle.pl_pipeline.specs.Cross.{Entry, values, cross}
 
--- The slope is rise / width, the intercept is start / width in millionths of y, each rounded once: without the
--- rounding the line through them is at the mean of y where x is at its mean, the number of pairs taken to the
--- other side.
+-- The slope is rise / width, and the intercept start / width over the number of pairs, each rounded once.
+-- Without the rounding the line is at the mean of y where x is at its mean: each side is times width and the
+-- number of pairs.
 pub record IsThroughMeans (s : PairSums) (slope intercept : ℤ) : Type 0 where
   pub rise : ℤ
   pub start : ℤ
@@ -25,7 +25,8 @@ off_means s slope intercept =
 
 pub record LinesGoThroughMeans : Type 0 where
   pub exactly : (ys xs zs : List ℤ)
-      → IsThroughMeans (pair_sums xs ys) (formula RegressionSlope ys xs zs) (formula RegressionIntercept ys xs zs)
+      → IsThroughMeans (pair_sums xs ys)
+      (formula RegressionSlope ys xs zs) (formula RegressionIntercept ys xs zs)
   -- half a millionth for the intercept, and half a millionth of the mean of x for the slope
   pub rounded : (ys xs zs : List ℤ) → is_missing (formula RegressionSlope ys xs zs) ≡ false
       → is_missing (formula RegressionIntercept ys xs zs) ≡ false

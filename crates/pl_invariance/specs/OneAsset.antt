@@ -15,9 +15,9 @@ use Rattle.pl_pipeline.specs.Value.Value.{Number}
 -- number.
 abbrev pub of_asset : (size sid : ℕ) → Term → Term
 of_asset size sid y =
-    node (Cross (Summarize Greatest)) size
-    (node (Point Where) size y (node (StaticSids (sid ∷ [])) size absent absent absent absent absent) absent absent absent)
-    absent absent absent absent
+    let that_one : Term = node (StaticSids (sid ∷ [])) size absent absent absent absent absent in
+    let kept : Term = node (Point Where) size y that_one absent absent absent in
+    node (Cross (Summarize Greatest)) size kept absent absent absent absent
 
 -- Each asset that exists has the value that y has for the asset sid, and none where that one does not exist.
 -- It is the same from wherever it is seen.

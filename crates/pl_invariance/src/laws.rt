@@ -89,9 +89,9 @@ pub fn regressions_have_units()
     ensures { RegressionsHaveUnits }
 {}
 
-/// Where x is at its mean, the line of a regression is at the mean of y: exactly before slope and intercept are
-/// rounded, and after it within half a millionth for the intercept and half a millionth of the mean of x for
-/// the slope. It guards that both are of one line.
+/// Where x is at its mean, the line of a regression is at the mean of y: exactly before slope and intercept
+/// are rounded, and after it within half a millionth for the intercept and half a millionth of the mean of x
+/// for the slope. It guards that both are of one line.
 pub fn lines_go_through_means()
     ensures { LinesGoThroughMeans }
 {}
