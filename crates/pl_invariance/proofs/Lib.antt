@@ -18,3 +18,7 @@ pub mod Units
 pub mod Formulas
 pub mod Crossed
 pub mod Indicators
+pub mod Measured
+pub mod Operated
+pub mod Sections
+pub mod Pipelines

@@ -10,3 +10,4 @@ pub mod Paired
 pub mod Ordered
 pub mod Units
 pub mod Crossed
+pub mod Pipelines
