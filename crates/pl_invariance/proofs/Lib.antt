@@ -22,3 +22,5 @@ pub mod Measured
 pub mod Operated
 pub mod Sections
 pub mod Pipelines
+pub mod Tables
+pub mod WorkedPipelines
