@@ -52,7 +52,7 @@ module _ (r : Fraction) (ratio : IsRatio r) (vs : List ℤ) (h : Each (IsExact r
   at-same : (i : ℕ) (v : ℤ) → IsExact r v → is_at others i (scaled r v) ≡ is_at vs i v
   at-same i v hv = rw (preceding_same r ratio.0 Ascending v vs hv h, equals_same r ratio.0 v vs hv h) refl
 
-  value-times : (i : ℕ) → Times (value_at others i) (value_at vs i)
+  pub value-times : (i : ℕ) → Times (value_at others i) (value_at vs i)
   value-times i =
       ap (λ o. unwrap_or o (pos 0) *ℤ pos r.den)
       (find-map (is_at others i) (scaled r) vs

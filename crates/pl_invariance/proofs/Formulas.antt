@@ -80,7 +80,7 @@ module _ (r : Fraction) (ratio : IsRatio r) where
       ap (λ n. quot (total (products (map (scaled r) xs) ys)) (pos (n * MILLION))) (length-map xs (scaled r))
       ∙ units.quot-scaled r ratio (total (products xs ys)) (total (products (map (scaled r) xs) ys)) (length xs * MILLION) (firsts xs ys h) u
 
-  missing-same : (xs : List ℤ) → AreExact r xs → list_any is_missing (map (scaled r) xs) ≡ list_any is_missing xs
+  pub missing-same : (xs : List ℤ) → AreExact r xs → list_any is_missing (map (scaled r) xs) ≡ list_any is_missing xs
   missing-same [] h = refl
   missing-same (x ∷ xs) h =
       ap (λ b. b || list_any is_missing (map (scaled r) xs)) (flip (is_missing (scaled r x)) (is_missing x) (units.present-same r ratio x h.0))
@@ -208,7 +208,7 @@ module _ (r : Fraction) (ratio : IsRatio r) where
       (sym (ap (scaled r) (units.cell-stays (u -ℤ v) there) ∙ units.is-scaled r ratio (u -ℤ v) (scaled r u -ℤ scaled r v) (units.cell-small (u -ℤ v) there)
       (units.times-minus r ratio (scaled r u) (scaled r v) u v (units.exact-times r ratio u hu) (units.exact-times r ratio v hv))))
 
-  add-scaled : (u v : ℤ) → IsExact r u → IsExact r v → is_missing (add u v) ≡ false → add (scaled r u) (scaled r v) ≡ scaled r (add u v)
+  pub add-scaled : (u v : ℤ) → IsExact r u → IsExact r v → is_missing (add u v) ≡ false → add (scaled r u) (scaled r v) ≡ scaled r (add u v)
   unfolding add
   add-scaled u v hu hv p =
       let there : is_missing (to_cell (u +ℤ v)) ≡ false = rw (hu.0, hv.0) at p in
@@ -217,7 +217,7 @@ module _ (r : Fraction) (ratio : IsRatio r) where
       (units.times-plus r ratio (scaled r u) (scaled r v) u v (units.exact-times r ratio u hu) (units.exact-times r ratio v hv))))
 
   -- a factor without unit
-  mul-scaled : (k v : ℤ) → IsExact r v → IsExact r (mul k v) → (mul k v *ℤ pos MILLION) ≡ (k *ℤ v) → mul k (scaled r v) ≡ scaled r (mul k v)
+  pub mul-scaled : (k v : ℤ) → IsExact r v → IsExact r (mul k v) → (mul k v *ℤ pos MILLION) ≡ (k *ℤ v) → mul k (scaled r v) ≡ scaled r (mul k v)
   unfolding mul
   mul-scaled k v hv hw e = step (is_missing k) refl
     where

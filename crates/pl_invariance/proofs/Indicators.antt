@@ -27,7 +27,7 @@ module _ (r : Fraction) (ratio : IsRatio r) where
   abbrev Times : ℤ → ℤ → Type 0
   Times y x = units.Times r ratio y x
 
-  missing-same : (x : ℤ) → Divides r x → is_missing (scaled r x) ≡ is_missing x
+  pub missing-same : (x : ℤ) → Divides r x → is_missing (scaled r x) ≡ is_missing x
   missing-same x h = flipped (is_missing (scaled r x)) (is_missing x) (units.present-same r ratio x h)
 
   -- ---- strength
@@ -86,10 +86,10 @@ module _ (r : Fraction) (ratio : IsRatio r) where
 
   -- ---- the place between the least and the greatest
 
-  nothing-divides : Divides r MISSING
+  pub nothing-divides : Divides r MISSING
   nothing-divides = (ratio.1, inl refl)
 
-  get-divides : (xs : List ℤ) (k : ℕ) → AreExact r xs → Divides r (get_or xs k MISSING)
+  pub get-divides : (xs : List ℤ) (k : ℕ) → AreExact r xs → Divides r (get_or xs k MISSING)
   get-divides [] k h = nothing-divides
   get-divides (x ∷ xs) zero h = h.0
   get-divides (x ∷ xs) (suc k) h = get-divides xs k h.1

@@ -23,3 +23,9 @@ pub mod Lines
 pub mod Shares
 pub mod OneAsset
 pub mod WorkedPairs
+pub mod Measured
+pub mod Operated
+pub mod Sections
+pub mod Pipelines
+pub mod Tables
+pub mod WorkedPipelines

@@ -115,7 +115,7 @@ module _ (r : Fraction) (w : World) where
       ∙ ap (after_all (scaled r (bar_cell w a c s))) (between_priced c p (day_of w s) (day_of w d) (events_of w a))
       ∙ first_or_last r (bar_cell w a c s) (effects w a c s d) h
 
-  seen_volume : (a : ℕ) (s d : ℤ) → seen_cell (priced_world r w) a Volume s d ≡ seen_cell w a Volume s d
+  pub seen_volume : (a : ℕ) (s d : ℤ) → seen_cell (priced_world r w) a Volume s d ≡ seen_cell w a Volume s d
   unfolding seen_cell
   seen_volume a s d =
       ap (λ x. after_all x (effects (priced_world r w) a Volume s d)) (volume_same a s)

@@ -256,7 +256,7 @@ module _ (r : Fraction) (ratio : IsRatio r) where
 
   -- ---- extremes
 
-  max-scaled : (x y : ℤ) → IsExact r x → IsExact r y → (int_max (scaled r x) (scaled r y) ≡ scaled r (int_max x y)) × IsExact r (int_max x y)
+  pub max-scaled : (x y : ℤ) → IsExact r x → IsExact r y → (int_max (scaled r x) (scaled r y) ≡ scaled r (int_max x y)) × IsExact r (int_max x y)
   max-scaled x y h i = by_lt_z x y below above
     where
       right : (a b : ℤ) → a <ℤ b → int_max a b ≡ b
@@ -275,7 +275,7 @@ module _ (r : Fraction) (ratio : IsRatio r) where
           let more : scaled r y ≤ℤ scaled r x = int_le-true (scaled r y) (scaled r x) (at_most-same (scaled r y) (scaled r x) y x (exact-times y i) (exact-times x h) ∙ le-int_le y x l) in
           rw (left x y l) (left (scaled r x) (scaled r y) more, h)
 
-  min-scaled : (x y : ℤ) → IsExact r x → IsExact r y → (int_min (scaled r x) (scaled r y) ≡ scaled r (int_min x y)) × IsExact r (int_min x y)
+  pub min-scaled : (x y : ℤ) → IsExact r x → IsExact r y → (int_min (scaled r x) (scaled r y) ≡ scaled r (int_min x y)) × IsExact r (int_min x y)
   min-scaled x y h i = by_lt_z x y below above
     where
       right : (a b : ℤ) → b ≤ℤ a → int_min a b ≡ b

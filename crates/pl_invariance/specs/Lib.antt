@@ -13,3 +13,4 @@ pub mod Crossed
 pub mod Scales
 pub mod Lines
 pub mod OneAsset
+pub mod Pipelines

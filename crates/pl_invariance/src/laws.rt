@@ -4,6 +4,7 @@ ghost use Rattle.pl_invariance.specs.Compared.{ChangesHaveNoUnit};
 ghost use Rattle.pl_invariance.specs.Ordered.{MediansAreMiddles, PercentilesAreBetween, RankCorrelationsAreBounded, WindowRanksAreRanks};
 ghost use Rattle.pl_invariance.specs.Paired.{CorrelationsAreBounded, PairsHaveNoOrder, ValuesExplainThemselves};
 ghost use Rattle.pl_invariance.specs.Crossed.{CrossesHaveNoUnit, ScreensHaveNoUnit};
+ghost use Rattle.pl_invariance.specs.Pipelines.{PipelinesHaveUnits, TablesHaveUnits};
 ghost use Rattle.pl_invariance.specs.Priced.{PricesHaveUnits};
 ghost use Rattle.pl_invariance.specs.Ranked.{RanksHaveNoUnit};
 ghost use Rattle.pl_invariance.specs.Renamed.{SidsAreNames};
@@ -153,4 +154,15 @@ pub fn screens_have_no_unit()
 /// Each world can be restated so, whichever of an asset's ratios is left out.
 pub fn worlds_can_be_restated()
     ensures { WorldsCanBeRestated }
+{}
+
+/// Prices in cents in place of dollars: each term of the price's unit is multiplied by 100, and each term
+/// without a unit is the same.
+pub fn pipelines_have_units()
+    ensures { PipelinesHaveUnits }
+{}
+
+/// So the table has the same rows, in which the columns of the price's unit are multiplied by 100.
+pub fn tables_have_units()
+    ensures { TablesHaveUnits }
 {}

@@ -1,0 +1,198 @@
+-- Operations on prices in another unit.
+use Rattle.std.proofs.Common.{◌≡◌, ℕ, zero, suc, ◌*◌, Bool, true, false, not, ◌||◌, if◌then◌else◌, ℤ, pos, negsuc, ◌*ℤ◌, neg_ℤ, refl, sym, ◌∙◌, ap, arith, subst}
+use Rattle.std.specs.Int.{int_max, int_min}
+use Rattle.std.specs.Int.RustNames.{unsigned_abs, int_lt}
+use Rattle.std.proofs.Math.IntN.{*ℤ_comm}
+use Rattle.std.proofs.lemmas.Bool.{true≢false}
+use Rattle.pl_spec.specs.Cells.{truth, is_true}
+use Rattle.pl_spec.specs.Rounding.{MISSING, MILLION, Fraction, is_missing, is_present, scaled, div_round, to_cell, of_both, quot, add, sub, mul, div, neg}
+use Rattle.std.proofs.lemmas.Int.{unsigned_abs-mul}
+use Rattle.pl_pipeline.specs.Elementary.{sign, maximum, minimum}
+use Rattle.pl_pipeline.specs.Kind.{PointKind}
+use Rattle.pl_pipeline.specs.Pointwise.{pointwise}
+use Rattle.pl_invariance.specs.Exact.{Divides}
+use Rattle.pl_invariance.specs.Pipelines.{Measure, OperationRule, GivesCell, IsQuotientExact, IsOperationExact}
+use Rattle.pl_invariance.specs.Pipelines.Measure.{Price, NoUnit}
+use Rattle.pl_invariance.specs.Ranked.{IsExact}
+use Rattle.pl_invariance.specs.Units.{IsRatio}
+use Rattle.pl_invariance.proofs.Compared.{quot_same}
+use Rattle.pl_invariance.proofs.Crossed.{screens-have-no-unit}
+use Rattle.pl_invariance.proofs.Exact.{missing_stays}
+use Rattle.pl_invariance.proofs.Formulas.{add-scaled, sub-scaled, mul-scaled}
+use Rattle.pl_invariance.proofs.Indicators.{missing-same}
+use Rattle.pl_invariance.proofs.Measured.{number_in, IsOf, by-times, quotient-scaled}
+use Rattle.pl_invariance.proofs.Units as units
+
+
+
+both-gone : (x y v : ℤ) → (is_missing x || is_missing y) ≡ true → of_both x y v ≡ MISSING
+both-gone x y v e = rw e refl
+
+both-there : (x y v : ℤ) → is_missing x ≡ false → is_missing y ≡ false → of_both x y v ≡ v
+both-there x y v e f = rw (e, f) refl
+
+module _ (r : Fraction) (ratio : IsRatio r) where
+  abbrev Times : ℤ → ℤ → Type 0
+  Times y x = units.Times r ratio y x
+
+  -- two cells that are missing alike in both units
+  on_both : (x y x' y' v v' : ℤ) → is_missing x' ≡ is_missing x → is_missing y' ≡ is_missing y
+      → (is_missing x ≡ false → is_missing y ≡ false → v' ≡ scaled r v) → of_both x' y' v' ≡ scaled r (of_both x y v)
+  on_both x y x' y' v v' e f h = step (is_missing x) (is_missing y) refl refl
+    where
+      step : (b c : Bool) → is_missing x ≡ b → is_missing y ≡ c → of_both x' y' v' ≡ scaled r (of_both x y v)
+      step true c i j = rw (e, i) (sym (missing_stays r))
+      step false true i j = rw (e, f, i, j) (sym (missing_stays r))
+      step false false i j = rw (e, f, i, j) (h i j)
+
+  on_both-same : (x y x' y' v v' : ℤ) → is_missing x' ≡ is_missing x → is_missing y' ≡ is_missing y
+      → (is_missing x ≡ false → is_missing y ≡ false → v' ≡ v) → of_both x' y' v' ≡ of_both x y v
+  on_both-same x y x' y' v v' e f h = step (is_missing x) (is_missing y) refl refl
+    where
+      step : (b c : Bool) → is_missing x ≡ b → is_missing y ≡ c → of_both x' y' v' ≡ of_both x y v
+      step true c i j = rw (e, i) refl
+      step false true i j = rw (e, f, i, j) refl
+      step false false i j = rw (e, f, i, j) (h i j)
+
+  there : (x : ℤ) → Divides r x → is_missing x ≡ false → is_missing (scaled r x) ≡ false
+  there x h e = missing-same r ratio x h ∙ e
+
+  sums : (x y : ℤ) → Divides r x → Divides r y → GivesCell x y (add x y) → add (scaled r x) (scaled r y) ≡ scaled r (add x y)
+  unfolding add
+  sums x y h i g =
+      on_both x y (scaled r x) (scaled r y) _ _ (missing-same r ratio x h) (missing-same r ratio y i)
+      (λ e f. sym (both-there (scaled r x) (scaled r y) _ (there x h e) (there y i f)) ∙ add-scaled r ratio x y (e, h) (f, i) (g e f) ∙ ap (scaled r) (both-there x y _ e f))
+
+  gaps : (x y : ℤ) → Divides r x → Divides r y → GivesCell x y (sub x y) → sub (scaled r x) (scaled r y) ≡ scaled r (sub x y)
+  unfolding sub
+  gaps x y h i g =
+      on_both x y (scaled r x) (scaled r y) _ _ (missing-same r ratio x h) (missing-same r ratio y i)
+      (λ e f. sym (both-there (scaled r x) (scaled r y) _ (there x h e) (there y i f)) ∙ sub-scaled r ratio x y (e, h) (f, i) (g e f) ∙ ap (scaled r) (both-there x y _ e f))
+
+  product : (k y : ℤ) → Divides r y → (is_missing k ≡ false → is_missing y ≡ false → IsExact r (mul k y) × ((mul k y *ℤ pos MILLION) ≡ (k *ℤ y)))
+      → mul k (scaled r y) ≡ scaled r (mul k y)
+  unfolding mul
+  product k y i g =
+      on_both k y k (scaled r y) _ _ refl (missing-same r ratio y i)
+      (λ e f. sym (both-there k (scaled r y) _ e (there y i f)) ∙ mul-scaled r ratio k y (f, i) (g e f).0 (g e f).1 ∙ ap (scaled r) (both-there k y _ e f))
+
+  turned : (x y : ℤ) → mul x y ≡ mul y x
+  unfolding mul
+  turned x y = step (is_missing x) (is_missing y) refl refl
+    where
+      step : (b c : Bool) → is_missing x ≡ b → is_missing y ≡ c → of_both x y (to_cell (div_round (x *ℤ y) MILLION)) ≡ of_both y x (to_cell (div_round (y *ℤ x) MILLION))
+      step true true e f = rw (e, f) refl
+      step true false e f = rw (e, f) refl
+      step false true e f = rw (e, f) refl
+      step false false e f = rw (e, f) (ap (λ t. to_cell (div_round t MILLION)) (*ℤ_comm x y))
+
+  first-product : (x y : ℤ) → Divides r x → (is_missing x ≡ false → is_missing y ≡ false → IsExact r (mul x y) × ((mul x y *ℤ pos MILLION) ≡ (x *ℤ y)))
+      → mul (scaled r x) y ≡ scaled r (mul x y)
+  first-product x y h g =
+      turned (scaled r x) y
+      ∙ product y x h (λ f e. (subst (IsExact r) (turned x y) (g e f).0, ap (λ t. t *ℤ pos MILLION) (turned y x) ∙ (g e f).1 ∙ *ℤ_comm x y))
+      ∙ ap (scaled r) (turned y x)
+
+  share : (x y : ℤ) → Divides r x → (is_missing x ≡ false → is_missing y ≡ false → IsQuotientExact r (x *ℤ pos MILLION) y) → div (scaled r x) y ≡ scaled r (div x y)
+  unfolding div
+  share x y h g =
+      on_both x y (scaled r x) y _ _ (missing-same r ratio x h) refl
+      (λ e f. quotient-scaled r ratio (x *ℤ pos MILLION) (scaled r x *ℤ pos MILLION) y (units.times-by r ratio (scaled r x) x (pos MILLION) (units.exact-times r ratio x (e, h))) (g e f))
+
+  proportions : (x y : ℤ) → Divides r x → Divides r y → div (scaled r x) (scaled r y) ≡ div x y
+  unfolding div
+  proportions x y h i =
+      on_both-same x y (scaled r x) (scaled r y) _ _ (missing-same r ratio x h) (missing-same r ratio y i)
+      (λ e f. quot_same (x *ℤ pos MILLION) (scaled r x *ℤ pos MILLION) y (scaled r y) r.num r.den ratio.0 ratio.1
+      (units.times-by r ratio (scaled r x) x (pos MILLION) (units.exact-times r ratio x (e, h))) (units.exact-times r ratio y (f, i)))
+
+  -- ---- of one cell
+
+  on_one : (x : ℤ) (v' v : ℤ) → Divides r x → (is_missing x ≡ false → v' ≡ scaled r v) → (if is_missing (scaled r x) then MISSING else v') ≡ scaled r (if is_missing x then MISSING else v)
+  on_one x v' v h g = step (is_missing x) refl
+    where
+      step : (b : Bool) → is_missing x ≡ b → (if is_missing (scaled r x) then MISSING else v') ≡ scaled r (if is_missing x then MISSING else v)
+      step true e = rw (missing-same r ratio x h, e) (sym (missing_stays r))
+      step false e = rw (missing-same r ratio x h, e) (g e)
+
+  negated : (x : ℤ) → Divides r x → Divides r (neg x) → GivesCell x x (neg x) → neg (scaled r x) ≡ scaled r (neg x)
+  unfolding neg
+  negated x h w g =
+      on_one x (neg_ℤ (scaled r x)) (neg_ℤ x) h
+      (λ e. by-times r ratio (neg_ℤ (scaled r x)) (neg_ℤ x) (rw e at w) (rw e at (g e e)) (units.times-neg r ratio (scaled r x) x (units.exact-times r ratio x (e, h))))
+
+  size-times : (x : ℤ) → IsExact r x → Times (pos (unsigned_abs (scaled r x))) (pos (unsigned_abs x))
+  size-times x h =
+      let same : unsigned_abs (scaled r x) * r.den ≡ unsigned_abs x * r.num
+      = sym (unsigned_abs-mul (scaled r x) (pos r.den)) ∙ ap unsigned_abs (units.exact-times r ratio x h) ∙ unsigned_abs-mul x (pos r.num) in
+      ap pos same
+
+  abbrev size_of : ℤ → ℤ
+  size_of x = if is_missing x then MISSING else pos (unsigned_abs x)
+
+  sizes : (x : ℤ) → Divides r x → Divides r (size_of x) → size_of (scaled r x) ≡ scaled r (size_of x)
+  sizes x h w =
+      on_one x (pos (unsigned_abs (scaled r x))) (pos (unsigned_abs x)) h
+      (λ e. by-times r ratio (pos (unsigned_abs (scaled r x))) (pos (unsigned_abs x)) (rw e at w) refl (size-times x (e, h)))
+
+  signs : (x : ℤ) → Divides r x → sign (scaled r x) ≡ sign x
+  unfolding sign
+  signs x h = step (is_missing x) refl
+    where
+      step : (b : Bool) → is_missing x ≡ b → sign (scaled r x) ≡ sign x
+      step true e = rw (missing-same r ratio x h, e) refl
+      step false e =
+          let times = units.exact-times r ratio x (e, h) in
+          let below : int_lt (scaled r x) (pos 0) ≡ int_lt x (pos 0) = units.less-same r ratio (scaled r x) (pos 0) x (pos 0) times (units.times-zero r ratio) in
+          let above : int_lt (pos 0) (scaled r x) ≡ int_lt (pos 0) x = units.less-same r ratio (pos 0) (scaled r x) (pos 0) x (units.times-zero r ratio) times in
+          rw (missing-same r ratio x h, e, below, above) refl
+
+  -- ---- one of two
+
+  greater : (x y : ℤ) → Divides r x → Divides r y → maximum (scaled r x) (scaled r y) ≡ scaled r (maximum x y)
+  unfolding maximum
+  greater x y h i =
+      on_both x y (scaled r x) (scaled r y) _ _ (missing-same r ratio x h) (missing-same r ratio y i)
+      (λ e f. (units.max-scaled r ratio x y (e, h) (f, i)).0)
+
+  lesser : (x y : ℤ) → Divides r x → Divides r y → minimum (scaled r x) (scaled r y) ≡ scaled r (minimum x y)
+  unfolding minimum
+  lesser x y h i =
+      on_both x y (scaled r x) (scaled r y) _ _ (missing-same r ratio x h) (missing-same r ratio y i)
+      (λ e f. (units.min-scaled r ratio x y (e, h) (f, i)).0)
+
+  filled : (x y : ℤ) → Divides r x → (if is_missing (scaled r x) then scaled r y else scaled r x) ≡ scaled r (if is_missing x then y else x)
+  filled x y h = step (is_missing x) (missing-same r ratio x h)
+    where
+      step : (b : Bool) → is_missing (scaled r x) ≡ b → (if is_missing (scaled r x) then scaled r y else scaled r x) ≡ scaled r (if b then y else x)
+      step true e = rw e refl
+      step false e = rw e refl
+
+  chosen : (b : Bool) (x y : ℤ) → (if b then scaled r x else scaled r y) ≡ scaled r (if b then x else y)
+  chosen true x y = refl
+  chosen false x y = refl
+
+  kept : (b : Bool) (x : ℤ) → (if b then scaled r x else MISSING) ≡ scaled r (if b then x else MISSING)
+  kept true x = refl
+  kept false x = sym (missing_stays r)
+
+  pub operation-in : {k : PointKind} {mx my mz u : Measure} → OperationRule k mx my mz u → (x y z : ℤ) → IsOf r mx x → IsOf r my y → IsOf r mz z
+      → IsOf r u (pointwise k x y z) → IsOperationExact r k my x y → pointwise k (number_in r mx x) (number_in r my y) (number_in r mz z) ≡ number_in r u (pointwise k x y z)
+  unfolding pointwise
+  operation-in OperationRule.plus x y z h i j w e = sums x y h i e
+  operation-in OperationRule.minus x y z h i j w e = gaps x y h i e
+  operation-in OperationRule.times x y z h i j w e = first-product x y h e
+  operation-in OperationRule.factor x y z h i j w e = product x y i e
+  operation-in OperationRule.over x y z h i j w e = share x y h e
+  operation-in OperationRule.proportion x y z h i j w e = proportions x y h i
+  operation-in OperationRule.negative x y z h i j w e = negated x h w e
+  operation-in OperationRule.magnitude x y z h i j w e = sizes x h w
+  operation-in OperationRule.greater x y z h i j w e = greater x y h i
+  operation-in OperationRule.lesser x y z h i j w e = lesser x y h i
+  operation-in OperationRule.filled x y z h i j w e = filled x y h
+  operation-in OperationRule.chosen x y z h i j w e = chosen (is_true x) y z
+  operation-in OperationRule.kept x y z h i j w e = kept (is_true y) x
+  operation-in (OperationRule.compared {c}) x y z h i j w e = screens-have-no-unit r ratio c x y h i
+  operation-in OperationRule.is_null x y z h i j w e = ap truth (missing-same r ratio x h)
+  operation-in OperationRule.not_null x y z h i j w e = ap truth (units.present-same r ratio x h)
+  operation-in OperationRule.sign x y z h i j w e = signs x h

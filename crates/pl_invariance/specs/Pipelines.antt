@@ -1,0 +1,291 @@
+-- Whole pipelines over prices in another unit.
+use Rattle.std.specs.Prelude.{◌≡◌, ◌≤◌, ◌+◌, ◌-◌, ◌*◌, ◌/◌, ◌&&◌, suc, true, false, ℕ, ℤ, pos, negsuc, ◌*ℤ◌, neg_ℤ, List, [], ◌∷◌, length, map, Option, Some, None}
+use Rattle.std.specs.Int.RustNames.{unsigned_abs}
+use Rattle.std.specs.List.{list_any, range_with_len}
+use Rattle.pl_spec.specs.declared.Column.{Column}
+use Rattle.pl_spec.specs.declared.Column.TheVariants.{Volume}
+use Rattle.pl_spec.specs.declared.Compare.{Compare}
+use Rattle.pl_spec.specs.declared.Frequency.{Frequency}
+use Rattle.pl_spec.specs.Cells.{total, count, present_values}
+use Rattle.pl_spec.specs.Each.{Each}
+use Rattle.pl_spec.specs.Periods.{period_start}
+use Rattle.pl_spec.specs.Rounding.{LIMIT, MILLION, Fraction, is_missing, scaled, add, sub, mul, neg}
+use Rattle.pl_spec.specs.World.{World, exists, living_sids, bar_cell}
+use Rattle.pl_spec.specs.Window.{before, downward, effects}
+use Rattle.pl_pipeline.specs.declared.RankMethod.{RankMethod}
+use Rattle.pl_pipeline.specs.declared.RankOrder.{RankOrder}
+use Rattle.pl_pipeline.specs.declared.Summary.TheVariants as summary
+use Rattle.pl_pipeline.specs.declared.WindowKind.{WindowKind}
+use Rattle.pl_pipeline.specs.declared.WindowKind.TheVariants.{Latest, SimpleMovingAverage, LinearWeightedMovingAverage, WindowSum, WindowMax, WindowMin, WindowStd, BollingerMiddle, Returns, PercentChange, RateOfChangePercentage, RSI, VWAP, AverageDollarVolume, WeightedAverageValue, FastStochasticOscillator, ExponentialWeightedMovingAverage, ExponentialWeightedMovingMean, AroonUp, AroonDown, WindowFirst, AllPresent}
+use Rattle.pl_pipeline.specs.Kind.{Kind, PointKind, CrossKind}
+use Rattle.pl_pipeline.specs.Kind.Kind.{Window, Point, LabelTest, Cross, Downsample}
+use Rattle.pl_pipeline.specs.Kind.PointKind.{Add, Sub, Mul, Div, Neg, Comparison, Abs, FillNa, IsNull, NotNull, IfElse, Sign, Maximum, Minimum, Where}
+use Rattle.pl_pipeline.specs.Kind.CrossKind.{Rank, Demean, ZScore, Quantiles, Top, Bottom, PercentileBetween, Summarize}
+use Rattle.pl_pipeline.specs.Cross.{values, center}
+use Rattle.pl_pipeline.specs.Formula.{FINE, places, products, weights}
+use Rattle.pl_pipeline.specs.Term.{Term, Graph, term_at}
+use Rattle.pl_pipeline.specs.Term.Term.{absent, column, node}
+use Rattle.pl_pipeline.specs.Value.{Value, Operands, View, Own, number_of, seen_from, value_of_part, window_of, passes, eligible, view_of, seen, seen_operands}
+use Rattle.pl_pipeline.specs.Value.Value.{Number, Text}
+use Rattle.pl_pipeline.specs.Table.{NamedColumn, Pipeline, Row, is_kept, kept_sids, table}
+use Rattle.pl_invariance.specs.Exact.{Divides, AllDivide}
+use Rattle.pl_invariance.specs.Priced.{is_price, priced_world}
+use Rattle.pl_invariance.specs.Ranked.{IsExact}
+use Rattle.pl_invariance.specs.Units.{IsRatio, IsUnrounded, IsSpreadExact}
+
+-- what the values of a term are measured in: the unit of prices, or none
+pub data Measure : Type 0 where
+  Price NoUnit : Measure
+
+-- ---- the rules
+
+-- What a formula gives of windows of prices; an input that is absent has no unit, nor have weights.
+pub data FormulaRule : WindowKind → Measure → Measure → Measure → Measure → Type 0 where
+  latest : FormulaRule Latest Price NoUnit NoUnit Price
+  oldest : FormulaRule WindowFirst Price NoUnit NoUnit Price
+  greatest : FormulaRule WindowMax Price NoUnit NoUnit Price
+  least : FormulaRule WindowMin Price NoUnit NoUnit Price
+  sum : FormulaRule WindowSum Price NoUnit NoUnit Price
+  mean : FormulaRule SimpleMovingAverage Price NoUnit NoUnit Price
+  middle : FormulaRule BollingerMiddle Price NoUnit NoUnit Price
+  linear : FormulaRule LinearWeightedMovingAverage Price NoUnit NoUnit Price
+  weighted : FormulaRule WeightedAverageValue Price NoUnit NoUnit Price
+  by_volume : FormulaRule VWAP Price NoUnit NoUnit Price
+  dollar_volume : FormulaRule AverageDollarVolume Price NoUnit NoUnit Price
+  faded : {decay : ℤ} → FormulaRule (ExponentialWeightedMovingAverage decay) Price NoUnit NoUnit Price
+  fine : {decay : ℤ} → FormulaRule (ExponentialWeightedMovingMean decay) Price NoUnit NoUnit Price
+  deviation : FormulaRule WindowStd Price NoUnit NoUnit Price
+  returns : FormulaRule Returns Price NoUnit NoUnit NoUnit
+  change : FormulaRule PercentChange Price NoUnit NoUnit NoUnit
+  rate : FormulaRule RateOfChangePercentage Price NoUnit NoUnit NoUnit
+  strength : FormulaRule RSI Price NoUnit NoUnit NoUnit
+  stochastic : FormulaRule FastStochasticOscillator Price Price Price NoUnit
+  up : FormulaRule AroonUp Price NoUnit NoUnit NoUnit
+  down : FormulaRule AroonDown Price NoUnit NoUnit NoUnit
+  all_present : FormulaRule AllPresent Price NoUnit NoUnit NoUnit
+
+-- What an operation gives. The sum of a price and of a number is of no unit that is known here, and neither
+-- is a price compared with a number.
+pub data OperationRule : PointKind → Measure → Measure → Measure → Measure → Type 0 where
+  plus : OperationRule Add Price Price NoUnit Price
+  minus : OperationRule Sub Price Price NoUnit Price
+  times : OperationRule Mul Price NoUnit NoUnit Price
+  factor : OperationRule Mul NoUnit Price NoUnit Price
+  over : OperationRule Div Price NoUnit NoUnit Price
+  proportion : OperationRule Div Price Price NoUnit NoUnit
+  negative : OperationRule Neg Price NoUnit NoUnit Price
+  magnitude : OperationRule Abs Price NoUnit NoUnit Price
+  greater : OperationRule Maximum Price Price NoUnit Price
+  lesser : OperationRule Minimum Price Price NoUnit Price
+  filled : OperationRule FillNa Price Price NoUnit Price
+  chosen : OperationRule IfElse NoUnit Price Price Price
+  kept : OperationRule Where Price NoUnit NoUnit Price
+  compared : {c : Compare} → OperationRule (Comparison c) Price Price NoUnit NoUnit
+  is_null : OperationRule IsNull Price NoUnit NoUnit NoUnit
+  not_null : OperationRule NotNull Price NoUnit NoUnit NoUnit
+  sign : OperationRule Sign Price NoUnit NoUnit NoUnit
+
+-- what a cross-section of prices gives
+pub data CrossRule : CrossKind → Measure → Type 0 where
+  rank : {method : RankMethod} {order : RankOrder} → CrossRule (Rank method order) NoUnit
+  top : {n : ℕ} → CrossRule (Top n) NoUnit
+  bottom : {n : ℕ} → CrossRule (Bottom n) NoUnit
+  quantiles : {bins : ℕ} → CrossRule (Quantiles bins) NoUnit
+  percentiles : {low high : ℕ} → CrossRule (PercentileBetween low high) NoUnit
+  score : CrossRule ZScore NoUnit
+  distance : CrossRule Demean Price
+  counted : CrossRule (Summarize summary.NotNullCount) NoUnit
+  mean : CrossRule (Summarize summary.Mean) Price
+  sum : CrossRule (Summarize summary.Sum) Price
+  least : CrossRule (Summarize summary.Least) Price
+  greatest : CrossRule (Summarize summary.Greatest) Price
+  deviation : CrossRule (Summarize summary.StdDev) Price
+
+-- What is of terms without a unit has none. Prices that are downsampled are prices.
+pub data Rule : Kind → Measure → Measure → Measure → Measure → Type 0 where
+  pure : {k : Kind} → Rule k NoUnit NoUnit NoUnit NoUnit
+  formula : {k : WindowKind} {x y z u : Measure} → FormulaRule k x y z u → Rule (Window k) x y z u
+  operation : {k : PointKind} {x y z u : Measure} → OperationRule k x y z u → Rule (Point k) x y z u
+  across : {k : CrossKind} {u : Measure} → CrossRule k u → Rule (Cross k) Price NoUnit NoUnit u
+  downsampled : {f : Frequency} → Rule (Downsample f) Price NoUnit NoUnit Price
+
+-- The measure of a term, by the rules; a mask and a group have no unit.
+pub data HasMeasure : Term → Measure → Type 0 where
+  nothing : HasMeasure absent NoUnit
+  volume : HasMeasure (column Volume) NoUnit
+  price : {c : Column} → is_price c ≡ true → HasMeasure (column c) Price
+  term : {k : Kind} {size : ℕ} {x y z m g : Term} {mx my mz u : Measure} → Rule k mx my mz u
+      → HasMeasure x mx → HasMeasure y my → HasMeasure z mz → HasMeasure m NoUnit → HasMeasure g NoUnit
+      → HasMeasure (node k size x y z m g) u
+
+-- ---- where nothing is rounded
+
+-- the quotient of n and m has no rest and is not rounded by the ratio, or there is nothing to divide by
+abbrev pub IsQuotientExact : Fraction → ℤ → ℤ → Type 0
+IsQuotientExact r n (pos m) = IsUnrounded r n m
+IsQuotientExact r n (negsuc m) = IsUnrounded r (neg_ℤ n) (suc m)
+
+-- sums are cells, and quotients have no rest
+abbrev pub IsFormulaExact : Fraction → WindowKind → List ℤ → List ℤ → Type 0
+IsFormulaExact r WindowSum xs ys = unsigned_abs (total (present_values xs)) ≤ LIMIT
+IsFormulaExact r SimpleMovingAverage xs ys = IsUnrounded r (total (present_values xs)) (count xs)
+IsFormulaExact r BollingerMiddle xs ys = IsUnrounded r (total (present_values xs)) (count xs)
+IsFormulaExact r LinearWeightedMovingAverage xs ys =
+    IsUnrounded r (total (products (places xs) xs)) (length xs * (length xs + 1) / 2)
+IsFormulaExact r WeightedAverageValue xs ys =
+    IsQuotientExact r (total (products xs ys)) (total (present_values ys))
+IsFormulaExact r VWAP xs ys = IsQuotientExact r (total (products xs ys)) (total (present_values ys))
+IsFormulaExact r AverageDollarVolume xs ys = IsUnrounded r (total (products xs ys)) (length xs * MILLION)
+IsFormulaExact r (ExponentialWeightedMovingAverage decay) xs ys =
+    let ws = weights MILLION decay (length xs) in
+    list_any is_missing xs ≡ false → IsQuotientExact r (total (products ws xs)) (total ws)
+IsFormulaExact r (ExponentialWeightedMovingMean decay) xs ys =
+    let ws = weights FINE decay (length xs) in
+    list_any is_missing xs ≡ false → IsQuotientExact r (total (products ws xs)) (total ws)
+IsFormulaExact r WindowStd xs ys = IsSpreadExact r (present_values xs)
+IsFormulaExact r k xs ys = Unit {0}
+
+-- what is given of two present values is a cell
+abbrev pub GivesCell : ℤ → ℤ → ℤ → Type 0
+GivesCell x y v = is_missing x ≡ false → is_missing y ≡ false → is_missing v ≡ false
+
+-- the second operand is of the measure
+abbrev pub IsOperationExact : Fraction → PointKind → Measure → ℤ → ℤ → Type 0
+IsOperationExact r Add second x y = GivesCell x y (add x y)
+IsOperationExact r Sub second x y = GivesCell x y (sub x y)
+IsOperationExact r Neg second x y = GivesCell x x (neg x)
+IsOperationExact r Mul second x y =
+    is_missing x ≡ false → is_missing y ≡ false
+    → IsExact r (mul x y) × ((mul x y *ℤ pos MILLION) ≡ (x *ℤ y))
+IsOperationExact r Div NoUnit x y =
+    is_missing x ≡ false → is_missing y ≡ false → IsQuotientExact r (x *ℤ pos MILLION) y
+IsOperationExact r k second x y = Unit {0}
+
+abbrev pub IsCrossExact : Fraction → CrossKind → List ℤ → ℤ → Type 0
+IsCrossExact r ZScore vs x = IsSpreadExact r vs
+IsCrossExact r Demean vs x = IsSpreadExact r vs × GivesCell x x (sub x (center vs))
+IsCrossExact r (Summarize summary.Mean) vs x = IsUnrounded r (total vs) (length vs)
+IsCrossExact r (Summarize summary.Sum) vs x = unsigned_abs (total vs) ≤ LIMIT
+IsCrossExact r (Summarize summary.StdDev) vs x = IsSpreadExact r vs
+IsCrossExact r k vs x = Unit {0}
+
+-- what a kind gives by the rule has no rest
+abbrev pub IsStepExact : Fraction → World → {k : Kind} {x y z u : Measure} → Rule k x y z u → ℕ → Operands
+    → ℕ → ℤ → Type 0
+IsStepExact r w pure size operands a d = Unit {0}
+IsStepExact r w (formula {k} rule) size operands a d =
+    IsFormulaExact r k (window_of w size operands.first a d) (window_of w size operands.second a d)
+IsStepExact r w (operation {k} {y = y} rule) size operands a d =
+    IsOperationExact r k y (number_of (value_of_part operands.first a d))
+    (number_of (value_of_part operands.second a d))
+IsStepExact r w (across {k} rule) size operands a d =
+    IsCrossExact r k (values (eligible w k operands a d)) (number_of (value_of_part operands.first a d))
+IsStepExact r w downsampled size operands a d = Unit {0}
+
+-- what holds of the values of a term, by view, sid and session
+abbrev pub Cells : Type 1
+Cells = View → ℕ → ℤ → Type 0
+
+-- what holds of each value that a kind reads for asset a on session d
+abbrev pub HoldsOfInputs : World → Kind → ℕ → View → (first second third mask group : Cells) → ℕ → ℤ → Type 0
+HoldsOfInputs w (Window k) size view x y z m g a d =
+    Each (λ n. x view a (before d n) × y view a (before d n) × z view a (before d n)) (downward size)
+HoldsOfInputs w (Point k) size view x y z m g a d = x view a d × y view a d × z view a d
+HoldsOfInputs w (LabelTest k) size view x y z m g a d = x view a d
+HoldsOfInputs w (Cross k) size view x y z m g a d =
+    Each (λ b. x view b d × m Own b d × g Own b d) (living_sids w d)
+HoldsOfInputs w (Downsample f) size view x y z m g a d = x view a (period_start f w.days d)
+HoldsOfInputs w k size view x y z m g a d = Unit {0}
+
+-- the ratio does not round a price
+abbrev pub IsWhole : Fraction → Measure → Value → Type 0
+IsWhole r Price v = Divides r (number_of v)
+IsWhole r NoUnit v = Unit {0}
+
+-- Nothing is rounded on the way to what a term is worth for asset a on session d: neither bars and the values
+-- that it reads, nor what it makes of them, nor what the ratio makes of its own value. A column stands for the
+-- bar of the session before.
+abbrev pub NothingIsRounded : Fraction → World → List (List ℕ) → {t : Term} {u : Measure} → HasMeasure t u → View
+    → ℕ → ℤ → Type 0
+NothingIsRounded r w names nothing view a d = Unit {0}
+NothingIsRounded r w names volume view a d = Unit {0}
+NothingIsRounded r w names (price {c} is) view a d =
+    AllDivide r (bar_cell w a c (before d 1)) (effects w a c (before d 1) (seen_from view d))
+NothingIsRounded r w names (term {k} {size} {x} {y} {z} {m} {g} {u = u} rule hx hy hz hm hg) view a d =
+    let t = node k size x y z m g in
+    let operands = seen_operands w names t view d in
+    NothingIsRounded r w names hm Own a d × IsWhole r u (seen w names t view a d)
+    × ((exists w a d && passes operands.mask a d) ≡ true
+    → HoldsOfInputs w k size (view_of k view d) (NothingIsRounded r w names hx) (NothingIsRounded r w names hy)
+    (NothingIsRounded r w names hz) (NothingIsRounded r w names hm) (NothingIsRounded r w names hg) a d
+    × IsStepExact r w rule size operands a d)
+
+-- ---- the laws
+
+-- a price in the other unit
+abbrev pub in_unit : Fraction → Measure → Value → Value
+in_unit r Price (Number x) = Number (scaled r x)
+in_unit r Price (Text t) = Text t
+in_unit r NoUnit v = v
+
+-- Where nothing is rounded, a term of the price's unit is multiplied by the ratio, and a term without a unit
+-- is the same.
+abbrev pub PipelinesHaveUnits : Type 0
+PipelinesHaveUnits = (r : Fraction) (w : World) (names : List (List ℕ)) (t : Term) (u : Measure) → IsRatio r
+    → (h : HasMeasure t u) (view : View) (a : ℕ) (d : ℤ) → NothingIsRounded r w names h view a d
+    → seen (priced_world r w) names t view a d ≡ in_unit r u (seen w names t view a d)
+
+-- ---- of tables
+
+-- the columns have these measures, one for each
+abbrev pub HaveMeasures : Graph → List NamedColumn → List Measure → Type 0
+HaveMeasures g [] [] = Unit {0}
+HaveMeasures g [] (u ∷ us) = ⊥
+HaveMeasures g (c ∷ cs) [] = ⊥
+HaveMeasures g (c ∷ cs) (u ∷ us) = HasMeasure (term_at g c.term) u × HaveMeasures g cs us
+
+-- a screen has no unit
+abbrev pub HasNoUnit : Graph → Option ℕ → Type 0
+HasNoUnit g None = Unit {0}
+HasNoUnit g (Some t) = HasMeasure (term_at g t) NoUnit
+
+pub record HasMeasures (p : Pipeline) (us : List Measure) : Type 0 where
+  pub columns : HaveMeasures p.graph p.columns us
+  pub screen : HasNoUnit p.graph p.screen
+
+abbrev pub AreUnrounded : Fraction → World → List (List ℕ) → (g : Graph) (cs : List NamedColumn) (us : List Measure)
+    → HaveMeasures g cs us → ℕ → ℤ → Type 0
+AreUnrounded r w names g (c ∷ cs) (u ∷ us) h a d =
+    NothingIsRounded r w names h.0 Own a d × AreUnrounded r w names g cs us h.1 a d
+AreUnrounded r w names g [] us h a d = Unit {0}
+AreUnrounded r w names g (c ∷ cs) [] h a d = Unit {0}
+
+abbrev pub IsScreenUnrounded : Fraction → World → List (List ℕ) → (g : Graph) (o : Option ℕ) → HasNoUnit g o → ℕ → ℤ
+    → Type 0
+IsScreenUnrounded r w names g None h a d = Unit {0}
+IsScreenUnrounded r w names g (Some t) h a d = NothingIsRounded r w names h Own a d
+
+-- nothing is rounded on session d: not in the screen, nor in the columns of the assets that it keeps
+abbrev pub IsSessionUnrounded : Fraction → World → (p : Pipeline) (us : List Measure) → HasMeasures p us → ℤ → Type 0
+IsSessionUnrounded r w p us h d =
+    Each (λ a. IsScreenUnrounded r w p.names p.graph p.screen h.screen a d
+    × (is_kept w p p.screen d a ≡ true → AreUnrounded r w p.names p.graph p.columns us h.columns a d)) (living_sids w d)
+
+abbrev pub in_units : Fraction → List Measure → List Value → List Value
+in_units r (u ∷ us) (v ∷ vs) = in_unit r u v ∷ in_units r us vs
+in_units r [] vs = []
+in_units r (u ∷ us) [] = []
+
+-- a row of the same session and sid, with the prices in the other unit
+abbrev pub priced_row : Fraction → List Measure → Row → Row
+priced_row r us row = record row { values = in_units r us row.values }
+
+-- Where nothing is rounded, the screen keeps the same assets, and each column of the price's unit is multiplied
+-- by the ratio; all others are the same.
+pub record TablesHaveUnits : Type 0 where
+  pub sids : (r : Fraction) (w : World) (p : Pipeline) (us : List Measure) → IsRatio r → (h : HasMeasures p us) (d : ℤ)
+      → IsSessionUnrounded r w p us h d
+      → kept_sids (priced_world r w) p d ≡ kept_sids w p d
+  pub rows : (r : Fraction) (w : World) (p : Pipeline) (us : List Measure) → IsRatio r → (h : HasMeasures p us)
+      (from to : ℕ) → Each (λ d. IsSessionUnrounded r w p us h (pos d)) (range_with_len from (suc to - from))
+      → table (priced_world r w) p from to ≡ map (priced_row r us) (table w p from to)
