@@ -17,7 +17,7 @@ pub data PointKind : Type 0 where
   Log Exp Sqrt Sign Maximum Minimum Where : PointKind
 
 pub data LabelKind : Type 0 where
-  LabelIs LabelIsNot StartsWith EndsWith : (text : List ℕ) → LabelKind
+  LabelIs LabelIsNot StartsWith EndsWith HasSubstring : (text : List ℕ) → LabelKind
   ElementOf : (texts : List (List ℕ)) → LabelKind
 
 -- the bounds of PercentileBetween are hundredths of a percent, those of Winsorize millionths

@@ -1,6 +1,6 @@
 -- The operations on the values of one asset and session.
-use Rattle.std.specs.Prelude.{ℕ, Bool, ◌&&◌, ◌||◌, not, if◌then◌else◌, ℤ, pos, ◌*ℤ◌, List, bytes_eq, nat_eq}
-use Rattle.std.specs.List.{list_any, starts_with, ends_with}
+use Rattle.std.specs.Prelude.{ℕ, ◌+◌, Bool, ◌&&◌, ◌||◌, not, if◌then◌else◌, ℤ, pos, ◌*ℤ◌, List, length, drop, bytes_eq, nat_eq}
+use Rattle.std.specs.List.{list_any, starts_with, ends_with, range_with_len}
 use Rattle.std.specs.Int.RustNames.{unsigned_abs}
 use Rattle.std.specs.Int.{int_max, int_min}
 use Rattle.std.specs.Ordering.{int_eq}
@@ -9,7 +9,7 @@ use Rattle.pl_spec.specs.Cells.{truth, is_true, comparison}
 use Rattle.pl_pipeline.specs.Elementary.{log, exp, sqrt, sign, maximum, minimum}
 use Rattle.pl_pipeline.specs.Kind.{PointKind, LabelKind}
 use Rattle.pl_pipeline.specs.Kind.PointKind.{Add, Sub, Mul, Div, Neg, Comparison, And, Or, Not, Abs, Clip, FillNa, IsNull, NotNull, IfElse, NumberIs, NumberIsNot, Log, Exp, Sqrt, Sign, Maximum, Minimum, Where}
-use Rattle.pl_pipeline.specs.Kind.LabelKind.{LabelIs, LabelIsNot, StartsWith, EndsWith, ElementOf}
+use Rattle.pl_pipeline.specs.Kind.LabelKind.{LabelIs, LabelIsNot, StartsWith, EndsWith, HasSubstring, ElementOf}
 
 -- the number of a numbered classifier is a whole number, and compared with one in millionths
 abbrev pub is_number : ℤ → ℤ → Bool
@@ -41,10 +41,15 @@ pointwise Maximum x y z = maximum x y
 pointwise Minimum x y z = minimum x y
 pointwise Where x y z = if is_true y then x else MISSING
 
+-- the text stands somewhere in the label
+unfoldable pub has_substring : List ℕ → List ℕ → Bool
+has_substring text t = list_any (λ n. starts_with nat_eq (drop n t) text) (range_with_len 0 (length t + 1))
+
 -- what is asked of a label's text
 unfoldable pub label_test : LabelKind → List ℕ → Bool
 label_test (LabelIs text) t = bytes_eq t text
 label_test (LabelIsNot text) t = not (bytes_eq t text)
 label_test (StartsWith text) t = starts_with nat_eq t text
 label_test (EndsWith text) t = ends_with nat_eq t text
+label_test (HasSubstring text) t = has_substring text t
 label_test (ElementOf texts) t = list_any (bytes_eq t) texts

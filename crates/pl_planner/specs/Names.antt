@@ -47,6 +47,7 @@ label_name (kind.LabelIs text) = codes "LabelIs"
 label_name (kind.LabelIsNot text) = codes "LabelIsNot"
 label_name (kind.StartsWith text) = codes "StartsWith"
 label_name (kind.EndsWith text) = codes "EndsWith"
+label_name (kind.HasSubstring text) = codes "HasSubstring"
 label_name (kind.ElementOf texts) = codes "ElementOf"
 
 abbrev pub summary_name : Summary → List ℕ

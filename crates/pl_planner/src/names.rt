@@ -85,6 +85,7 @@ fn other_name(kind: &TermKind) -> &'static str
         TermKind::Summarize { summary } => summary_name(*summary),
         TermKind::StartsWith { .. } => "StartsWith",
         TermKind::EndsWith { .. } => "EndsWith",
+        TermKind::HasSubstring { .. } => "HasSubstring",
         TermKind::ElementOf { .. } => "ElementOf",
         TermKind::Downsample { .. } => "Downsample",
         _ => "",

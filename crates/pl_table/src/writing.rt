@@ -70,6 +70,7 @@ fn writing_of_kind(kind: &TermKind) -> Writing
         | TermKind::PercentileBetween { .. }
         | TermKind::StartsWith { .. }
         | TermKind::EndsWith { .. }
+        | TermKind::HasSubstring { .. }
         | TermKind::ElementOf { .. } => Writing::Truth,
         TermKind::LabelIs { label } | TermKind::LabelIsNot { label } => writing_of_test(label),
         _ => Writing::Cell,

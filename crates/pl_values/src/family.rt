@@ -75,9 +75,10 @@ pub fn family_of(kind: &TermKind) -> Family
         | TermKind::Winsorize { .. }
         | TermKind::Scale
         | TermKind::Summarize { .. } => Family::Section,
-        TermKind::StartsWith { .. } | TermKind::EndsWith { .. } | TermKind::ElementOf { .. } => {
-            Family::LabelTest
-        }
+        TermKind::StartsWith { .. }
+        | TermKind::EndsWith { .. }
+        | TermKind::HasSubstring { .. }
+        | TermKind::ElementOf { .. } => Family::LabelTest,
         TermKind::LabelIs { label } | TermKind::LabelIsNot { label } => compared(label),
         TermKind::Downsample { frequency } => Family::Downsample(*frequency),
         _ => Family::Window,
@@ -143,6 +144,7 @@ fn is_filter(kind: &TermKind) -> bool
         | TermKind::PercentileBetween { .. }
         | TermKind::StartsWith { .. }
         | TermKind::EndsWith { .. }
+        | TermKind::HasSubstring { .. }
         | TermKind::ElementOf { .. } => true,
         _ => false,
     }

@@ -327,6 +327,10 @@ class CustomClassifier(Custom, Classifier):
         """True where the label ends with `suffix`."""
         return Text.endswith(self._text(), suffix)
 
+    def has_substring(self, substring: str) -> Filter:
+        """True where the label holds `substring`."""
+        return Text.has_substring(self._text(), substring)
+
     def _text(self) -> Any:
         if self._kind is Whole:
             raise TypeError(f"{self!r} has whole numbers, which have no beginning and no end: write .eq or .element_of")

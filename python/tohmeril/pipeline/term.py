@@ -685,6 +685,10 @@ class Text(Classifier):
         """True where the label ends with `suffix`."""
         return Filter(MEMBER, "endswith", self, suffix)
 
+    def has_substring(self, substring: str) -> Filter:
+        """True where the label holds `substring`."""
+        return Filter(MEMBER, "has_substring", self, substring)
+
     def element_of(self, choices: Iterable[str]) -> Filter:
         """True where the label is one of `choices`."""
         return joined_by_or(lambda some: Filter(MEMBER, "element_of", self, *some), choices, 100)
@@ -761,7 +765,7 @@ _ABSENT = {
         "fillna": "isnull()",
         "__getitem__": "a filter of the label, and the asset's rows of the table",
     },
-    Text: {"matches has_substring": "startswith, endswith, element_of"},
+    Text: {"matches": "startswith, endswith, has_substring, element_of"},
     Filter: {"__getitem__": "f.if_else(1, 0)[asset], which is 1 where the filter is true of the asset"},
 }
 _SIGNS = {"__getitem__": "y[asset]", "__mod__": "y % z", "__floordiv__": "y // z"}

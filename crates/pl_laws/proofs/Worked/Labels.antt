@@ -51,6 +51,10 @@ labels_that_end_so : tested (LabelKind.EndsWith (codes "Gas")) ≡ Number (pos 0
 unfolding tested of_sectors label opened
 labels_that_end_so = refl
 
+labels_that_have_it : tested (LabelKind.HasSubstring (codes ", ")) ≡ Number (pos 0) ∷ Number (pos 0) ∷ Number (pos 1) ∷ Number (pos 0) ∷ []
+unfolding tested of_sectors label opened
+labels_that_have_it = refl
+
 labels_among_some : tested (LabelKind.ElementOf (codes "Oil" ∷ codes "tech" ∷ [])) ≡ Number (pos 1) ∷ Number (pos 1) ∷ Number (pos 0) ∷ Number (pos 0) ∷ []
 unfolding tested of_sectors label opened
 labels_among_some = refl

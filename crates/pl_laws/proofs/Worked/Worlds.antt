@@ -30,7 +30,7 @@ use Rattle.pl_pipeline.specs.Text.{text}
 
 -- a proof that unfolds this opens all that the examples compute with
 unfoldable pub opened : Unit {0}
-unfolding div_round to_cell quot add sub mul div neg scaled root_by isqrt seen_cell formula size_by log_bits log series exp sqrt sign maximum minimum pointwise label_test cross kind_value seen value reach month_number period_start decimal_digits digits date_text cell_text text
+unfolding div_round to_cell quot add sub mul div neg scaled root_by isqrt seen_cell formula size_by log_bits log series exp sqrt sign maximum minimum pointwise has_substring label_test cross kind_value seen value reach month_number period_start decimal_digits digits date_text cell_text text
 opened = tt
 
 -- ---- worlds

@@ -56,6 +56,7 @@ returns-in_default c = absurd (each c.args.kind.now refl c.requires)
     each kind.PeerCount e w = c.in_default.not-PeerCount e
     each (kind.StartsWith x) e w = c.in_default.not-StartsWith x e
     each (kind.EndsWith x) e w = c.in_default.not-EndsWith x e
+    each (kind.HasSubstring x) e w = c.in_default.not-HasSubstring x e
     each (kind.ElementOf x) e w = c.in_default.not-ElementOf x e
     each (kind.Downsample x) e w = c.in_default.not-Downsample x e
     each kind.Where e w = c.in_default.not-Where e

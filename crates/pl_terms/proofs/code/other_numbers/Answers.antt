@@ -53,6 +53,7 @@ windowed c (kind.PercentileBetween x y) e w = c.in_default.not-PercentileBetween
 windowed c kind.PeerCount e w = c.in_default.not-PeerCount e
 windowed c (kind.StartsWith x) e w = c.in_default.not-StartsWith x e
 windowed c (kind.EndsWith x) e w = c.in_default.not-EndsWith x e
+windowed c (kind.HasSubstring x) e w = c.in_default.not-HasSubstring x e
 windowed c (kind.ElementOf x) e w = c.in_default.not-ElementOf x e
 windowed c (kind.Downsample x) e w = c.in_default.not-Downsample x e
 windowed c kind.Where e w = c.in_default.not-Where e

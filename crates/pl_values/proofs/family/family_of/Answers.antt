@@ -22,6 +22,7 @@ returns-in_default c = each c.args.kind.now refl
     each (kind.Bottom n) e = absurd (c.in_default.not-Bottom n e)
     each (kind.StartsWith text) e = absurd (c.in_default.not-StartsWith text e)
     each (kind.EndsWith text) e = absurd (c.in_default.not-EndsWith text e)
+    each (kind.HasSubstring text) e = absurd (c.in_default.not-HasSubstring text e)
     each (kind.ElementOf texts) e = absurd (c.in_default.not-ElementOf texts e)
     each (kind.Downsample frequency) e = absurd (c.in_default.not-Downsample frequency e)
     each (kind.Clip low high) e = absurd (c.in_default.not-Clip low high e)
