@@ -1,12 +1,12 @@
 //! What a text names of a few: a method of ranks, an order, a frequency.
 ghost use Rattle.std.specs.Prelude.{◌≡◌};
-ghost use Rattle.pl_check.specs.Results as spec;
+ghost use Rattle.pl_check.specs.Given as spec;
 
 use pl_pipeline::{RankMethod, RankOrder};
 use pl_spec::Frequency;
 
 /// The method of ranks that a text names.
-#[tactic(auto, unfolding(crate::specs::Results::method_of))]
+#[tactic(auto, unfolding(crate::specs::Given::method_of))]
 pub(crate) fn method_of(text: &[u8]) -> RankMethod
     ensures { result ≡ spec.method_of text.now }
 {
@@ -24,7 +24,7 @@ pub(crate) fn method_of(text: &[u8]) -> RankMethod
 }
 
 /// The order that a text names.
-#[tactic(auto, unfolding(crate::specs::Results::order_of))]
+#[tactic(auto, unfolding(crate::specs::Given::order_of))]
 pub(crate) fn order_of(text: &[u8]) -> RankOrder
     ensures { result ≡ spec.order_of text.now }
 {
@@ -36,7 +36,7 @@ pub(crate) fn order_of(text: &[u8]) -> RankOrder
 }
 
 /// The frequency that a text names.
-#[tactic(auto, unfolding(crate::specs::Results::frequency_of))]
+#[tactic(auto, unfolding(crate::specs::Given::frequency_of))]
 pub(crate) fn frequency_of(text: &[u8]) -> Frequency
     ensures { result ≡ spec.frequency_of text.now }
 {

@@ -1,33 +1,14 @@
-//! Summaries, and shares of 1: what they are given, and what they are.
+//! Summaries, and shares of 1: what they are given.
 ghost use Rattle.std.specs.Prelude.{◌≡◌, ◌<◌};
 ghost use Rattle.pl_check.specs.Results as spec;
-ghost use Rattle.pl_check.specs.Seen.{value_of, bounds_of};
+ghost use Rattle.pl_check.specs.Seen.{bounds_of};
 ghost use Rattle.pl_check.specs.Standing.{AreSmall};
-ghost use Rattle.pl_check.specs.declared.operation.Operation.TheVariants.{Summarize};
 
 use crate::operation::Parameter;
-use crate::results::{all_safe, factor, percent_given};
+use crate::results::percent_given;
 use crate::rules::number_given;
-use crate::value::{Bound, Value};
-use pl_terms::{Summary, TermId};
-
-/// What the term of a summary is: a count may be in a window, others where what is given may.
-#[tactic(auto, unfolding(crate::specs::Results::result_for, crate::specs::Results::kind_for, pl_terms::specs::Sorts::sort_of, pl_terms::specs::Sorts::is_safe_kind, pl_terms::specs::Sorts::is_safe_over))]
-pub(crate) fn summary_result<'a>(summary: Summary, bound: &[Bound<'a>], term: TermId) -> Value<'a>
-    ensures { value_of result
-        ≡ spec.result_for (Summarize summary) (bounds_of bound.entry.now) term.0 }
-{
-    match summary {
-        Summary::NotNullCount => factor(term, true),
-        Summary::Mean
-        | Summary::StdDev
-        | Summary::Sum
-        | Summary::Least
-        | Summary::Greatest
-        | Summary::Median
-        | Summary::Percentile { .. } => factor(term, all_safe(bound)),
-    }
-}
+use crate::value::Bound;
+use pl_terms::Summary;
 
 /// A share of 1, which is given in millionths.
 pub(crate) fn share_given(bound: &[Bound], parameter: Parameter) -> u32

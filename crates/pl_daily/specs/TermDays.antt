@@ -20,8 +20,8 @@ use Rattle.pl_terms.specs.Nodes.{node_of}
 use Rattle.pl_terms.specs.Sorts.{is_windowed}
 use Rattle.pl_values.specs.Arrays.{cell_of, HasAll, Fills, IsKeep}
 use Rattle.pl_values.specs.Laws.{IsGivenCell}
-use Rattle.pl_values.specs.declared.family.Family.{Family}
-use Rattle.pl_values.specs.declared.family.Family.TheVariants as families
+use Rattle.pl_terms.specs.declared.row.Family.{Family}
+use Rattle.pl_terms.specs.declared.row.Family.TheVariants as families
 use Rattle.pl_daily.specs.Days.{Start, FedDay, fed, IsStart, AreFed}
 use Rattle.pl_daily.specs.Changes.{AreRings, ring_at}
 use Rattle.pl_daily.specs.Columns.{rings_of}

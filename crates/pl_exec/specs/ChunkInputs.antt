@@ -15,8 +15,8 @@ use Rattle.pl_pipeline.specs.Graph.{contains, columns_at, input_column}
 use Rattle.pl_assets.specs.Labels.{AreLabels}
 use Rattle.pl_cross.specs.Arrays.{HasTexts}
 use Rattle.pl_values.specs.Inputs.{input_window, IsEntryRow}
-use Rattle.pl_values.specs.declared.family.Family.{Family}
-use Rattle.pl_values.specs.declared.family.Family.TheVariants as families
+use Rattle.pl_terms.specs.declared.row.Family.{Family}
+use Rattle.pl_terms.specs.declared.row.Family.TheVariants as families
 use Rattle.pl_terms.specs.Checked.{IsChecked, pipeline_of}
 use Rattle.pl_terms.specs.Nodes.{node_of}
 use Rattle.pl_terms.specs.declared.node.Node.{Node}

@@ -29,7 +29,7 @@ use Rattle.pl_cross.specs.Arrays.{HasTexts}
 use Rattle.pl_cross.specs.Section.{is_section}
 use Rattle.pl_values.specs.Arrays.{cell_of, empty_cell, is_kept, chosen}
 use Rattle.pl_values.specs.Views.{seen_of, input_seen, operand_seen, keeps_kind, AreWindowsSeen}
-use Rattle.pl_values.specs.declared.family.Family.TheVariants as family
+use Rattle.pl_terms.specs.declared.row.Family.TheVariants as family
 use Rattle.pl_values.specs.Families.{IsOf, IsCode, TakesWindows, windowed, sid_flag, label_code, code_flag, is_point}
 use Rattle.pl_values.specs.Laws.{IsNode}
 use Rattle.pl_values.proofs.Viewed.{unkept-seen, kept-cell, seen-window-cell, seen-point-cell}

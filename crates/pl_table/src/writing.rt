@@ -1,13 +1,13 @@
 //! How the values of a term are written.
 ghost use Rattle.std.specs.Prelude.{◌≡◌, ◌<◌, Some, length, slice_get};
-ghost use Rattle.pl_terms.specs.Kinds.{is_kind, is_not_kind, kind_of};
+ghost use Rattle.pl_terms.specs.Kinds.{kind_of};
 ghost use Rattle.pl_terms.specs.Nodes.{graph_of};
 ghost use Rattle.pl_terms.specs.Sorts.{sort_at, sort_of};
 ghost use Rattle.pl_terms.specs.Checked.{pipeline_of};
 ghost use Rattle.pl_table.specs.Fields.{sort_written};
 ghost use Rattle.pl_table.specs.Writings.{AreWritings};
 
-use pl_terms::{Checked, Graph, LabelValue, TermId, TermKind, sorting_kind};
+use pl_terms::{Checked, Graph, Sort, TermId, TermKind, kind_row, sorting_kind};
 
 /// The form of a value: the cell of a factor with six decimals, `true` or `false` of a filter, the whole
 /// number of a numbered classifier, or the text of a label.
@@ -42,49 +42,14 @@ pub fn writing_of(graph: &Graph, term: TermId) -> Writing
     }
 }
 
-#[tactic(auto, unfolding(pl_terms::specs::Kinds::kind_of, pl_terms::specs::Sorts::sort_of))]
+#[tactic(auto, unfolding(pl_terms::specs::Sorts::sort_of))]
 fn writing_of_kind(kind: &TermKind) -> Writing
     ensures { sort_of (kind_of kind.now) ≡ sort_written result }
 {
-    match kind {
-        TermKind::Label { .. } => Writing::Label,
-        TermKind::Quantiles { .. } => Writing::Whole,
-        TermKind::StaticSids { .. }
-        | TermKind::All
-        | TermKind::Any
-        | TermKind::AtLeastN { .. }
-        | TermKind::AllPresent
-        | TermKind::And
-        | TermKind::Or
-        | TermKind::Not
-        | TermKind::IsNull
-        | TermKind::NotNull
-        | TermKind::Less
-        | TermKind::LessEqual
-        | TermKind::Greater
-        | TermKind::GreaterEqual
-        | TermKind::Equal
-        | TermKind::NotEqual
-        | TermKind::Top { .. }
-        | TermKind::Bottom { .. }
-        | TermKind::PercentileBetween { .. }
-        | TermKind::StartsWith { .. }
-        | TermKind::EndsWith { .. }
-        | TermKind::HasSubstring { .. }
-        | TermKind::ElementOf { .. } => Writing::Truth,
-        TermKind::LabelIs { label } | TermKind::LabelIsNot { label } => writing_of_test(label),
-        _ => Writing::Cell,
-    }
-}
-
-// Tests of texts and of numbers are filters both.
-#[tactic(auto, unfolding(pl_terms::specs::Sorts::sort_of))]
-fn writing_of_test(label: &LabelValue) -> Writing
-    ensures is { sort_of (is_kind label.now) ≡ sort_written result }
-    ensures is_not { sort_of (is_not_kind label.now) ≡ sort_written result }
-{
-    match label {
-        LabelValue::Text(_) => Writing::Truth,
-        LabelValue::Number(_) => Writing::Truth,
+    match kind_row(kind).sort {
+        Sort::Factors => Writing::Cell,
+        Sort::Filters => Writing::Truth,
+        Sort::Numbers => Writing::Whole,
+        Sort::Labels => Writing::Label,
     }
 }

@@ -1,5 +1,5 @@
 -- What may stand in a window is the same from wherever it is seen.
-use Rattle.std.proofs.Common.{◌≡◌, ℕ, true, ◌&&◌, length, Option, Some, None, slice_get, refl, sym, ◌∙◌, ap}
+use Rattle.std.proofs.Common.{◌≡◌, ℕ, true, ◌&&◌, Option, Some, None, slice_get, refl, sym, ◌∙◌, ap}
 use Rattle.std.proofs.lemmas.Bool.{and_from, or_left, or_right}
 use Rattle.pl_pipeline.specs.Kind as kind
 use Rattle.pl_pipeline.specs.Kind.{Kind, PointKind}

@@ -3,17 +3,21 @@ use Rattle.std.proofs.Common.{◌≡◌, ℕ, Bool, true, false, if◌then◌els
 use Rattle.std.specs.Prelude.{unsigned_abs}
 use Rattle.std.specs.List.{list_any}
 use Rattle.std.proofs.lemmas.Bool.{true≢false}
-use Rattle.pl_spec.specs.Rounding.{IsCell, is_missing}
+use Rattle.pl_spec.specs.Rounding.{MISSING, IsCell, is_missing}
+use Rattle.pl_pipeline.specs.Value.{Number, number_of, empty, is_window_filter, is_point_filter}
 use Rattle.pl_pipeline.specs.Kind.{Kind, PointKind, LabelKind, CrossKind}
 use Rattle.pl_pipeline.specs.declared.WindowKind.{WindowKind}
+use Rattle.pl_pipeline.specs.Kind.CrossKind.{Demean}
 use Rattle.pl_pipeline.specs.Kind.Kind.{StaticSids, Window, Point, LabelTest, Cross, Downsample}
 use Rattle.pl_spec.specs.declared.Frequency.{Frequency}
 use Rattle.pl_spec.specs.Cells.{truth}
 use Rattle.pl_pipeline.specs.Pointwise.{label_test}
 use Rattle.pl_pipeline.proofs.Cells.{zero-cell, truth-cell}
-use Rattle.pl_terms.specs.Sorts.{is_downsampled, is_windowed}
+use Rattle.pl_terms.specs.Rows.{kind_row, cross_sort}
+use Rattle.pl_terms.specs.Sorts.{Sort, Factors, Filters, is_downsampled, is_windowed}
 use Rattle.pl_cross.specs.Section.{is_section}
-use Rattle.pl_values.specs.Families.{is_sids, is_point, is_label_test, sid_flag, code_flag}
+use Rattle.pl_values.specs.Views.{keeps_kind}
+use Rattle.pl_values.specs.Families.{IsOf, is_sids, is_point, is_label_test, sid_flag, code_flag}
 
 pub sids_kind : (k : Kind) → is_sids k ≡ true → (own : List ℕ) × (k ≡ StaticSids own)
 sids_kind (StaticSids own) e = (own, refl)
@@ -50,3 +54,34 @@ code_flag_cell texts k x e = let s = label_test_kind k e in subst (λ y. IsCell 
     here : (b : Bool) → IsCell (if b then pos 0 else truth (label_test (label_test_kind k e).0 (get_or texts (unsigned_abs x) [])))
     here true = zero-cell
     here false = truth-cell _
+
+-- ---- rows
+
+-- the family of a kind's row is its own
+pub family-own : (k : Kind) → IsOf k (kind_row k).family
+family-own (Window f) = refl
+family-own k = refl
+
+-- a kind keeps its values where its row says so
+pub keeps-own : (k : Kind) → (kind_row k).keeps_values ≡ keeps_kind k
+keeps-own (Window f) = refl
+keeps-own k = refl
+
+-- what stands in the place of a value, by the sort of the row
+abbrev pub empty_number : Sort → ℤ
+empty_number Filters = pos 0
+empty_number s = MISSING
+
+either-sorted : (b : Bool) → number_of (if b then Number (pos 0) else Number MISSING) ≡ empty_number (if b then Filters else Factors)
+either-sorted true = refl
+either-sorted false = refl
+
+cross-sorted : (f : CrossKind) → number_of (empty (Cross f)) ≡ empty_number (cross_sort f)
+cross-sorted Demean = refl
+cross-sorted f = refl
+
+pub empty-sorted : (k : Kind) → number_of (empty k) ≡ empty_number (kind_row k).sort
+empty-sorted (Window f) = either-sorted (is_window_filter f)
+empty-sorted (Point f) = either-sorted (is_point_filter f)
+empty-sorted (Cross f) = cross-sorted f
+empty-sorted k = refl

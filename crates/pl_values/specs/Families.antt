@@ -14,8 +14,8 @@ use Rattle.pl_factors.specs.Kinds.{IsWindowFactor, takes_pairs}
 use Rattle.pl_factors.specs.Filters.{IsWindowFilter, AreValues}
 use Rattle.pl_terms.specs.Sorts.{is_windowed}
 use Rattle.pl_cross.specs.Section.{is_section}
-use Rattle.pl_values.specs.declared.family.Family.{Family}
-use Rattle.pl_values.specs.declared.family.Family.TheVariants as family
+use Rattle.pl_terms.specs.declared.row.Family.{Family}
+use Rattle.pl_terms.specs.declared.row.Family.TheVariants as family
 
 abbrev pub is_sids : Kind → Bool
 is_sids (spec.StaticSids sids) = true

@@ -16,11 +16,12 @@ mod sections;
 mod sids;
 mod windows;
 
-pub use family::{Family, empty_value, family_of};
+pub use family::{empty_value, family_of};
 pub use keeping::{is_one, keep_values, truth_of};
 pub use labels::{label_test_value, label_test_values, label_value};
 pub use moving::keeps_values;
 pub use node::{group_of, input_at, inputs_of, kind_of, mask_of, window_of};
+pub use pl_terms::Family;
 pub use points::point_value;
 pub use sections::section_values;
 pub use sids::sids_value;

@@ -3,7 +3,7 @@ use Rattle.std.proofs.lemmas.Int.{to_z-of_z}
 use Rattle.pl_spec.specs.Rounding.{IsCell}
 use Rattle.pl_terms.specs.Kinds.{kind_of}
 use Rattle.pl_values.specs.Families.{IsOf, sid_flag}
-use Rattle.pl_values.specs.declared.family.Family.TheVariants as family
+use Rattle.pl_terms.specs.declared.row.Family.TheVariants as family
 use Rattle.pl_explain.specs.Given.{sid_in}
 use Rattle.pl_world.proofs.Evaluated.{sid-of, label-named, number-named}
 use Rattle.pl_explain.proofs.Worths.{constant-stated, label-stated, number-stated, sids-stated}

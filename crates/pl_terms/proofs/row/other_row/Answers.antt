@@ -4,14 +4,14 @@ use Rattle.pl_terms.specs.Kinds.{kind_of}
 use Rattle.pl_terms.specs.Windows.{window_in}
 use Rattle.pl_terms.specs.declared.kind.TermKind.{TermKind}
 use Rattle.pl_terms.specs.declared.kind.TermKind.TheVariants as kind
-use Rattle.pl_terms.proofs.code.other_numbers.Goals as goal
+use Rattle.pl_terms.proofs.row.other_row.Goals as goal
 
 abbrev is_some : Option WindowKind → Bool
 is_some (Some k) = true
 is_some None = false
 
 -- a kind that is none of those before is over a window
-windowed : (c : goal.After-plain-in_default) (k : TermKind) → c.args.kind.now ≡ k → window_in (kind_of k) ≡ None → ⊥
+windowed : (c : goal.After-number-in_default) (k : TermKind) → c.args.kind.now ≡ k → window_in (kind_of k) ≡ None → ⊥
 unfolding kind_of
 windowed c (kind.Const x) e w = c.in_default.not-Const x e
 windowed c (kind.Label x) e w = c.in_default.not-Label x e
@@ -64,5 +64,20 @@ windowed c (kind.LabelIs l) e w = c.in_default.not-LabelIs l e
 windowed c (kind.LabelIsNot l) e w = c.in_default.not-LabelIsNot l e
 windowed c k e w = let bad : true ≡ false = ap is_some w in cc
 
-pub returns-in_default : goal.returns-in_default
-returns-in_default c = absurd (windowed c c.args.kind.now refl c.requires)
+pub returns-in_default-clause-name : goal.returns-in_default-clause-name
+returns-in_default-clause-name c = absurd (windowed c c.args.kind.now refl c.requires)
+
+pub returns-in_default-clause-family : goal.returns-in_default-clause-family
+returns-in_default-clause-family c = absurd (windowed c c.args.kind.now refl c.requires)
+
+pub returns-in_default-clause-sort : goal.returns-in_default-clause-sort
+returns-in_default-clause-sort c = absurd (windowed c c.args.kind.now refl c.requires)
+
+pub returns-in_default-clause-is_safe : goal.returns-in_default-clause-is_safe
+returns-in_default-clause-is_safe c = absurd (windowed c c.args.kind.now refl c.requires)
+
+pub returns-in_default-clause-is_safe_over : goal.returns-in_default-clause-is_safe_over
+returns-in_default-clause-is_safe_over c = absurd (windowed c c.args.kind.now refl c.requires)
+
+pub returns-in_default-clause-keeps_values : goal.returns-in_default-clause-keeps_values
+returns-in_default-clause-keeps_values c = absurd (windowed c c.args.kind.now refl c.requires)
