@@ -24,9 +24,9 @@ from ._results import MISSING, MOST, Records, TooMany, as_labels, to_millionths
 from ._windows import Windows
 from .data import HEADERS, Data, records
 from .faults import ComputeFault, DataFault, LimitFault
-from .pipeline.custom import Custom, Whole, bars_of, custom_of, new_out, output_of, parts_of
+from .pipeline.custom import Custom, bars_of, custom_of, new_out, output_of, parts_of
 from .pipeline.script import Script, without_alias
-from .pipeline.term import COMPUTED, BoundColumn, Term, as_factor
+from .pipeline.term import COMPUTED, BoundColumn, CodeColumn, Term, Whole, as_factor
 
 if TYPE_CHECKING:
     Array = np.ndarray[Any, Any]
@@ -276,7 +276,7 @@ def missing_of(term: Term) -> Any:
     """What stands for a missing value of a term, where it is given to `compute`."""
     if not is_whole(term):
         return EMPTY[term.sort]
-    while not isinstance(term, Custom):
+    while not isinstance(term, (Custom, CodeColumn)):
         term = term.terms[0]
     return term.missing_value
 
@@ -291,7 +291,7 @@ def _of_labels(cells: pd.Series, term: Term) -> Array:
     texts = list(cells.cat.categories)
     missing = missing_of(term)
     if is_whole(term):
-        numbers: Array = np.array([*map(int, texts), missing], "i8")[cells.cat.codes.to_numpy()]
+        numbers: Array = np.array([*map(table.whole_number, texts), missing], "i8")[cells.cat.codes.to_numpy()]
         return numbers
     labels: Array = np.array([*texts, None], object)[cells.cat.codes.to_numpy()]
     return labels
