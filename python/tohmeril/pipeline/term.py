@@ -371,7 +371,7 @@ class CodeColumn(DataColumn):
     dtype = np.dtype("int64")
 
     @property
-    def missing_value(self) -> int:  # type: ignore[override]
+    def missing_value(self) -> int:
         """What the table has where there is none."""
         return int(str(self.args[1]))
 
