@@ -1,6 +1,7 @@
 #!/usr/bin/env bash
 # Checks of the scripts: a check that lacks what it needs ends with 3, the set-up does nothing where all is here, the gate counts all of
-# its parts, and a release can be made, is the same in another folder, and gives a frame where it is installed.
+# its parts, the program's peers print its tables, and a release can be made, is the same in another folder, and gives a frame where it
+# is installed.
 #
 # The program is the one that TOHMERIL names, else the one built in crates/pl_main/out. The release is that of the last commit. The
 # last line is `scripts: N passed, M failed`.
@@ -11,7 +12,7 @@ top=$(cd "$(dirname "${BASH_SOURCE[0]}")/.." && pwd)
 program=$(realpath -m "${TOHMERIL:-$top/crates/pl_main/out/pl_main}")
 need_program scripts "$program"
 parts=(git pandas setuptools sqlite3 venv wheel)
-need scripts "${parts[@]}"
+need scripts gcc "${parts[@]}"
 work=$(mktemp -d)
 trap 'rm -rf "$work"' EXIT
 passed=0 failed=0
@@ -124,6 +125,11 @@ gate() {
     concludes 5 "0 passed, 1 failed" "${run[@]}"
 }
 
+# The peers of the benchmarks over a small world with gaps: their tables are the program's.
+peers() {
+    ends 0 "| twenty |" "$python" "$top/tools/peers/run.py" "$program" --sessions 300 --assets 60 --holes --rounds 1
+}
+
 # A clone in which the program is built, as it seems.
 clone() {
     git clone -q "$top" "$1"
@@ -192,6 +198,7 @@ make_folders
 lacking_parts
 set_up
 gate
+if is_left_out gcc || is_left_out pandas; then tell_left_out scripts gcc; else peers; fi
 tell_left_out scripts "${parts[@]}" > "$work/left_out"
 if [ -s "$work/left_out" ]; then
     cat "$work/left_out"

@@ -15,7 +15,8 @@ import pandas as pd
 
 RANGES = {"momentum": ("2023-12-18", "2023-12-29"), "crossings": ("2023-01-03", "2023-12-29"),
           "bands": ("2023-10-02", "2023-12-29"), "liquidity": ("2023-12-01", "2023-12-08"),
-          "value": ("2023-10-26", "2023-11-07"), "revised": ("2023-10-02", "2023-12-29")}
+          "value": ("2023-10-26", "2023-11-07"), "size": ("2023-06-12", "2023-06-16"),
+          "revised": ("2023-10-02", "2023-12-29")}
 KINDS = ["splits", "mergers", "dividends", "revisions"]
 
 
@@ -142,6 +143,19 @@ def value(market, day, before):
     score = (listed - listed.mean()) / listed.std(ddof=0)
     columns = {"sector": sector, "earnings": earned, "yield": ratio, "place": place, "score": score}
     return pd.DataFrame(columns, index=sids)[liquid]
+
+
+def size(market, day, before):
+    sids = market.existing(day)
+    logs = np.log(dollars(market, day, 60)[sids].where(lambda money: money > 0))
+    listed = np.sort(logs.dropna())
+    count = len(listed)
+    drawn = logs.clip(listed[count // 10], listed[-(-9 * count // 10) - 1])
+    sector = market.label(day).reindex(sids)
+    peers = drawn.groupby(sector)
+    score = (drawn - peers.transform("mean")) / peers.transform(lambda values: values.std(ddof=0))
+    place = score.rank(ascending=False, method="first")
+    return pd.DataFrame({"sector": sector, "size": logs, "score": score, "place": place}, index=sids)
 
 
 def revised(market, day, before):

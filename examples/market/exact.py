@@ -1,6 +1,6 @@
 #!/usr/bin/env python3
-"""Computes momentum.csv and value.csv once more with fractions, by the rules of docs/TERMS.md, and compares
-them to the byte.
+"""Computes momentum.csv, value.csv and size.csv once more with fractions, by the rules of docs/TERMS.md, and
+compares them to the byte.
 
 Usage: exact.py FOLDER, a folder with the files of this one. It uses nothing but Python itself and nothing of
 the program. Each step is exact and rounded once, to the nearest millionth, ties away from zero; a standard
@@ -11,12 +11,15 @@ import datetime
 import math
 import sqlite3
 import sys
+from decimal import Context, Decimal
 from fractions import Fraction
 from pathlib import Path
 
-RANGES = {"momentum": ("2023-12-18", "2023-12-29"), "value": ("2023-10-26", "2023-11-07")}
+RANGES = {"momentum": ("2023-12-18", "2023-12-29"), "value": ("2023-10-26", "2023-11-07"),
+          "size": ("2023-06-12", "2023-06-16")}
 HEADERS = {"momentum": "session,sid,sector,momentum,place,score",
-           "value": "session,sid,sector,earnings,yield,place,score"}
+           "value": "session,sid,sector,earnings,yield,place,score",
+           "size": "session,sid,sector,size,score,place"}
 MILLION = 1_000_000
 
 
@@ -81,12 +84,13 @@ class Market:
 
     def liquid(self, day):
         """The 15 assets of the greatest dollar volume over 30 sessions."""
-        money = {}
-        for sid in self.existing(day):
-            pairs = zip(self.window(sid, "close", 30, day), self.window(sid, "volume", 30, day))
-            whole = sum(close * volume for close, volume in pairs if None not in (close, volume))
-            money[sid] = millionths(whole / Fraction(30))
+        money = {sid: self.money(sid, 30, day) for sid in self.existing(day)}
         return sorted(sorted(money, key=lambda sid: (-money[sid], sid))[:15])
+
+    def money(self, sid, size, day):
+        """The mean of close times volume over so many sessions."""
+        pairs = zip(self.window(sid, "close", size, day), self.window(sid, "volume", size, day))
+        return millionths(sum(close * volume for close, volume in pairs if None not in (close, volume)) / Fraction(size))
 
 
 def returns(window):
@@ -140,6 +144,31 @@ def value(market, day):
     for sid, sector, place, score in places(market, day, values, liquid):
         numbers = (market.earnings(sid, day), values[sid], place, score)
         yield ",".join([day, str(sid), sector, *map(text, numbers)])
+
+
+def logarithm(value):
+    """The natural one of a number of millionths, of which 60 digits say how it is rounded."""
+    exact = Context(60)
+    return millionths(Fraction(exact.ln(exact.divide(Decimal(rounded(value * MILLION)), MILLION))))
+
+
+def size(market, day):
+    sids, scores = market.existing(day), {}
+    money = {sid: market.money(sid, 60, day) for sid in sids}
+    sizes = {sid: logarithm(money[sid]) for sid in sids if money[sid] > 0}
+    listed, count = sorted(sizes.values()), len(sizes)
+    low, high = listed[math.floor(Fraction(count, 10))], listed[math.ceil(Fraction(9 * count, 10)) - 1]
+    drawn = {sid: min(max(value, low), high) for sid, value in sizes.items()}
+    sector = {sid: market.label(sid, day) for sid in sids}
+    for sid in drawn:
+        peers = [drawn[other] for other in drawn if sector[other] == sector[sid] != ""]
+        deviation = spread(peers) if peers else 0
+        if deviation:
+            scores[sid] = millionths((drawn[sid] - millionths(sum(peers) / len(peers))) / deviation)
+    ranked = sorted(scores, key=lambda sid: (-scores[sid], sid))
+    for sid in sids:
+        place = ranked.index(sid) + 1 if sid in scores else None
+        yield ",".join([day, str(sid), sector[sid], text(sizes.get(sid)), text(scores.get(sid)), text(place)])
 
 
 def main(folder):

@@ -26,4 +26,5 @@ run crossings crossings 2023-01-03 2023-12-29
 run bands bands 2023-10-02 2023-12-29
 run liquidity liquidity 2023-12-01 2023-12-08
 run value value 2023-10-26 2023-11-07 --numbers "$here/numbers.csv"
+run size size 2023-06-12 2023-06-16
 run revised bands 2023-10-02 2023-12-29 --revisions "$here/revisions.csv"

@@ -28,7 +28,16 @@ NAMES = {
 NAMES.update(
     Column=Column,
     DataSetFamily=DataSetFamily,
-    Fundamentals=type("Fundamentals", (DataSet,), {"earnings": Column(float)}),
+    Fundamentals=type(
+        "Fundamentals",
+        (DataSet,),
+        {
+            "earnings": Column(float),
+            "is_primary": Column(bool),
+            "sector": Column(int),
+            "exchange": Column(object),
+        },
+    ),
     f=NAMES["close"].latest > 5,
     g=NAMES["volume"].latest > 0,
     abs=abs,

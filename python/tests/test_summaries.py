@@ -5,7 +5,7 @@ import numpy as np
 import pandas as pd
 import pytest
 
-from tohmeril import PipelineError, check, program, run_pipeline
+from tohmeril import PipelineError, check, explain, program, run_pipeline, show_graph, verify
 from tohmeril.pipeline import Inexpressible, Pipeline
 from tohmeril.pipeline.data import EquityPricing, Labels
 from tohmeril.pipeline.factors import (
@@ -88,6 +88,21 @@ def test_short_forms_of_the_language(short, long):
 def test_what_is_refused(make, sort, told):
     with pytest.raises(sort, match=told):
         make()
+
+
+def test_what_a_summary_rests_on(market):
+    """The values of the other assets of its sector are below it, and a graph says which side of `where` is which."""
+    listed = run_pipeline(Pipeline({"x": price, "s": sector}), "2023-06-01", "2023-06-01", market)
+    sid = int(listed.index[0][1])
+    peers = [int(other) for _, other in listed.index[listed.s == listed.s.iloc[0]] if other != sid]
+    for term in (change.mean(groupby=sector), change.winsorize(0.1, 0.9, groupby=sector), change.scale(groupby=sector)):
+        pipe = Pipeline({"x": term})
+        why = explain(pipe, "2023-06-01", sid, "x", market)
+        told = why.tree(most=40)
+        assert all(f"Returns(close, 5) of {peer} = " in told for peer in peers) and peers, term
+        assert verify(pipe, why, market)
+    graph = show_graph(Pipeline({"x": change.sum(mask=dear)}))
+    assert 'label="of"' in graph and 'label="if"' in graph and '[label="sum"]' in graph
 
 
 def test_values(market):

@@ -7,9 +7,14 @@ session before, and where a result is missing it is an empty one, which ends wha
 from __future__ import annotations
 
 import csv
+import io
+import os
+import shutil
 from decimal import ROUND_HALF_UP, Decimal
+from functools import lru_cache
 from pathlib import Path
-from typing import TYPE_CHECKING, Any, Mapping, Optional
+from types import MappingProxyType
+from typing import IO, TYPE_CHECKING, Any, Iterable, Mapping, Optional
 
 import numpy as np
 
@@ -19,6 +24,7 @@ from .faults import LimitFault, ReadFault
 if TYPE_CHECKING:
     Array = np.ndarray[Any, Any]
 
+Stamp = tuple[str, int, int, int]
 PLACES = 6  # behind the point
 MILLION = 10**PLACES
 FOUR = np.array([list(f"{number:04}".encode()) for number in range(10_000)], "u1").view("u4")[:, 0]  # digits of four
@@ -72,16 +78,30 @@ class Records:
         The user's files of numbers and labels, where there are.
     sids : array
         The sids of all columns.
+    names : mapping of str to names
+        Of a file that is in it the records of these names alone.
+
+    Attributes
+    ----------
+    kept : dict of str to array
+        Of these files the numbers of the records that are there, and of the header.
     """
 
-    def __init__(self, folder: Path, users: Mapping[str, Path], sids: Array):
+    def __init__(
+        self,
+        folder: Path,
+        users: Mapping[str, Path],
+        sids: Array,
+        names: Mapping[str, Iterable[str]] = MappingProxyType({}),
+    ):
         self.sids = sids
         self.files: dict[str, Path] = {}
         self.count: dict[str, int] = {}
         self.known: dict[str, Array] = {}  # the newest results by name
         self.waiting: list[tuple[str, str, Array, Array]] = []  # names, days, columns and values that are to be written
         self.rows = 0
-        self.folder, self.users = folder, users
+        self.folder, self.users, self.names = folder, users, names
+        self.kept: dict[str, Array] = {}
 
     def put(self, name: str, day: str, columns: Array, values: Array) -> None:
         """The results of some columns on a session, in millionths."""
@@ -139,10 +159,12 @@ class Records:
         return list(zip([0, *bounds], [*bounds, len(digits)]))
 
     def _counted(self, part: str, count: int) -> None:
-        """Count records, behind those of the user's file, which is copied before the first."""
+        """Count records, behind those of the user's file, which are there before the first."""
         if part not in self.files:
             self.files[part] = self.folder / f"{part}.csv"
-            self.count[part] = _copy(self.users.get(part), self.files[part], part)
+            self.count[part], kept = _begin(self.users.get(part), self.files[part], part, self.names.get(part))
+            if kept is not None:
+                self.kept[part] = kept
         self.count[part] += count
         if self.count[part] > MOST[part]:
             raise TooMany(part)
@@ -152,24 +174,70 @@ class Records:
         self._counted(part, 0)
 
 
-def _copy(user: Optional[Path], path: Path, part: str) -> int:
-    """Begin a file with the user's records, or with the header alone, and count them."""
+def stamp(path: Path) -> Stamp:
+    """What tells a file from what is written in its place."""
+    try:
+        found = os.stat(path)
+    except OSError:
+        raise ReadFault(f"read: {path}") from None
+    return str(path), found.st_ino, found.st_size, found.st_mtime_ns
+
+
+@lru_cache(64)
+def _count(file: Stamp) -> int:
+    """How many lines a file has, the last one with or without its end."""
+    count, block = 0, b"\n"
+    with open(file[0], "rb") as source:
+        while more := source.read(1 << 22):
+            block = more
+            count += block.count(b"\n")
+    return count + (not block.endswith(b"\n"))
+
+
+def _begin(user: Optional[Path], path: Path, part: str, names: Optional[Iterable[str]]) -> tuple[int, Optional[Array]]:
+    """Begin a file with the user's records, of all names or of these, or with the header alone: how many there are, and
+    where not all are there, the numbers that they and the header have in the user's file.
+    """
     if user is None:
         path.write_text(f"{','.join(HEADERS[part])}\n")
-        return 0
-    count, block = 0, b""
-    try:
+        return 0, None
+    count = _count(stamp(user))
+    if names is not None:
         with open(user, "rb") as source, open(path, "wb") as file:
-            while more := source.read(1 << 22):
-                block = more
-                count += block.count(b"\n")
-                file.write(block)
-            file.write(b"" if block.endswith(b"\n") else b"\n")
-    except OSError:
-        raise ReadFault(f"read: {user}") from None
+            numbers = _put_some(source.read(), file, names)
+        return len(numbers) - 1, numbers
     if count > MOST[part] + 1:
         raise LimitFault(f"limit: {part}")
-    return max(count - block.endswith(b"\n"), 0)
+    shutil.copyfile(user, path)  # within the kernel, where it can
+    with open(path, "rb+") as file:
+        if file.seek(0, os.SEEK_END) and file.seek(-1, os.SEEK_END) and file.read(1) != b"\n":
+            file.write(b"\n")
+    return max(count - 1, 0), None
+
+
+def _put_some(text: bytes, file: IO[bytes], names: Iterable[str]) -> Array:
+    """Write the header, and the records of some names; their numbers among the records of the text.
+
+    >>> out = io.BytesIO()
+    >>> _put_some(b'name,sid\\n\\nab,1\\nabc,2\\n"ab",3', out, ["ab"]), out.getvalue()
+    (array([1, 2, 4]), b'name,sid\\nab,1\\n"ab",3\\n')
+    """
+    text += b"" if text.endswith(b"\n") else b"\n"
+    signs = np.frombuffer(text + b"\n" * 80, "u1")
+    ends = np.flatnonzero(signs[: len(text)] == ord("\n"))
+    starts = np.append(0, ends[:-1] + 1)
+    is_record = ends - starts - (signs[ends - 1] == ord("\r")) > 0
+    kept = is_record & (np.cumsum(is_record) == 1)
+    for first in (form % name.encode() for name in names for form in (b"%s,", b'"%s",')):
+        at = np.flatnonzero(is_record)
+        for place, sign in enumerate(first):
+            at = at[signs[starts[at] + place] == sign]
+        kept[at] = True
+    stretches = np.flatnonzero(np.diff(kept, prepend=False, append=False))
+    places = np.append(starts, len(text))[stretches]
+    file.writelines(memoryview(text)[a:b] for a, b in places.reshape(-1, 2))
+    numbers: Array = np.cumsum(is_record)[kept]
+    return numbers
 
 
 def _as_bytes(texts: list[str]) -> Array:

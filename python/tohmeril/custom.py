@@ -19,20 +19,23 @@ import numpy as np
 import pandas as pd
 
 from . import program, table
-from ._order import Need, fitting, order_of
-from ._results import MISSING, MOST, Records, TooMany, as_labels, to_millionths
+from ._order import Need, fitting, names_in, order_of
+from ._results import MISSING, MOST, Records, Stamp, TooMany, as_labels, stamp, to_millionths
 from ._windows import Windows
 from .data import HEADERS, Data, records
 from .faults import ComputeFault, DataFault, LimitFault
-from .pipeline.custom import Custom, Whole, bars_of, custom_of, new_out, output_of, parts_of
+from .pipeline.custom import Custom, bars_of, custom_of, new_out, output_of, parts_of
 from .pipeline.script import Script, without_alias
-from .pipeline.term import COMPUTED, BoundColumn, Term, as_factor
+from .pipeline.term import COMPUTED, BoundColumn, CodeColumn, Term, Whole, as_factor
 
 if TYPE_CHECKING:
     Array = np.ndarray[Any, Any]
 
 Tick = Callable[[float], None]  # told how much is computed, from 0 to 1
 Ends = tuple[str, str]  # the first and the last session of a range
+_judged: set[
+    tuple[Stamp, ...]
+] = set()  # users' files that the program has read whole, with the sessions and the assets
 EMPTY: dict[str, Any] = {"factor": np.nan, "filter": False, "number": -1, "label": None}  # by the sort of a term
 
 
@@ -69,7 +72,7 @@ def tables(
     run reads. `move` is told how many sessions of the range are done.
     """
     first = bisect_left(data.sessions, ends[0])
-    waiting, found = _parts(script, names, data, ends)[::-1], []
+    waiting, found, narrow = _parts(script, names, data, ends)[::-1], [], False
     while waiting:
         part = waiting.pop()
         days = data.days(*part)
@@ -79,9 +82,13 @@ def tables(
             move(done + portion * count)
 
         try:
-            with computed(script, names, data, part, tick) as whole:
+            with computed(script, names, data, part, tick, narrow) as whole:
                 found.append(run(whole, part))
         except TooMany as error:
+            if not narrow and error.part in data.files:
+                narrow = True
+                waiting.append(part)
+                continue
             if len(days) < 2:
                 raise LimitFault(
                     f"limit: {error.part}", f"what is computed for {part[0]} alone is more, with the sessions before it"
@@ -120,9 +127,17 @@ def _existing(data: Data, ends: Ends) -> int:
 
 @contextmanager
 def computed(
-    script: Script, names: Mapping[Term, str], data: Data, ends: Ends, tick: Tick = lambda portion: None
+    script: Script,
+    names: Mapping[Term, str],
+    data: Data,
+    ends: Ends,
+    tick: Tick = lambda portion: None,
+    narrow: bool = False,
 ) -> Iterator[Data]:
     """The data with what is computed for a range, within the block.
+
+    The user's own numbers and labels come first in their files, so that the program judges them. Where it has judged
+    them before, or with `narrow`, there are those of the names that the pipeline reads.
 
     Raises
     ------
@@ -134,14 +149,16 @@ def computed(
     order = order_of(script, ends[0], ends[1], data)
     with TemporaryDirectory() as folder:
         users = {part: data.files[part] for part in ("numbers", "labels") if part in data.files}
-        found = Records(Path(folder), users, _sids(data))
+        stamps = {part: tuple(stamp(data.files[each]) for each in ("sessions", "assets", part)) for part in users}
+        kept = {part: names_in(script, part) for part in users if narrow or stamps[part] in _judged}
+        found = Records(Path(folder), users, _sids(data), kept)
         for leaf in names:
             found.open("labels" if leaf.sort == "label" else "numbers")
         whole = copy.copy(data)
         whole.files = {**data.files, **found.files}
         sessions = bisect_right(data.sessions, ends[1])
         count, every = 0, sum(sessions - min(need.first for need in level) for level in order.levels)
-        with _of_user(users, found.files):
+        with _of_user(users, found):
             for level in order.levels:
                 for _ in _Level(whole, ends[1], names, found).compute(level):
                     count += 1
@@ -150,6 +167,7 @@ def computed(
             if not order.has_bars and any(bars_of(need.custom) for level in order.levels for need in level):
                 whole.files["bars"] = _no_bars(Path(folder))
             yield whole
+        _judged.update(stamps[part] for part in users.keys() & found.files.keys() - kept.keys())
 
 
 def _no_bars(folder: Path) -> Path:
@@ -160,14 +178,16 @@ def _no_bars(folder: Path) -> Path:
 
 
 @contextmanager
-def _of_user(users: Mapping[str, Path], made: Mapping[str, Path]) -> Iterator[None]:
+def _of_user(users: Mapping[str, Path], found: Records) -> Iterator[None]:
     """Say a fault of a file with the results as one of the user's own, whose records are its first."""
     try:
         yield
     except DataFault as fault:
-        for part, path in made.items():
+        for part, path in found.files.items():
             if fault.path == str(path) and fault.record is not None and part in users:
-                raise fault.moved(users[part], fault.record) from None
+                kept = found.kept.get(part)
+                record = fault.record if kept is None else int(kept[fault.record - 1])
+                raise fault.moved(users[part], record) from None
         raise
 
 
@@ -276,7 +296,7 @@ def missing_of(term: Term) -> Any:
     """What stands for a missing value of a term, where it is given to `compute`."""
     if not is_whole(term):
         return EMPTY[term.sort]
-    while not isinstance(term, Custom):
+    while not isinstance(term, (Custom, CodeColumn)):
         term = term.terms[0]
     return term.missing_value
 
@@ -291,7 +311,7 @@ def _of_labels(cells: pd.Series, term: Term) -> Array:
     texts = list(cells.cat.categories)
     missing = missing_of(term)
     if is_whole(term):
-        numbers: Array = np.array([*map(int, texts), missing], "i8")[cells.cat.codes.to_numpy()]
+        numbers: Array = np.array([*map(table.whole_number, texts), missing], "i8")[cells.cat.codes.to_numpy()]
         return numbers
     labels: Array = np.array([*texts, None], object)[cells.cat.codes.to_numpy()]
     return labels

@@ -17,7 +17,7 @@ from .data import FILES, HEADERS, NEEDED
 from .days import NoDay, read_day, read_day_numbers, read_days, read_known
 from .faults import DataFault
 from .pipeline.script import BARS, is_name
-from .pipeline.term import GREATEST
+from .pipeline.term import GREATEST, TruthColumn
 from .values import NARROW, and_others, is_narrow, ratio, rows_of, to_numbers, whole_number
 
 OTHER = {
@@ -332,6 +332,18 @@ def union(axes: Sequence[pd.Index]) -> pd.Index:
     return first if all(axis.equals(first) for axis in axes) else first.append(list(axes[1:])).unique()
 
 
+def as_labels(values: pd.Series) -> pd.Series:
+    """Labels as texts, or as whole numbers where they are such, as codes are in a frame with gaps; empty for none.
+
+    >>> as_labels(pd.Series([103.0, np.nan])).tolist()
+    [103, '']
+    """
+    texts = values.astype(object).where(values.notna(), "")
+    if pd.api.types.is_float_dtype(values.dtype) and (values.dropna() % 1 == 0).all():
+        return texts.map(lambda value: value if value == "" else int(value))
+    return texts
+
+
 def long_labels(
     labels: Union[pd.DataFrame, Mapping[Any, Any]], first: str, late: bool = False, there: Optional[Sids] = None
 ) -> pd.DataFrame:
@@ -345,11 +357,10 @@ def long_labels(
 
     if not isinstance(labels, Mapping):
         found = select_columns(labels, "labels")
-        return found.assign(
-            label=found.label.astype(object).where(found.label.notna(), ""), start=read(found.start, "labels")
-        )
+        return found.assign(label=as_labels(found.label), start=read(found.start, "labels"))
     parts = []
-    for name, given in labels.items():
+    for key, given in labels.items():
+        name = getattr(key, "name", key)  # of texts and of a DataSet's columns
         if not isinstance(name, str):
             raise DataFault(f"labels: {name!r} is no name", "a name is a text, as 'sector'")
         if not isinstance(given, (pd.DataFrame, pd.Series, Mapping)):
@@ -359,7 +370,7 @@ def long_labels(
             if isinstance(given, pd.DataFrame)
             else pd.Series(given).to_frame(first).T
         )
-        rows = to_long(frame.astype(object).where(frame.notna(), ""), "start", "label")
+        rows = to_long(frame.apply(as_labels), "start", "label")
         changed = rows.label.ne(rows.groupby("sid", sort=False).label.shift(fill_value="")) | first_rows(rows, there)
         parts.append(rows[changed].sort_values("start", kind="stable").assign(name=name))
     return pd.concat(parts or [pd.DataFrame(columns=HEADERS["labels"])], ignore_index=True)[HEADERS["labels"]]
@@ -398,7 +409,8 @@ def long_numbers(
             if not isinstance(name, str):
                 raise DataFault(f"numbers: {name!r} is no name", "give frames by name, or by the column of a DataSet")
         require_unique(pd.DataFrame({"name": names}), ["name"], "numbers")
-        parts = [changes(name, frame, late, there) for name, frame in zip(names, numbers.values())]
+        frames = [given.astype(float) if is_truth(key, given) else given for key, given in numbers.items()]
+        parts = [changes(name, frame, late, there) for name, frame in zip(names, frames)]
         found = pd.concat(parts or [pd.DataFrame(columns=HEADERS["numbers"])], ignore_index=True)
     found = found.assign(value=to_numbers(found.value, "numbers"))
     names = [name for name in found["name"].unique() if isinstance(name, str) and is_name(name)]
@@ -414,6 +426,11 @@ def long_numbers(
         given = select_columns(numbers, "numbers", "known", "period")
         warn_of_periods(found.assign(known=read_days(given.known, "numbers"), period=given.period))
     return require_unique(found, ["name", "sid", "known"], "numbers")
+
+
+def is_truth(key: Any, given: Any) -> bool:
+    """Whether a frame of truth values is given for a column of such, which has them as numbers."""
+    return isinstance(key, TruthColumn) and isinstance(given, pd.DataFrame) and bool((given.dtypes == bool).all())
 
 
 def first_rows(rows: pd.DataFrame, there: Optional[Sids]) -> pd.Series:

@@ -31,17 +31,16 @@ from .data import LabelColumn
 from .term import (
     COMPUTED,
     INFIX,
-    MEMBER,
     Absent,
     BoundColumn,
     Classifier,
+    DataColumn,
     Factor,
     Filter,
-    NumberColumn,
     Term,
     Text,
+    Whole,
     as_factor,
-    joined_by_or,
     require_window_safe,
 )
 
@@ -255,25 +254,15 @@ class CustomFilter(Custom, Filter):
         return (leaf,)
 
 
-class Whole(Classifier):
-    """A whole number for each asset and session, or none, of a `CustomClassifier`; the program has it as a label."""
+class Matches(CustomFilter):
+    """True where a regular expression matches from a label's first sign on."""
 
-    __slots__ = ()
-    sort = "label"
-    label = Integral
+    window_length = 1
+    params = ("pattern",)
 
-    def eq(self, other: Any, sign: str = "==") -> Filter:
-        """True where the number is this one."""
-        if isinstance(other, bool) or not isinstance(other, Integral):
-            raise TypeError(f"{self!r} {sign} {other!r}: the classes are whole numbers")
-        return Filter(INFIX, sign, self, str(int(other)))
-
-    def element_of(self, choices: Iterable[int]) -> Filter:
-        """True where the number is one of `choices`."""
-        listed = list(choices)
-        for choice in listed:
-            self.eq(choice)
-        return joined_by_or(lambda some: Filter(MEMBER, "element_of", self, *map(str, map(int, some))), listed, 100)
+    def compute(self, today: Any, assets: Any, out: Any, names: Any, pattern: Any) -> None:
+        found = {name: name is not None and pattern.match(name) is not None for name in set(names[0])}
+        out[:] = [found[name] for name in names[0]]
 
 
 class CustomClassifier(Custom, Classifier):
@@ -437,7 +426,7 @@ def _inputs(cls: type[Custom], given: Any) -> tuple[Term, ...]:
         )
     found = []
     for part in listed:
-        term = part.latest if isinstance(part, (NumberColumn, LabelColumn)) else part
+        term = part.latest if isinstance(part, (DataColumn, LabelColumn)) else part
         if not isinstance(term, Term):
             raise TypeError(
                 f"{cls.__name__}: {part!r} can't be its input, which is a column of bars, of numbers or of labels, or "

@@ -20,10 +20,11 @@ from __future__ import annotations
 
 import math
 import operator
+import re
 import warnings
 from decimal import ROUND_HALF_UP, Decimal
 from functools import partial, reduce
-from numbers import Real
+from numbers import Integral, Real
 from typing import Any, Callable, Iterable, Mapping, NamedTuple, NoReturn, Optional, TypeVar, Union
 from weakref import WeakValueDictionary
 
@@ -286,26 +287,22 @@ class BoundColumn(Term):
         )
 
 
-class NumberColumn(BoundColumn):
-    """A column of a DataSet, such as `Fundamentals.earnings`: the numbers that go by `name` in the data.
+class DataColumn(BoundColumn):
+    """A column of a DataSet, which goes by `name` in the data.
 
-    As an input of windows it is its `latest`, so that a window of W holds today's value and those of the W - 1 sessions
-    before.
+    Attributes
+    ----------
+    qualname : str
+        The names of the DataSet and of the attribute.
+    dtype : numpy.dtype
+    missing_value : object
     """
 
     __slots__ = ()
-    holds = "numbers"
-    dtype: np.dtype[Any] = np.dtype("float64")
-    missing_value = np.nan
+    dtype: np.dtype[Any]
+    missing_value: Any
     alias: Any = property()  # that of `latest`, as the next one
     downsample: Any = property()
-
-    @property
-    def latest(self) -> Factor:
-        """The value that became known last, of those known by today. Missing where there is none, or where it ended.
-        Exact.
-        """
-        return Factor(CALL, "number", self)
 
     @property
     def qualname(self) -> str:
@@ -314,6 +311,74 @@ class NumberColumn(BoundColumn):
 
     def __repr__(self) -> str:
         return self.qualname
+
+
+class NumberColumn(DataColumn):
+    """A column of numbers, such as `Fundamentals.earnings`: those that go by `name` in the data.
+
+    As an input of windows it is its `latest`, so that a window of W holds today's value and those of the W - 1 sessions
+    before.
+    """
+
+    __slots__ = ()
+    holds = "numbers"
+    dtype = np.dtype("float64")
+    missing_value = np.nan
+
+    @property
+    def latest(self) -> Factor:
+        """The value that became known last, of those known by today. Missing where there is none, or where it ended.
+        Exact.
+        """
+        return Factor(CALL, "number", self)
+
+
+class TruthColumn(DataColumn):
+    """A column of truth values: numbers, of which 1 is true."""
+
+    __slots__ = ()
+    holds = "truth values"
+    dtype = np.dtype("bool")
+    missing_value = False
+
+    @property
+    def latest(self) -> Filter:  # type: ignore[override]
+        """Whether the number that became known last is 1; false where there is none. Exact."""
+        return Factor(CALL, "number", self).eq(1)
+
+
+class TextColumn(DataColumn):
+    """A column of texts: the labels that go by `name` in the data."""
+
+    __slots__ = ()
+    holds = "labels"
+    dtype = np.dtype("O")
+    missing_value = None
+
+    @property
+    def latest(self) -> Text:  # type: ignore[override]
+        """The label that holds today. Exact."""
+        return Text(CALL, "label", self)
+
+
+class CodeColumn(DataColumn):
+    """A column of whole numbers, such as codes of sectors: labels that are such. Their `latest` is a classifier, as in
+    Zipline.
+    """
+
+    __slots__ = ()
+    holds = "labels"
+    dtype = np.dtype("int64")
+
+    @property
+    def missing_value(self) -> int:
+        """What the table has where there is none."""
+        return int(str(self.args[1]))
+
+    @property
+    def latest(self) -> Whole:  # type: ignore[override]
+        """The number that holds today. Exact."""
+        return Whole(CALL, "label", self)
 
 
 class Filter(Term):
@@ -689,9 +754,40 @@ class Text(Classifier):
         """True where the label holds `substring`."""
         return Filter(MEMBER, "has_substring", self, substring)
 
+    def matches(self, pattern: Union[str, re.Pattern[str]]) -> Filter:
+        """True where a regular expression matches from the label's first sign on, as by `re.match`.
+
+        Python computes it, as a `CustomFilter`.
+        """
+        from .custom import Matches
+
+        found: Filter = Matches(inputs=[self], pattern=re.compile(pattern))
+        return found
+
     def element_of(self, choices: Iterable[str]) -> Filter:
         """True where the label is one of `choices`."""
         return joined_by_or(lambda some: Filter(MEMBER, "element_of", self, *some), choices, 100)
+
+
+class Whole(Classifier):
+    """A whole number for each asset and session, or none; the program has it as a label."""
+
+    __slots__ = ()
+    sort = "label"
+    label = Integral
+
+    def eq(self, other: Any, sign: str = "==") -> Filter:
+        """True where the number is this one."""
+        if isinstance(other, bool) or not isinstance(other, Integral):
+            raise TypeError(f"{self!r} {sign} {other!r}: the classes are whole numbers")
+        return Filter(INFIX, sign, self, str(int(other)))
+
+    def element_of(self, choices: Iterable[int]) -> Filter:
+        """True where the number is one of `choices`."""
+        listed = list(choices)
+        for choice in listed:
+            self.eq(choice)
+        return joined_by_or(lambda some: Filter(MEMBER, "element_of", self, *map(str, map(int, some))), listed, 100)
 
 
 class Bins(Classifier):
@@ -765,7 +861,6 @@ _ABSENT = {
         "fillna": "isnull()",
         "__getitem__": "a filter of the label, and the asset's rows of the table",
     },
-    Text: {"matches": "startswith, endswith, has_substring, element_of"},
     Filter: {"__getitem__": "f.if_else(1, 0)[asset], which is 1 where the filter is true of the asset"},
 }
 _SIGNS = {"__getitem__": "y[asset]", "__mod__": "y % z", "__floordiv__": "y // z"}

@@ -25,7 +25,7 @@ import numpy as np
 
 from ..custom import CustomFactor as CustomFactor
 from ..data import EquityPricing
-from ..term import CALL, Absent, BoundColumn, Classifier, Factor, Filter, Mask, NumberColumn, Term
+from ..term import CALL, Absent, BoundColumn, Classifier, DataColumn, Factor, Filter, Mask, Term
 
 _HIGH, _LOW, _CLOSE, _VOLUME = (getattr(EquityPricing, name) for name in ("high", "low", "close", "volume"))
 
@@ -84,12 +84,12 @@ class Windowed:
             if value is _ASKED:
                 raise TypeError(f"{cls.__name__}: {name} {'are' if name == 'inputs' else 'is'} missing; {takes}")
         for term in terms:
-            if not isinstance(term, cls.takes):
-                latest = f": write {term!r}.latest" if getattr(term, "holds", "") == "labels" else ""
+            if not isinstance(term, cls.takes) or isinstance(term, DataColumn) and term.holds != "numbers":
+                latest = f": write {term!r}.latest" if getattr(term, "holds", "") in ("labels", "truth values") else ""
                 raise TypeError(f"{cls.__name__}: {term!r} can't be its input{latest}")
         if cls.fixed and terms != tuple(cls.inputs):
             Absent(f"{cls.__name__} of {', '.join(map(repr, terms))}", f"that of {', '.join(map(repr, cls.inputs))}")()
-        terms = tuple(term.latest if isinstance(term, NumberColumn) else term for term in terms)
+        terms = tuple(term.latest if isinstance(term, DataColumn) else term for term in terms)
         return cls.term(() if cls.fixed else terms, given["window_length"], mask, *(given[name] for name in defaults))
 
     @classmethod

@@ -1,0 +1,3 @@
+pipeline 1;
+column c = close.latest;
+column v = volume.latest;

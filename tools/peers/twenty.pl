@@ -1,0 +1,24 @@
+pipeline 1;
+# Twenty columns: windows of up to a year, and cross-sections of the month's return.
+let liquid = AverageDollarVolume(20).top(200);
+let month = Returns(close, 21);
+column sma_50 = SimpleMovingAverage(close, 50);
+column sma_200 = SimpleMovingAverage(close, 200);
+column lwma_30 = LinearWeightedMovingAverage(close, 30);
+column ewma_60 = ExponentialWeightedMovingAverage(close, 60, 0.97);
+column std_63 = WindowStd(close, 63);
+column high_252 = WindowMax(high, 252);
+column low_252 = WindowMin(low, 252);
+column bb_low = BollingerLower(close, 20, 2);
+column bb_up = BollingerUpper(close, 20, 2);
+column month = month;
+column rsi_15 = RSI(close, 15);
+column vwap_30 = VWAP(30);
+column adv_20 = AverageDollarVolume(20);
+column stoch_14 = FastStochasticOscillator(14);
+column range = TrueRange();
+column aroon_25 = AroonUp(25);
+column rank = month.rank(mask=liquid);
+column demean = month.demean(groupby=label("sector"));
+column z = month.zscore(mask=liquid, groupby=label("sector"));
+column decile = month.quantiles(10);
