@@ -24,4 +24,5 @@ plan-same days other k p plan same last within is =
       last = is.last;
       live = is.live;
       slots = is.slots;
+      cones = is.cones;
     }

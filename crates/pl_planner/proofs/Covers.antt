@@ -1,15 +1,17 @@
 -- What a plan says is what the definitions say.
-use Rattle.std.proofs.Common.{◌≡◌, ℕ, ◌+◌, ◌-◌, ◌*◌, ◌<◌, ◌≤◌, Bool, true, false, ◌&&◌, max, nat_le, nat_lt, if◌then◌else◌, ℤ, pos, ◌-ℤ◌, ◌≤ℤ◌, ◌<ℤ◌, List, length, map, fold, AllPairs, Option, Some, None, refl, sym, ◌∙◌, ap, subst, arith, inl, inr, ◌⊎◌, slice_get, get_or, leb-true, FitsSigned, w64, to_z, of_z}
+use Rattle.std.proofs.Common.{◌≡◌, ℕ, ◌+◌, ◌-◌, ◌*◌, ◌<◌, ◌≤◌, Bool, true, false, ◌&&◌, max, nat_le, nat_lt, if◌then◌else◌, ℤ, pos, ◌-ℤ◌, ◌≤ℤ◌, ◌<ℤ◌, List, [], length, map, fold, AllPairs, Option, Some, None, refl, sym, ◌∙◌, ap, subst, arith, inl, inr, ◌⊎◌, slice_get, get_or, leb-true, FitsSigned, w64, to_z, of_z}
 use Rattle.std.specs.List.{list_any, range_with_len, count_by}
 use Rattle.std.proofs.lemmas.Bool.{true≢false, cases_lt, or_right, and_from, and_parts}
 use Rattle.std.proofs.lemmas.Bool.Decides.{nat_tests}
 use Rattle.std.specs.Int.Signed.{lt_z}
 use Rattle.std.proofs.lemmas.Int.{ints, to_z-of_z}
 use Rattle.std.proofs.lemmas.Option.{slice_get_within}
+use Rattle.std.proofs.lemmas.List.FromFn.{get_or-map-range_with_len, length-map-range_with_len}
 use Rattle.pl_spec.specs.Limits.{most_terms, most_extra_rows}
 use Rattle.pl_pipeline.specs.Table.{Pipeline}
 use Rattle.pl_pipeline.specs.Term.{Node, Graph}
 use Rattle.pl_pipeline.specs.Graph.{reads_at, contains, mentions_at, Used, used_terms, is_live, live_terms, columns_at, bound}
+use Rattle.pl_pipeline.specs.Cones.{cone_depths}
 use Rattle.pl_pipeline.specs.Lows.{Needs, IsLow, least_reach}
 use Rattle.pl_spec.specs.Window.{before}
 use Rattle.pl_laws.specs.LowLaws.{HasBar, ReachCovers}
@@ -25,7 +27,7 @@ use Rattle.pl_planner.specs.Columns.{held_at}
 use Rattle.pl_planner.specs.Rows.{extra_at, IsRow, AreRows, most_extra}
 use Rattle.pl_planner.specs.Slotting.{slots_at, own_slot, kept_below, one, IsHad, IsHadBefore, IsLowest, IsSlotted, AreSlotted}
 use Rattle.pl_planner.specs.Plans as plans
-use Rattle.pl_planner.specs.Plans.{Planned, is_used, low_at, last_user, is_read_by, slot_of, column_slot, AreLows, AreLastUsers, IsLive, HasSlot, HasColumn, IsPlanOf, IsDeepest, KeepsLimits}
+use Rattle.pl_planner.specs.Plans.{Planned, is_used, low_at, last_user, is_read_by, slot_of, column_slot, cone, AreLows, AreLastUsers, IsLive, HasSlot, HasColumn, IsPlanOf, IsDeepest, KeepsLimits}
 use Rattle.pl_planner.specs.Laws.{ReadsAreCovered}
 use Rattle.pl_planner.proofs.Pipelines.{IsPipeline, is-pipeline}
 use Rattle.pl_planner.proofs.Mentions.{needs-used, reads-mention}
@@ -118,9 +120,10 @@ module _ (days : List ℤ) (rise : AllPairs (λ a b. a <ℤ b) days) (p : Pipeli
 
   module _ (slots : List TermSlots) (slotted : AreSlotted uses slots) (long : length slots ≡ length uses) (from to : ℕ) (order : from ≤ to) (within : to < length days)
       (extras : List ℕ) (rows : AreRows days p.graph (outputs p) from (to + 1 - from) extras)
-      (reach : ℤ) (held : ℕ) (least : reach ≡ least_reach days p.graph (outputs p) (pos from)) (early : pos 0 ≤ℤ reach) (held_is : held ≡ bound p.graph (outputs p)) (shallow : most_extra extras ≤ most_extra_rows) where
+      (reach : ℤ) (held : ℕ) (least : reach ≡ least_reach days p.graph (outputs p) (pos from)) (early : pos 0 ≤ℤ reach) (held_is : held ≡ bound p.graph (outputs p)) (shallow : most_extra extras ≤ most_extra_rows)
+      (cones : List (List (ℕ × ℕ))) (listed : cones ≡ map (cone_depths p.graph) (range_with_len 0 (length p.graph))) where
     abbrev plan : Planned
-    plan = record { from = from; to = to; reach = reach; bound = held; uses = uses; extras = extras; slots = slots }
+    plan = record { from = from; to = to; reach = reach; bound = held; uses = uses; extras = extras; slots = slots; cones = cones }
 
     abbrev extra_of : ℕ → ℕ → ℕ
     extra_of s t = extra_at extras (length g) (s - from) t
@@ -382,6 +385,10 @@ module _ (days : List ℤ) (rise : AllPairs (λ a b. a <ℤ b) days) (p : Pipeli
         here None e = rw e (omega arith)
         here (Some n) e = rw e (let l = columns-few n in let f = ok.graph.few k n e in omega arith)
 
+    cone-is : (t : ℕ) → t < length g → cone plan t ≡ cone_depths g t
+    unfolding cone
+    cone-is t h = ap (λ cs. get_or cs t []) listed ∙ get_or-map-range_with_len (cone_depths g) 0 (length g) t t [] h (let z : 0 + t ≡ t = omega arith in z)
+
     pub is-plan : IsPlanOf days p plan
     is-plan = record {
       order = order;
@@ -400,6 +407,7 @@ module _ (days : List ℤ) (rise : AllPairs (λ a b. a <ℤ b) days) (p : Pipeli
         room = λ k h. own-room k (used-of k h);
         columns_room = λ k i h l. column-room k (used-of k h) i (let f = few-columns k (inside k (used-of k h)) in omega arith) l;
       };
+      cones = λ t h. cone-is t h;
     }
 
     pub limits : length p.graph ≤ most_terms → held ≤ most_terms + 5 → KeepsLimits plan
@@ -418,6 +426,8 @@ module _ (days : List ℤ) (rise : AllPairs (λ a b. a <ℤ b) days) (p : Pipeli
           (omega arith, omega arith);
       among = λ t h. used-in t (used-of t h);
       slots = λ t h. own-room t (used-of t h);
+      cones = λ t h. (let u = used-in t (used-of t h) in let z = are.size in
+          let long : length cones ≡ length g = ap (λ cs. length cs) listed ∙ length-map-range_with_len (cone_depths g) 0 (length g) in omega arith);
     }
 
 -- ---- the test of the reach

@@ -1,4 +1,5 @@
 pub mod Asking
+pub mod Coned
 pub mod Counting
 pub mod Covers
 pub mod Gathers
@@ -11,6 +12,7 @@ pub mod Passes
 pub mod Pipelines
 pub mod Tables
 pub mod Slotted
+pub mod Steadied
 pub mod Calendars
 pub mod Lines
 pub mod Told

@@ -1,11 +1,13 @@
 pub mod Asked
 pub mod Columns
+pub mod Cones
 pub mod Extra
 pub mod Inside
 pub mod Laws
 pub mod Plans
 pub mod Rows
 pub mod Slotting
+pub mod Steady
 pub mod Uses
 pub mod TextLaws
 pub mod Names

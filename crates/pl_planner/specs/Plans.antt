@@ -1,9 +1,10 @@
 -- The plan of a run, and why there is none.
-use Rattle.std.specs.Prelude.{◌≡◌, ℕ, ◌<◌, ◌≤◌, ◌+◌, ◌-◌, ◌*◌, ◌⊎◌, Bool, true, false, ◌&&◌, if◌then◌else◌, nat_le, nat_lt, ℤ, pos, ◌-ℤ◌, ◌<ℤ◌, ◌≤ℤ◌, List, length, get_or, slice_get, Option, Some, None}
+use Rattle.std.specs.Prelude.{◌≡◌, ℕ, ◌<◌, ◌≤◌, ◌+◌, ◌-◌, ◌*◌, ◌⊎◌, Bool, true, false, ◌&&◌, if◌then◌else◌, nat_le, nat_lt, ℤ, pos, ◌-ℤ◌, ◌<ℤ◌, ◌≤ℤ◌, List, [], length, get_or, slice_get, Option, Some, None}
 use Rattle.pl_spec.specs.Limits.{most_extra_rows, most_terms}
 use Rattle.pl_spec.specs.Window.{before}
 use Rattle.pl_pipeline.specs.Term.{Graph, Node}
 use Rattle.pl_pipeline.specs.Graph.{Used, contains, mentions_at, live_terms, columns_at, bound}
+use Rattle.pl_pipeline.specs.Cones.{cone_depths}
 use Rattle.pl_pipeline.specs.Lows.{IsLow, least_reach}
 use Rattle.pl_pipeline.specs.Table.{Pipeline}
 use Rattle.pl_laws.specs.LowLaws.{HasBar}
@@ -18,7 +19,7 @@ use Rattle.pl_planner.specs.Uses.{use_at}
 use Rattle.pl_planner.specs.Slotting.{IsLowest, slots_at}
 
 -- the range, its least reach, the greatest number of arrays at once, what is known of each term by number,
--- and how many sessions before each session of the range the terms are computed for it
+-- how many sessions before each session of the range the terms are computed for it, and the cone of each
 pub record Planned : Type 0 where
   pub from : ℕ
   pub to : ℕ
@@ -27,6 +28,7 @@ pub record Planned : Type 0 where
   pub uses : List Use
   pub extras : List ℕ
   pub slots : List TermSlots
+  pub cones : List (List (ℕ × ℕ))
 
 -- ---- what a plan says of term t
 
@@ -63,6 +65,10 @@ slot_of plan t = (slots_at plan.slots t).own
 -- the slot of the i-th distinct bar column among its inputs while it is computed
 unfoldable pub column_slot : Planned → ℕ → ℕ → ℕ
 column_slot plan t i = get_or (slots_at plan.slots t).columns i 0
+
+-- the terms that are computed anew for its windows, each with its depth
+unfoldable pub cone : Planned → ℕ → List (ℕ × ℕ)
+cone plan t = get_or plan.cones t []
 
 -- ---- the plan of a pipeline
 
@@ -128,6 +134,7 @@ pub record IsPlanOf (days : List ℤ) (p : Pipeline) (plan : Planned) : Type 0 w
   pub last : (t : ℕ) → is_used plan t ≡ true → AreLastUsers p.graph (outputs p) t (last_user plan t)
   pub live : (k t : ℕ) → k < length p.graph → is_live plan k t ≡ contains (live_terms p.graph (outputs p) k) t
   pub slots : AreSlots p plan
+  pub cones : (t : ℕ) → t < length p.graph → cone plan t ≡ cone_depths p.graph t
 
 -- ---- why there is none
 
@@ -162,3 +169,4 @@ pub record KeepsLimits (plan : Planned) : Type 0 where
       × (extra_at plan.extras (length plan.uses) (s - plan.from) t ≤ most_extra_rows)
   pub among : (t : ℕ) → is_used plan t ≡ true → t < length plan.uses
   pub slots : (t : ℕ) → is_used plan t ≡ true → slot_of plan t < plan.bound
+  pub cones : (t : ℕ) → is_used plan t ≡ true → t < length plan.cones

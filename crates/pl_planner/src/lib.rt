@@ -3,6 +3,7 @@
 #![tactic(auto)]
 
 mod columns;
+mod cones;
 pub mod laws;
 mod names;
 mod pipeline;
@@ -11,11 +12,13 @@ mod plans;
 mod reach;
 mod rows;
 mod slots;
+mod steady;
 mod text;
 pub mod text_laws;
 mod uses;
 
 pub use columns::has_column;
+pub use cones::ConeTerm;
 pub use pipeline::{count, node_at};
 pub use planning::plan;
 pub use plans::{Plan, PlanError};

@@ -4,6 +4,7 @@ ghost use Rattle.pl_terms.specs.Checked.{pipeline_of};
 ghost use Rattle.pl_planner.specs.Plans.{IsPlanFault, IsPlanOf};
 
 use crate::columns::bound_of;
+use crate::cones::gather_cones;
 use crate::pipeline::are_asked;
 use crate::plans::{Plan, PlanError};
 use crate::reach::reach_of;
@@ -53,6 +54,9 @@ pub fn plan(
     let Ok(slots) = slot_terms(alloc, &uses) else {
         return Err(PlanError::Memory);
     };
+    let Ok(cones) = gather_cones(alloc, checked.graph()) else {
+        return Err(PlanError::Memory);
+    };
     Ok(Plan {
         from,
         to,
@@ -61,5 +65,6 @@ pub fn plan(
         uses,
         extras,
         slots,
+        cones,
     })
 }

@@ -2,8 +2,10 @@
 ghost use Rattle.std.specs.Prelude.{◌≡◌, ◌+◌, ◌-◌, ◌<◌, ◌≤◌, ◌≤ℤ◌, pos, true, option_map};
 ghost use Rattle.pl_spec.specs.Limits.{most_extra_rows, most_terms};
 ghost use Rattle.pl_terms.specs.Nodes.{number_of};
+ghost use Rattle.pl_planner.specs.Cones.{pairs_of};
 ghost use Rattle.pl_planner.specs.Plans as spec;
 
+use crate::cones::{Cone, ConeTerm};
 use crate::slots::TermSlots;
 use crate::uses::{Use, use_of};
 use pl_terms::TermId;
@@ -22,8 +24,8 @@ pub enum PlanError {
     Memory,
 }
 
-/// How a pipeline is run over the sessions from one to another: how far back each used term is computed, and
-/// in which slot it is held. Sessions are counted from 0.
+/// How a pipeline is run over the sessions from one to another: how far back each used term is computed, in
+/// which slot it is held, and what is computed anew for its windows. Sessions are counted from 0.
 #[derive(Drop)]
 pub struct Plan {
     pub(crate) from: usize,
@@ -33,6 +35,7 @@ pub struct Plan {
     pub(crate) uses: Vec<Use>,
     pub(crate) extras: Vec<usize>,
     pub(crate) slots: Vec<TermSlots>,
+    pub(crate) cones: Vec<Cone>,
 }
 
 impl Model for Plan {
@@ -154,5 +157,16 @@ impl Plan {
         ensures { result ≡ spec.column_slot self.now t.0 i }
     {
         self.slots[t.0 as usize].columns[i]
+    }
+
+    /// The cone of a used term: the terms that its windows are over and that move with the bars, ascending,
+    /// each with the number of sessions before the term's own on which it is computed anew. Most terms have
+    /// none.
+    #[tactic(auto, unfolding(crate::specs::Plans::is_used, crate::specs::Plans::cone))]
+    pub fn cone(&self, t: TermId) -> &[ConeTerm]
+        requires { spec.is_used self.now t.0 ≡ true }
+        ensures { pairs_of result.now ≡ spec.cone self.now t.0 }
+    {
+        &self.cones[t.0 as usize].terms
     }
 }

@@ -4,9 +4,11 @@ use Rattle.pl_spec.specs.Limits.{most_extra_rows}
 use Rattle.pl_terms.specs.Checked.{pipeline_of}
 use Rattle.pl_terms.specs.Uses.{outputs}
 use Rattle.pl_planner.specs.declared.uses.Use.{Use}
+use Rattle.pl_planner.specs.Cones.{cones_of}
 use Rattle.pl_planner.specs.Rows.{most_extra}
 use Rattle.pl_planner.specs.Plans.{IsDeepest}
 use Rattle.pl_planner.proofs.Covers.{is-plan, limits, deepest, is-early, not-early}
+use Rattle.pl_planner.proofs.Coned.{cones-listed}
 use Rattle.pl_planner.proofs.planning.plan.Goals as goal
 
 pub returns-then-rows-gt-MOST_ROWS-clause-fault : goal.returns-then-rows-gt-MOST_ROWS-clause-fault
@@ -30,10 +32,11 @@ invariant_of-result c =
     let lent = c.deref-4.ensures.value in
     let slotted = rw lent at c.in-Ok-slot_terms.ensures.slotted in
     let long : length c.in-Ok-slot_terms.slots.items ≡ length c.in-Ok.uses.items = c.in-Ok-slot_terms.ensures.size ∙ ap (λ (l : List Use). length l) lent in
+    let listed = cones-listed c.graph.result.now c.args.checked.now.graph (cones_of c.in-Ok-gather_cones.cones.items) c.in-Ok-gather_cones.ensures c.graph.ensures.value in
     rw (to_z-of_z w64 c.reach_of-reach.result fit)
     (limits c.args.sessions.now c.are_asked.ensures.days.ascend (pipeline_of c.args.checked.now) c.are_asked.ensures.checked c.in-Ok.uses.items c.in-Ok.ensures.uses c.in-Ok-slot_terms.slots.items slotted long c.args.from c.args.to c.requires.order c.requires.within
     c.in-Ok-gather_rows.extras.items c.in-Ok-gather_rows.ensures
-    c.reach_of-reach.result c.bound_of-bound.result (reached c.in-Ok.ensures.uses c.in-Ok.ensures.extras) early c.bound_of-bound.ensures.value few c.are_asked.ensures.few c.bound_of-bound.ensures.few)
+    c.reach_of-reach.result c.bound_of-bound.result (reached c.in-Ok.ensures.uses c.in-Ok.ensures.extras) early c.bound_of-bound.ensures.value few (cones_of c.in-Ok-gather_cones.cones.items) listed c.are_asked.ensures.few c.bound_of-bound.ensures.few)
 
 pub returns-clause-plan : goal.returns-clause-plan
 returns-clause-plan c =
@@ -45,10 +48,11 @@ returns-clause-plan c =
     let lent = c.deref-4.ensures.value in
     let slotted = rw lent at c.in-Ok-slot_terms.ensures.slotted in
     let long : length c.in-Ok-slot_terms.slots.items ≡ length c.in-Ok.uses.items = c.in-Ok-slot_terms.ensures.size ∙ ap (λ (l : List Use). length l) lent in
+    let listed = cones-listed c.graph.result.now c.args.checked.now.graph (cones_of c.in-Ok-gather_cones.cones.items) c.in-Ok-gather_cones.ensures c.graph.ensures.value in
     rw (to_z-of_z w64 c.reach_of-reach.result fit)
     (is-plan c.args.sessions.now c.are_asked.ensures.days.ascend (pipeline_of c.args.checked.now) c.are_asked.ensures.checked c.in-Ok.uses.items c.in-Ok.ensures.uses c.in-Ok-slot_terms.slots.items slotted long c.args.from c.args.to c.requires.order c.requires.within
     c.in-Ok-gather_rows.extras.items c.in-Ok-gather_rows.ensures
-    c.reach_of-reach.result c.bound_of-bound.result (reached c.in-Ok.ensures.uses c.in-Ok.ensures.extras) early c.bound_of-bound.ensures.value few)
+    c.reach_of-reach.result c.bound_of-bound.result (reached c.in-Ok.ensures.uses c.in-Ok.ensures.extras) early c.bound_of-bound.ensures.value few (cones_of c.in-Ok-gather_cones.cones.items) listed)
 
 pub reach_of-reach-requires : goal.reach_of-reach-requires
 reach_of-reach-requires c = rw c.deref.ensures.value (record {
