@@ -11,5 +11,6 @@ pub mod Ordered
 pub mod Units
 pub mod Crossed
 pub mod Scales
+pub mod Origins
 pub mod Lines
 pub mod OneAsset
