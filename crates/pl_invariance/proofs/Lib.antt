@@ -19,6 +19,7 @@ pub mod Formulas
 pub mod Crossed
 pub mod Indicators
 pub mod Scales
+pub mod Origins
 pub mod Lines
 pub mod Shares
 pub mod OneAsset

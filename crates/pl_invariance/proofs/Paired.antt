@@ -62,7 +62,7 @@ sums-turned ps = record {
   xy = map-swapped (λ x y. x *ℤ y) ps ∙ turned-products ps;
 }
 
-joint-turned : (s t : PairSums) → AreTurned s t → joint_spread t ≡ joint_spread s
+pub joint-turned : (s t : PairSums) → AreTurned s t → joint_spread t ≡ joint_spread s
 joint-turned s t h = rw (h.number, h.x, h.y, h.xy) (ap (λ (z : ℤ). (pos s.number *ℤ s.xy) -ℤ z) (*ℤ_comm s.y s.x))
 
 pub correlation-turned : (s t : PairSums) → AreTurned s t → correlation t ≡ correlation s

@@ -28,11 +28,11 @@ squared r = record { num = r.num * r.num; den = r.den * r.den }
 ratio-squared : (r : Fraction) → IsRatio r → IsRatio (squared r)
 ratio-squared r h = (mul-pos h.0 h.0, mul-pos h.1 h.1)
 
-abbrev both : ℕ → ℕ → ℤ × ℤ
+abbrev pub both : ℕ → ℕ → ℤ × ℤ
 both m n = (pos m, pos n)
 
 -- the ranks of a pair among others
-abbrev ranks_in : List (ℤ × ℤ) → ℤ × ℤ → ℤ × ℤ
+abbrev pub ranks_in : List (ℤ × ℤ) → ℤ × ℤ → ℤ × ℤ
 ranks_in ps p = (pos (twice_rank p.0 (map (λ q. q.0) ps)), pos (twice_rank p.1 (map (λ q. q.1) ps)))
 
 -- ---- roots of quotients
@@ -270,7 +270,7 @@ ranks-turned ps = all ps
         (ap₂ (λ (vs us : List ℤ). both (twice_rank q.1 vs) (twice_rank q.0 us)) firsts seconds-are)
         (all qs)
 
-ranked-swapped : (xs ys : List ℤ) → correlation (sums_of_pairs (ranked (present_pairs ys xs))) ≡ correlation (sums_of_pairs (ranked (present_pairs xs ys)))
+pub ranked-swapped : (xs ys : List ℤ) → correlation (sums_of_pairs (ranked (present_pairs ys xs))) ≡ correlation (sums_of_pairs (ranked (present_pairs xs ys)))
 ranked-swapped xs ys =
     ap (λ (ps : List (ℤ × ℤ)). correlation (sums_of_pairs (ranked ps))) (pairs-swapped xs ys)
     ∙ ap (λ (ps : List (ℤ × ℤ)). correlation (sums_of_pairs ps)) (ranks-turned (present_pairs xs ys))

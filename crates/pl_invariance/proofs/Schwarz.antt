@@ -41,7 +41,7 @@ total-from : (s : ℤ) (xs : List ℤ) → fold (λ s x. s +ℤ x) s xs ≡ s +�
 total-from s [] = omega (arith, ints)
 total-from s (x ∷ xs) = omega (arith, ints, total-from (s +ℤ x) xs, total-from (pos 0 +ℤ x) xs)
 
-total-cons : (x : ℤ) (xs : List ℤ) → total (x ∷ xs) ≡ x +ℤ total xs
+pub total-cons : (x : ℤ) (xs : List ℤ) → total (x ∷ xs) ≡ x +ℤ total xs
 total-cons x xs = omega (arith, ints, total-from (pos 0 +ℤ x) xs)
 
 -- the sum of the products of what f and g make of each pair, and that of the squares of magnitudes

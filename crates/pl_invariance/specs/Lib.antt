@@ -11,6 +11,7 @@ pub mod Ordered
 pub mod Units
 pub mod Crossed
 pub mod Scales
+pub mod Origins
 pub mod Lines
 pub mod OneAsset
 pub mod Pipelines

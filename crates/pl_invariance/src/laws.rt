@@ -11,6 +11,7 @@ ghost use Rattle.pl_invariance.specs.Renamed.{SidsAreNames};
 ghost use Rattle.pl_invariance.specs.Restated.{SplitsMayBeRestated, WorldsCanBeRestated};
 ghost use Rattle.pl_invariance.specs.Lines.{LinesGoThroughMeans, ScalesAddUp};
 ghost use Rattle.pl_invariance.specs.OneAsset.{OneAssetForAll};
+ghost use Rattle.pl_invariance.specs.Origins.{PairsHaveNoOrigin};
 ghost use Rattle.pl_invariance.specs.Scales.{CorrelationsHaveNoScale, RegressionsHaveUnits};
 ghost use Rattle.pl_invariance.specs.Units.{FormulasHaveUnits, IndicatorsHaveNoUnit};
 
@@ -88,6 +89,12 @@ pub fn correlations_have_no_scale()
 /// A covariance and a slope are multiplied by the ratio by which y is, where nothing is rounded.
 pub fn regressions_have_units()
     ensures { RegressionsHaveUnits }
+{}
+
+/// Correlations, covariances, slopes and their errors are the same where a constant is added to one side. It
+/// guards the spreads, which are of what lies between the values and their means.
+pub fn pairs_have_no_origin()
+    ensures { PairsHaveNoOrigin }
 {}
 
 /// Where x is at its mean, the line of a regression is at the mean of y: exactly before slope and intercept
