@@ -1,6 +1,7 @@
 -- The text of a plan by the definitions.
 use Rattle.std.proofs.Common.{◌≡◌, ℕ, true, ℤ, List, [], ◌∷◌, ◌++◌, flat_map, slice_get, refl, ◌∙◌, ap, ◌==◌}
 use Rattle.std.proofs.lemmas.Bool.{or_left, or_right, eq-eqb}
+use Rattle.pl_pipeline.specs.Cones.{cone_depths}
 use Rattle.pl_pipeline.specs.Graph.{contains, used_terms}
 use Rattle.pl_pipeline.specs.Table.{Pipeline}
 use Rattle.pl_terms.specs.Checked.{pipeline_of}
@@ -26,7 +27,7 @@ flat-same f g (x ∷ xs) h =
 
 lines-same : (p : Pipeline) (e f : ℕ → ℕ) → ((t : ℕ) → is_used p t ≡ true → e t ≡ f t) → lines_text p e ≡ lines_text p f
 unfolding lines_text
-lines-same p e f h = flat-same (line_at p e) (line_at p f) (used_terms p.graph (outputs p)) (λ t u. ap (λ n. line_of t (slice_get p.graph t) n (uses p t)) (h t u))
+lines-same p e f h = flat-same (line_at p e) (line_at p f) (used_terms p.graph (outputs p)) (λ t u. ap (λ n. line_of t (slice_get p.graph t) n (uses p t) (cone_depths p.graph t)) (h t u))
 
 of-plan : (days : List ℤ) (p : Pipeline) (plan : Planned) → IsPlanOf days p plan → HasRows days p plan
     → plan_text p (extra plan) plan.reach plan.bound ≡ planned_text days p plan.from

@@ -2,7 +2,7 @@
 use Rattle.std.proofs.Common.{◌≡◌, ℕ, suc, ◌+◌, ◌-◌, ◌*◌, ◌^◌, ◌<◌, ◌≤◌, ◌==◌, cond, not, max, Bool, true, false, List, [], ◌∷◌, ◌++◌, length, map, filter, filter_map, get_or, set, replicate, Option, Some, None, slice_get, refl, sym, ◌∙◌, ap, subst, arith, inl, inr, append-nil, append_assoc, get_or-set_same, get_or-set_other}
 use Rattle.std.proofs.lemmas.Bool.{cases_eq, eq-eqb, eqb-true, true≢false}
 use Rattle.std.proofs.lemmas.Option.{slice_get_within}
-use Rattle.std.proofs.lemmas.List.{get_or-replicate, map-append}
+use Rattle.std.proofs.lemmas.List.{get_or-replicate, get_or-map, length-map, map-append}
 use Rattle.pl_spec.specs.Limits.{most_terms}
 use Rattle.pl_pipeline.specs.Term.{Node, Graph, Input, IsGraph, term_at}
 use Rattle.pl_pipeline.specs.Term.Input.{BarColumn, TermInput}
@@ -17,6 +17,7 @@ use Rattle.pl_terms.proofs.Graphs.{graph-long}
 use Rattle.pl_planner.specs.declared.cones.Cone.{Cone}
 use Rattle.pl_planner.specs.declared.cones.ConeTerm.{ConeTerm}
 use Rattle.pl_planner.specs.Cones.{pair_of, pairs_of, cones_of, joined, AreMarks, AddsMarks, moving_marks, HaveRoom}
+use Rattle.pl_planner.specs.Plans.{Planned, KeepsLimits, is_used, cone}
 use Rattle.pl_planner.specs.Steady.{AreSteady}
 
 -- ---- marks
@@ -210,3 +211,20 @@ pub cones-listed : (ns ms : List code.Node) (cs : List (List (ℕ × ℕ))) → 
     → cs ≡ map (cone_depths (graph_of ms)) (range_with_len 0 (length (graph_of ms)))
 cones-listed ns ms cs is e =
     is ∙ ap (λ l. map (cone_depths (graph_of l)) (range_with_len 0 (length l))) e ∙ ap (λ n. map (cone_depths (graph_of ms)) (range_with_len 0 n)) (sym (graph-long ms))
+
+-- ---- those of a plan
+
+pub cones-long : (cs : List Cone) → length (cones_of cs) ≡ length cs
+unfolding cones_of
+cones-long cs = length-map cs (λ (c : Cone). pairs_of c.terms.items)
+
+pub cone-within : (p now : Planned) → p ≡ now → KeepsLimits p → (t : ℕ) → is_used now t ≡ true → t < length p.cones
+cone-within p now is keeps t used = keeps.cones t (subst (λ q. is_used q t ≡ true) (sym is) used)
+
+listed-at : (cs : List Cone) (t : ℕ) (x : Cone) → t < length cs → x ≡ get_or cs t x → pairs_of x.terms.items ≡ get_or (cones_of cs) t []
+unfolding cones_of
+listed-at cs t x h e = ap (λ (c : Cone). pairs_of c.terms.items) e ∙ sym (get_or-map (λ (c : Cone). pairs_of c.terms.items) cs t x [] h)
+
+pub cone-at : (p now : Planned) → p ≡ now → (t : ℕ) (cs : List Cone) (x : Cone) → t < length cs → x ≡ get_or cs t x → p.cones ≡ cones_of cs → pairs_of x.terms.items ≡ cone now t
+unfolding cone
+cone-at p now is t cs x h e listed = listed-at cs t x h e ∙ ap (λ l. get_or l t []) (sym listed) ∙ ap (λ (q : Planned). get_or q.cones t []) is

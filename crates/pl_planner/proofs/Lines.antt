@@ -3,6 +3,7 @@ use Rattle.std.proofs.Common.{◌≡◌, ℕ, ◌+◌, Bool, true, false, List, 
 use Rattle.std.specs.List.{range_with_len}
 use Rattle.std.proofs.lemmas.List.Elements.{filter-append}
 use Rattle.std.proofs.lemmas.Grind.{flat_map-append}
+use Rattle.pl_pipeline.specs.Cones.{cone_depths}
 use Rattle.pl_pipeline.specs.Term.{Node}
 use Rattle.pl_pipeline.specs.Table.{Pipeline}
 use Rattle.pl_spec.proofs.Ranges.{range-next}
@@ -27,7 +28,7 @@ module _ (p : Pipeline) (extra : ℕ → ℕ) where
       here true u = let one : flat_map (line_at p extra) (filter (is_used p) (k ∷ [])) ≡ line_at p extra k ++ [] = rw u refl in rw u (sym (more k ∙ ap (λ l. lines_below k ++ l) (one ∙ append-nil (line_at p extra k))))
       here false u = let one : flat_map (line_at p extra) (filter (is_used p) (k ∷ [])) ≡ [] = rw u refl in rw u (sym (more k ∙ ap (λ l. lines_below k ++ l) one))
 
-  pub line-is : (k : ℕ) (n : Node) → is_used p k ≡ true → slice_get p.graph k ≡ Some n → used_line p extra k ≡ term_line k n (extra k) (uses p k)
+  pub line-is : (k : ℕ) (n : Node) → is_used p k ≡ true → slice_get p.graph k ≡ Some n → used_line p extra k ≡ term_line k n (extra k) (uses p k) (cone_depths p.graph k)
   line-is k n u e = rw (u, e) refl
 
   pub all-lines : lines_below (length p.graph) ≡ lines_text p extra

@@ -4,6 +4,7 @@ use Rattle.pl_pipeline.specs.Term.{Input, Node}
 use Rattle.pl_pipeline.specs.Term.Input.{BarColumn, TermInput}
 use Rattle.std.specs.Fmt.{signed_decimal}
 use Rattle.pl_pipeline.specs.Graph.{used_terms, bound}
+use Rattle.pl_pipeline.specs.Cones.{cone_depths}
 use Rattle.pl_pipeline.specs.Lows.{IsLow, least_reach}
 use Rattle.pl_pipeline.specs.Table.{Pipeline}
 use Rattle.pl_spec.specs.Names.{column_name}
@@ -35,18 +36,31 @@ places_text n =
     codes " window=" ++ decimal n.window ++ codes " mask=" ++ number_text n.mask ++ codes " group=" ++ number_text n.group
 
 abbrev pub numbers_text : ℕ → ℕ → List ℕ
-numbers_text extra count = codes " extra=" ++ decimal extra ++ codes " uses=" ++ decimal count ++ 10 ∷ []
+numbers_text extra count = codes " extra=" ++ decimal extra ++ codes " uses=" ++ decimal count
 
--- the line of a term that has so many extra rows and uses
-unfoldable pub term_line : ℕ → Node → ℕ → ℕ → List ℕ
-term_line t n extra count = front_text t n ++ places_text n ++ numbers_text extra count
+-- a term of a cone, and on how many sessions before it is computed anew
+abbrev pub depth_text : ℕ × ℕ → List ℕ
+depth_text c = decimal c.0 ++ codes ":" ++ decimal c.1
 
-abbrev pub line_of : ℕ → Option Node → ℕ → ℕ → List ℕ
-line_of t None extra count = []
-line_of t (Some n) extra count = term_line t n extra count
+abbrev pub depth_behind : ℕ × ℕ → List ℕ
+depth_behind c = codes ";" ++ depth_text c
+
+-- what is computed anew for a term; nothing where it has no cone
+unfoldable pub anew_text : List (ℕ × ℕ) → List ℕ
+anew_text [] = []
+anew_text (c ∷ cs) = codes " anew=" ++ depth_text c ++ flat_map depth_behind cs
+
+-- the line of a term that has so many extra rows and uses, and the cone
+unfoldable pub term_line : ℕ → Node → ℕ → ℕ → List (ℕ × ℕ) → List ℕ
+term_line t n extra count cone =
+    front_text t n ++ places_text n ++ numbers_text extra count ++ anew_text cone ++ 10 ∷ []
+
+abbrev pub line_of : ℕ → Option Node → ℕ → ℕ → List (ℕ × ℕ) → List ℕ
+line_of t None extra count cone = []
+line_of t (Some n) extra count cone = term_line t n extra count cone
 
 abbrev pub line_at : Pipeline → (ℕ → ℕ) → ℕ → List ℕ
-line_at p extra t = line_of t (slice_get p.graph t) (extra t) (uses p t)
+line_at p extra t = line_of t (slice_get p.graph t) (extra t) (uses p t) (cone_depths p.graph t)
 
 abbrev pub used_line : Pipeline → (ℕ → ℕ) → ℕ → List ℕ
 used_line p extra t = if is_used p t then line_at p extra t else []

@@ -5,6 +5,7 @@
 mod columns;
 mod cones;
 pub mod laws;
+mod holds;
 mod names;
 mod pipeline;
 mod planning;

@@ -6,9 +6,12 @@ ghost use Rattle.pl_terms.specs.Checked.{pipeline_of};
 ghost use Rattle.pl_terms.specs.Nodes.{input_of, node_of, number_of};
 ghost use Rattle.pl_terms.specs.Uses as pipeline;
 ghost use Rattle.pl_planner.specs.Plans as plans;
-ghost use Rattle.pl_planner.specs.Text.{behind_semicolon, front_text, input_text, inputs_text, last_line, lines_text, number_text};
-ghost use Rattle.pl_planner.specs.Text.{numbers_text, places_text, plan_text, term_line, used_line};
+ghost use Rattle.pl_pipeline.specs.Cones.{cone_depths};
+ghost use Rattle.pl_planner.specs.Cones.{pair_of, pairs_of};
+ghost use Rattle.pl_planner.specs.Text.{anew_text, behind_semicolon, depth_behind, depth_text, front_text, input_text, inputs_text, last_line};
+ghost use Rattle.pl_planner.specs.Text.{lines_text, number_text, numbers_text, places_text, plan_text, term_line, used_line};
 
+use crate::cones::ConeTerm;
 use crate::names::{column_name, kind_name};
 use crate::plans::Plan;
 use itoa::Buffer;
@@ -104,8 +107,40 @@ fn put_numbers(out: &mut Vec<u8>, extra: usize, uses: usize) -> Result<(), Alloc
     ensures { OnOk result (out.new.items ≡ out.old.items ++ numbers_text extra uses) }
 {
     put_number(out, " extra=", extra as u64)?;
-    put_number(out, " uses=", uses as u64)?;
-    put(out, "\n")
+    put_number(out, " uses=", uses as u64)
+}
+
+fn put_depth(out: &mut Vec<u8>, before: &str, own: ConeTerm) -> Result<(), AllocError>
+    ensures { OnOk result (out.new.items ≡ out.old.items ++ before.now ++ depth_text (pair_of own)) }
+{
+    put_number(out, before, u64::from(own.term.0))?;
+    put_number(out, ":", own.depth as u64)
+}
+
+fn put_depths(out: &mut Vec<u8>, cone: &[ConeTerm]) -> Result<(), AllocError>
+    ensures { OnOk result (out.new.items ≡ out.old.items ++ flat_map depth_behind (map pair_of cone.now)) }
+{
+    match cone {
+        [] => Ok(()),
+        [first, rest @ ..] => {
+            put_depth(out, ";", *first)?;
+            put_depths(out, rest)
+        }
+    }
+}
+
+// What is computed anew for a term.
+#[tactic(auto, unfolding(crate::specs::Text::anew_text, crate::specs::Cones::pairs_of))]
+fn put_anew(out: &mut Vec<u8>, cone: &[ConeTerm]) -> Result<(), AllocError>
+    ensures { OnOk result (out.new.items ≡ out.old.items ++ anew_text (pairs_of cone.now)) }
+{
+    match cone {
+        [] => Ok(()),
+        [first, rest @ ..] => {
+            put_depth(out, " anew=", *first)?;
+            put_depths(out, rest)
+        }
+    }
 }
 
 #[tactic(auto, unfolding(crate::specs::Text::term_line))]
@@ -115,12 +150,16 @@ fn put_line(
     node: &Node,
     extra: usize,
     uses: usize,
+    cone: &[ConeTerm],
 ) -> Result<(), AllocError>
-    ensures { OnOk result (out.new.items ≡ out.old.items ++ term_line t.0 (node_of node.now) extra uses) }
+    ensures { OnOk result (out.new.items ≡ out.old.items
+        ++ term_line t.0 (node_of node.now) extra uses (pairs_of cone.now)) }
 {
     put_front(out, t, node)?;
     put_places(out, node)?;
-    put_numbers(out, extra, uses)
+    put_numbers(out, extra, uses)?;
+    put_anew(out, cone)?;
+    put(out, "\n")
 }
 
 fn put_reach(out: &mut Vec<u8>, reach: i64) -> Result<(), AllocError>
@@ -144,6 +183,7 @@ fn put_last(out: &mut Vec<u8>, reach: i64, bound: usize) -> Result<(), AllocErro
 fn put_term(out: &mut Vec<u8>, checked: &Checked, plan: &Plan, t: TermId) -> Result<(), AllocError>
     requires within { t.0 < length checked.now.graph }
     requires same { plans.is_used plan.now t.0 ≡ pipeline.is_used (pipeline_of checked.now) t.0 }
+    requires cone { plans.cone plan.now t.0 ≡ cone_depths (pipeline_of checked.now).graph t.0 }
     ensures { OnOk result (out.new.items ≡ out.old.items
         ++ used_line (pipeline_of checked.now) (plans.extra plan.now) t.0) }
 {
@@ -151,11 +191,13 @@ fn put_term(out: &mut Vec<u8>, checked: &Checked, plan: &Plan, t: TermId) -> Res
         return Ok(());
     }
     let node = checked.graph().node(t);
-    put_line(out, t, node, plan.extra(t), checked.uses(t))
+    put_line(out, t, node, plan.extra(t), checked.uses(t), plan.cone(t))
 }
 
 fn put_terms(out: &mut Vec<u8>, checked: &Checked, plan: &Plan) -> Result<(), AllocError>
-    requires { (t : ℕ) → plans.is_used plan.now t ≡ pipeline.is_used (pipeline_of checked.now) t }
+    requires used { (t : ℕ) → plans.is_used plan.now t ≡ pipeline.is_used (pipeline_of checked.now) t }
+    requires cones { (t : ℕ) → t < length (pipeline_of checked.now).graph
+        → plans.cone plan.now t ≡ cone_depths (pipeline_of checked.now).graph t }
     ensures { OnOk result (out.new.items ≡ out.old.items
         ++ lines_text (pipeline_of checked.now) (plans.extra plan.now)) }
 {
@@ -168,12 +210,15 @@ fn put_terms(out: &mut Vec<u8>, checked: &Checked, plan: &Plan) -> Result<(), Al
 /// The text of a plan: for each used term in ascending number one line, as `4 SimpleMovingAverage
 /// inputs=close window=3 mask=2 group=- extra=0 uses=1`, with its number, its kind without the parameters,
 /// its inputs joined by `;` (a bar column by its name, a term by its number), its window in sessions, its
-/// mask and group, on how many sessions before the range it is computed and how often it is used; then
+/// mask and group, on how many sessions before the range it is computed and how often it is used, and for a
+/// window over what moves with the bars ` anew=1:13`: its cone, each term with its depth, joined by `;`; then
 /// `reach=R bound=B`. Each line ends with LF. The only error is want of memory.
 #[tactic(auto, unfolding(crate::specs::Text::plan_text))]
 pub fn plan_text(alloc: Global, checked: &Checked, plan: &Plan) -> Result<Vec<u8>, Memory>
     // The plan is one of this pipeline's.
-    requires { (t : ℕ) → plans.is_used plan.now t ≡ pipeline.is_used (pipeline_of checked.now) t }
+    requires used { (t : ℕ) → plans.is_used plan.now t ≡ pipeline.is_used (pipeline_of checked.now) t }
+    requires cones { (t : ℕ) → t < length (pipeline_of checked.now).graph
+        → plans.cone plan.now t ≡ cone_depths (pipeline_of checked.now).graph t }
     ensures { IfOk result (λ text. text.items
         ≡ plan_text (pipeline_of checked.now) (plans.extra plan.now) plan.now.reach plan.now.bound) }
 {
