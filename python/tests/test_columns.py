@@ -19,7 +19,7 @@ class Fundamentals(DataSet):
     sector_code = Column(np.int64, missing_value=-99)
     exchange = Column(object, missing_value="")
     name_of = Column(str, name="standard_name")
-    shares = Column(float)
+    shares = Column(float, doc="of common stock", metadata={"in": "thousands"}, currency_aware=False)
 
 
 class Others(DataSet):
@@ -74,6 +74,7 @@ def test_columns():
     [
         (lambda: Column(bool, missing_value=True), "no missing_value=True; nearest: False"),
         (lambda: Column(int, missing_value=0.5), "a whole number, as -1"),
+        (lambda: Column(float, currency_aware=True), "nearest: numbers in one currency"),
         (lambda: Column(object, missing_value="none"), "nearest: None"),
         (
             lambda: Fundamentals.is_primary.eq(1),

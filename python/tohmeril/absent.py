@@ -13,8 +13,9 @@ VENDOR = (
     "tohmeril.pipeline.data, and Data.write takes its records as numbers="
 )
 LABEL = (
-    "a vendor's sectors and lists are labels: Data.write takes them as labels=, and Labels.NAME.latest of "
-    "tohmeril.pipeline.data is one; a universe is a filter, as AverageDollarVolume(window_length=200).top(500)"
+    "a vendor's sectors and lists are class Fundamentals(DataSet): sector = Column(int), or Column(object) for texts, "
+    "whose latest is a classifier, and Data.write takes them as labels=; a universe is a filter, as "
+    "AverageDollarVolume(window_length=200).top(500)"
 )
 NEAREST = {  # by the name after that of the package
     r"(research|interactive)(\..*)?": (

@@ -320,6 +320,10 @@ class CustomClassifier(Custom, Classifier):
         """True where the label holds `substring`."""
         return Text.has_substring(self._text(), substring)
 
+    def matches(self, pattern: Any) -> Filter:
+        """True where a regular expression matches from the label's first sign on, as by `re.match`."""
+        return Text.matches(self._text(), pattern)
+
     def _text(self) -> Any:
         if self._kind is Whole:
             raise TypeError(f"{self!r} has whole numbers, which have no beginning and no end: write .eq or .element_of")

@@ -43,8 +43,10 @@ class Column:
     missing_value : object, optional
         NaN, false, -1 or another whole number, None or an empty text, by the type; `fillna` puts another number in
         place of NaN.
-    doc : str, optional
+    doc, metadata : str and mapping, optional
         Words for readers of the class.
+    currency_aware : bool
+        Zipline's, and false: there are no currencies.
     name : str, optional
         The name that it has in the data, where it is not the attribute's. Ours.
 
@@ -64,7 +66,14 @@ class Column:
     """
 
     def __init__(
-        self, dtype: Any, missing_value: Any = _NONE, doc: Optional[str] = None, *, name: Optional[str] = None
+        self,
+        dtype: Any,
+        missing_value: Any = _NONE,
+        doc: Optional[str] = None,
+        metadata: Optional[Mapping[str, Any]] = None,
+        currency_aware: bool = False,
+        *,
+        name: Optional[str] = None,
     ):
         kind = pandas_dtype(object if dtype in (str, "category") else dtype).kind
         if kind not in KINDS:
@@ -78,7 +87,9 @@ class Column:
         is_whole = isinstance(missing_value, (int, np.integer)) and not isinstance(missing_value, bool)
         if not is_usual and not (kind == "i" and is_whole):
             Absent(f"missing_value={missing_value!r}", instead)()
-        self.name, self.doc = name, doc
+        if currency_aware:
+            Absent("currency_aware=True", "numbers in one currency")()
+        self.name, self.doc, self.metadata = name, doc, dict(metadata or {})
 
     def bind(self, dataset: str, attribute: str) -> DataColumn:
         """The column of a DataSet."""
