@@ -18,7 +18,7 @@ use Rattle.pl_cross.specs.Arrays.{sid_in}
 use Rattle.pl_cross.specs.Listing.{labels_in}
 use Rattle.pl_terms.specs.Checked.{IsChecked}
 use Rattle.pl_terms.specs.Nodes.{number_of as number_in}
-use Rattle.pl_terms.specs.Sorts.{Filters}
+use Rattle.pl_terms.specs.declared.row.Sort.TheVariants.{Filters}
 use Rattle.pl_terms.specs.declared.node.TermId.{TermId}
 use Rattle.pl_values.proofs.Numbers.{number_is, plain-number}
 use Rattle.pl_daily.specs.Days.{Start, FedDay, fed, IsStart, AreFed}

@@ -15,7 +15,8 @@ use Rattle.pl_pipeline.specs.Term.Input.{BarColumn, TermInput}
 use Rattle.pl_pipeline.specs.Graph.{contains, reads_at, Used}
 use Rattle.pl_pipeline.specs.Graph.Used.{output, mentioned}
 use Rattle.pl_pipeline.proofs.Contained.{in-alone}
-use Rattle.pl_terms.specs.Sorts.{has_window, form_fits, is_window_from, sort_at, Filters, places, all_fit, AnyTerm, is_downsampled}
+use Rattle.pl_terms.specs.declared.row.Sort.TheVariants.{Filters}
+use Rattle.pl_terms.specs.Sorts.{has_window, form_fits, is_window_from, sort_at, places, all_fit, AnyTerm, is_downsampled}
 use Rattle.pl_terms.specs.declared.kind.WindowForm.{WindowForm}
 use Rattle.pl_terms.specs.declared.kind.WindowForm.TheVariants.{Bar, LongSeries, LongColumns, Pairs, Regression, TwoColumns}
 use Rattle.pl_terms.specs.Windows.{row_of}

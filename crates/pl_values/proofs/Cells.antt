@@ -10,7 +10,8 @@ use Rattle.pl_pipeline.specs.NodeValue.{number_part, node_operands, seen_node_op
 use Rattle.pl_pipeline.specs.Table.{Pipeline, value_of, in_array}
 use Rattle.pl_pipeline.proofs.Trees.{term_at-node}
 use Rattle.pl_terms.specs.Checked.{IsChecked}
-use Rattle.pl_terms.specs.Sorts.{Place, Filters, Labels, sort_at, has_mask}
+use Rattle.pl_terms.specs.declared.row.Sort.TheVariants.{Filters, Labels}
+use Rattle.pl_terms.specs.Sorts.{Place, sort_at, has_mask}
 use Rattle.pl_cross.specs.Arrays.{sid_in}
 use Rattle.pl_values.specs.Arrays.{cell_of, empty_cell, is_kept, chosen}
 use Rattle.pl_values.proofs.Typed.{optional-sort, filter-sort}

@@ -18,7 +18,8 @@ use Rattle.pl_pipeline.specs.Term.Input.{BarColumn, TermInput}
 use Rattle.pl_pipeline.specs.Value.{Value, name_at, test_value, kind_value}
 use Rattle.pl_pipeline.specs.Table.{Pipeline, value_of, in_array}
 use Rattle.pl_terms.specs.Checked.{IsChecked}
-use Rattle.pl_terms.specs.Sorts.{LabelClassifier, Labels, sort_at, places, fits, has_parameters, is_limited, is_downsampled, is_windowed}
+use Rattle.pl_terms.specs.declared.row.Sort.TheVariants.{Labels}
+use Rattle.pl_terms.specs.Sorts.{LabelClassifier, sort_at, places, fits, has_parameters, is_limited, is_downsampled, is_windowed}
 use Rattle.pl_cross.specs.Arrays.{sid_in}
 use Rattle.pl_cross.proofs.Codes.{IsCoded}
 use Rattle.pl_values.specs.Arrays.{cell_of}

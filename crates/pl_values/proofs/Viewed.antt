@@ -19,7 +19,8 @@ use Rattle.pl_pipeline.specs.NodeValue.{number_part, seen_part, seen_node_operan
 use Rattle.pl_pipeline.specs.Table.{Pipeline, value_of, in_array}
 use Rattle.pl_pipeline.proofs.Unfolds.{seen_at-node, stands}
 use Rattle.pl_terms.specs.Checked.{IsChecked}
-use Rattle.pl_terms.specs.Sorts.{Factors, Filters, Place, Filter, sort_of, sort_at, is_downsampled, window_places, point_places, fits, has_parameters}
+use Rattle.pl_terms.specs.declared.row.Sort.TheVariants.{Factors, Filters}
+use Rattle.pl_terms.specs.Sorts.{Place, Filter, sort_of, sort_at, is_downsampled, window_places, point_places, fits, has_parameters}
 use Rattle.pl_terms.proofs.TermSorts.{kind-own, sorted-there}
 use Rattle.pl_lanes.specs.Flags.{IsFlag}
 use Rattle.pl_cross.specs.Arrays.{sid_in}

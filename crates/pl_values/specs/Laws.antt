@@ -16,7 +16,8 @@ use Rattle.pl_pipeline.specs.Value.{name_at}
 use Rattle.pl_spec.specs.declared.AssetRow.{AssetRow}
 use Rattle.pl_spec.specs.declared.BarRow.{BarRow}
 use Rattle.pl_terms.specs.Checked.{IsChecked}
-use Rattle.pl_terms.specs.Sorts.{Filters, sort_at}
+use Rattle.pl_terms.specs.declared.row.Sort.TheVariants.{Filters}
+use Rattle.pl_terms.specs.Sorts.{sort_at}
 use Rattle.pl_lanes.specs.Flags.{IsFlag}
 use Rattle.pl_pointwise.specs.Operands.{IsOperation, AreOperands, operation}
 use Rattle.pl_assets.specs.Labels.{LabelTable, AreLabels}
