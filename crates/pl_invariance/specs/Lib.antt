@@ -13,4 +13,5 @@ pub mod Crossed
 pub mod Scales
 pub mod Origins
 pub mod Lines
+pub mod Fitted
 pub mod OneAsset
