@@ -21,6 +21,7 @@ pub mod Indicators
 pub mod Scales
 pub mod Origins
 pub mod Lines
+pub mod Fitted
 pub mod Shares
 pub mod OneAsset
 pub mod WorkedPairs

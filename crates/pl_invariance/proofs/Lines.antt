@@ -37,10 +37,10 @@ less-factor s a b some h = elim (cases_lt b a) [
 
 -- ---- products
 
-sum-by : (a b c : ℤ) → (a +ℤ b) *ℤ c ≡ (a *ℤ c) +ℤ (b *ℤ c)
+pub sum-by : (a b c : ℤ) → (a +ℤ b) *ℤ c ≡ (a *ℤ c) +ℤ (b *ℤ c)
 sum-by a b c = *ℤ_comm (a +ℤ b) c ∙ times-sum c a b ∙ ap₂ (λ (x y : ℤ). x +ℤ y) (*ℤ_comm c a) (*ℤ_comm c b)
 
-less-by : (a b c : ℤ) → (a -ℤ b) *ℤ c ≡ (a *ℤ c) -ℤ (b *ℤ c)
+pub less-by : (a b c : ℤ) → (a -ℤ b) *ℤ c ≡ (a *ℤ c) -ℤ (b *ℤ c)
 less-by a b c = *ℤ_comm (a -ℤ b) c ∙ times-less c a b ∙ ap₂ (λ (x y : ℤ). x -ℤ y) (*ℤ_comm c a) (*ℤ_comm c b)
 
 -- what the line is off, times the width, is made of the rests of the two quotients

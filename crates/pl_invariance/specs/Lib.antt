@@ -13,5 +13,6 @@ pub mod Crossed
 pub mod Scales
 pub mod Origins
 pub mod Lines
+pub mod Fitted
 pub mod OneAsset
 pub mod Pipelines

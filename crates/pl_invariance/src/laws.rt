@@ -9,6 +9,7 @@ ghost use Rattle.pl_invariance.specs.Priced.{PricesHaveUnits};
 ghost use Rattle.pl_invariance.specs.Ranked.{RanksHaveNoUnit};
 ghost use Rattle.pl_invariance.specs.Renamed.{SidsAreNames};
 ghost use Rattle.pl_invariance.specs.Restated.{SplitsMayBeRestated, WorldsCanBeRestated};
+ghost use Rattle.pl_invariance.specs.Fitted.{LinesAreOfLeastSquares};
 ghost use Rattle.pl_invariance.specs.Lines.{LinesGoThroughMeans, ScalesAddUp};
 ghost use Rattle.pl_invariance.specs.OneAsset.{OneAssetForAll};
 ghost use Rattle.pl_invariance.specs.Origins.{PairsHaveNoOrigin};
@@ -102,6 +103,13 @@ pub fn pairs_have_no_origin()
 /// for the slope. It guards that both are of one line.
 pub fn lines_go_through_means()
     ensures { LinesGoThroughMeans }
+{}
+
+/// Before its slope and intercept are rounded, the line of a regression is that of least squares: the sum of
+/// the squares of what lies between y and it is no greater than that of any other line. It is what the two
+/// formulas are defined for, and guards both.
+pub fn lines_are_of_least_squares()
+    ensures { LinesAreOfLeastSquares }
 {}
 
 /// The magnitudes of what a scale gives add up to 1, within half a millionth for each value, where not all
