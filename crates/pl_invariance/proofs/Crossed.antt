@@ -59,7 +59,7 @@ module _ (r : Fraction) (ratio : IsRatio r) (vs : List ℤ) (h : Each (IsExact r
       ∙ ap (option_map (scaled r)) (find-each (λ v. is_at others i (scaled r v)) (is_at vs i) vs (each_more (IsExact r) _ vs (at-same i) h)))
       ∙ found-times (is_at vs i) vs h
 
-  edge-times : (p n : ℕ) → Times (edge others p n) (edge vs p n)
+  pub edge-times : (p n : ℕ) → Times (edge others p n) (edge vs p n)
   edge-times p n =
       let i = p / n in
       let part = p - i * n in

@@ -160,7 +160,7 @@ module _ (r : Fraction) (ratio : IsRatio r) where
   places-same x hx [] h = refl
   places-same x hx (y ∷ ys) h = rw (equal-same y x h.0 hx, places-same x hx ys h.1) refl
 
-  position-same : (x : ℤ) → Divides r x → (xs : List ℤ) → AreExact r xs → position (λ y. int_eq y (scaled r x)) (map (scaled r) xs) ≡ position (λ y. int_eq y x) xs
+  pub position-same : (x : ℤ) → Divides r x → (xs : List ℤ) → AreExact r xs → position (λ y. int_eq y (scaled r x)) (map (scaled r) xs) ≡ position (λ y. int_eq y x) xs
   position-same x hx xs h =
       ap (λ n. cond (nat_lt n (length (map (scaled r) xs))) (Some n) None) (places-same x hx xs h)
       ∙ ap (λ m. cond (nat_lt (position_or_len (λ y. int_eq y x) xs) m) (Some (position_or_len (λ y. int_eq y x) xs)) None) (length-map xs (scaled r))

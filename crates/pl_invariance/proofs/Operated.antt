@@ -20,7 +20,7 @@ use Rattle.pl_invariance.proofs.Crossed.{screens-have-no-unit}
 use Rattle.pl_invariance.proofs.Exact.{missing_stays}
 use Rattle.pl_invariance.proofs.Formulas.{add-scaled, sub-scaled, mul-scaled}
 use Rattle.pl_invariance.proofs.Indicators.{missing-same}
-use Rattle.pl_invariance.proofs.Measured.{number_in, IsOf, by-times, quotient-scaled}
+use Rattle.pl_invariance.proofs.Measured.{number_in, IsOf, by-times, quotient-scaled, on_both}
 use Rattle.pl_invariance.proofs.Units as units
 
 
@@ -34,16 +34,6 @@ both-there x y v e f = rw (e, f) refl
 module _ (r : Fraction) (ratio : IsRatio r) where
   abbrev Times : ℤ → ℤ → Type 0
   Times y x = units.Times r ratio y x
-
-  -- two cells that are missing alike in both units
-  on_both : (x y x' y' v v' : ℤ) → is_missing x' ≡ is_missing x → is_missing y' ≡ is_missing y
-      → (is_missing x ≡ false → is_missing y ≡ false → v' ≡ scaled r v) → of_both x' y' v' ≡ scaled r (of_both x y v)
-  on_both x y x' y' v v' e f h = step (is_missing x) (is_missing y) refl refl
-    where
-      step : (b c : Bool) → is_missing x ≡ b → is_missing y ≡ c → of_both x' y' v' ≡ scaled r (of_both x y v)
-      step true c i j = rw (e, i) (sym (missing_stays r))
-      step false true i j = rw (e, f, i, j) (sym (missing_stays r))
-      step false false i j = rw (e, f, i, j) (h i j)
 
   on_both-same : (x y x' y' v v' : ℤ) → is_missing x' ≡ is_missing x → is_missing y' ≡ is_missing y
       → (is_missing x ≡ false → is_missing y ≡ false → v' ≡ v) → of_both x' y' v' ≡ of_both x y v
@@ -60,20 +50,20 @@ module _ (r : Fraction) (ratio : IsRatio r) where
   sums : (x y : ℤ) → Divides r x → Divides r y → GivesCell x y (add x y) → add (scaled r x) (scaled r y) ≡ scaled r (add x y)
   unfolding add
   sums x y h i g =
-      on_both x y (scaled r x) (scaled r y) _ _ (missing-same r ratio x h) (missing-same r ratio y i)
+      on_both r ratio x y (scaled r x) (scaled r y) _ _ (missing-same r ratio x h) (missing-same r ratio y i)
       (λ e f. sym (both-there (scaled r x) (scaled r y) _ (there x h e) (there y i f)) ∙ add-scaled r ratio x y (e, h) (f, i) (g e f) ∙ ap (scaled r) (both-there x y _ e f))
 
   gaps : (x y : ℤ) → Divides r x → Divides r y → GivesCell x y (sub x y) → sub (scaled r x) (scaled r y) ≡ scaled r (sub x y)
   unfolding sub
   gaps x y h i g =
-      on_both x y (scaled r x) (scaled r y) _ _ (missing-same r ratio x h) (missing-same r ratio y i)
+      on_both r ratio x y (scaled r x) (scaled r y) _ _ (missing-same r ratio x h) (missing-same r ratio y i)
       (λ e f. sym (both-there (scaled r x) (scaled r y) _ (there x h e) (there y i f)) ∙ sub-scaled r ratio x y (e, h) (f, i) (g e f) ∙ ap (scaled r) (both-there x y _ e f))
 
   product : (k y : ℤ) → Divides r y → (is_missing k ≡ false → is_missing y ≡ false → IsExact r (mul k y) × ((mul k y *ℤ pos MILLION) ≡ (k *ℤ y)))
       → mul k (scaled r y) ≡ scaled r (mul k y)
   unfolding mul
   product k y i g =
-      on_both k y k (scaled r y) _ _ refl (missing-same r ratio y i)
+      on_both r ratio k y k (scaled r y) _ _ refl (missing-same r ratio y i)
       (λ e f. sym (both-there k (scaled r y) _ e (there y i f)) ∙ mul-scaled r ratio k y (f, i) (g e f).0 (g e f).1 ∙ ap (scaled r) (both-there k y _ e f))
 
   turned : (x y : ℤ) → mul x y ≡ mul y x
@@ -96,7 +86,7 @@ module _ (r : Fraction) (ratio : IsRatio r) where
   share : (x y : ℤ) → Divides r x → (is_missing x ≡ false → is_missing y ≡ false → IsQuotientExact r (x *ℤ pos MILLION) y) → div (scaled r x) y ≡ scaled r (div x y)
   unfolding div
   share x y h g =
-      on_both x y (scaled r x) y _ _ (missing-same r ratio x h) refl
+      on_both r ratio x y (scaled r x) y _ _ (missing-same r ratio x h) refl
       (λ e f. quotient-scaled r ratio (x *ℤ pos MILLION) (scaled r x *ℤ pos MILLION) y (units.times-by r ratio (scaled r x) x (pos MILLION) (units.exact-times r ratio x (e, h))) (g e f))
 
   proportions : (x y : ℤ) → Divides r x → Divides r y → div (scaled r x) (scaled r y) ≡ div x y
@@ -121,11 +111,8 @@ module _ (r : Fraction) (ratio : IsRatio r) where
       on_one x (neg_ℤ (scaled r x)) (neg_ℤ x) h
       (λ e. by-times r ratio (neg_ℤ (scaled r x)) (neg_ℤ x) (rw e at w) (rw e at (g e e)) (units.times-neg r ratio (scaled r x) x (units.exact-times r ratio x (e, h))))
 
-  size-times : (x : ℤ) → IsExact r x → Times (pos (unsigned_abs (scaled r x))) (pos (unsigned_abs x))
-  size-times x h =
-      let same : unsigned_abs (scaled r x) * r.den ≡ unsigned_abs x * r.num
-      = sym (unsigned_abs-mul (scaled r x) (pos r.den)) ∙ ap unsigned_abs (units.exact-times r ratio x h) ∙ unsigned_abs-mul x (pos r.num) in
-      ap pos same
+  pub magnitude : (x : ℤ) → IsExact r x → unsigned_abs (scaled r x) * r.den ≡ unsigned_abs x * r.num
+  magnitude x h = sym (unsigned_abs-mul (scaled r x) (pos r.den)) ∙ ap unsigned_abs (units.exact-times r ratio x h) ∙ unsigned_abs-mul x (pos r.num)
 
   abbrev size_of : ℤ → ℤ
   size_of x = if is_missing x then MISSING else pos (unsigned_abs x)
@@ -133,7 +120,7 @@ module _ (r : Fraction) (ratio : IsRatio r) where
   sizes : (x : ℤ) → Divides r x → Divides r (size_of x) → size_of (scaled r x) ≡ scaled r (size_of x)
   sizes x h w =
       on_one x (pos (unsigned_abs (scaled r x))) (pos (unsigned_abs x)) h
-      (λ e. by-times r ratio (pos (unsigned_abs (scaled r x))) (pos (unsigned_abs x)) (rw e at w) refl (size-times x (e, h)))
+      (λ e. by-times r ratio (pos (unsigned_abs (scaled r x))) (pos (unsigned_abs x)) (rw e at w) refl (ap pos (magnitude x (e, h))))
 
   signs : (x : ℤ) → Divides r x → sign (scaled r x) ≡ sign x
   unfolding sign
@@ -152,13 +139,13 @@ module _ (r : Fraction) (ratio : IsRatio r) where
   greater : (x y : ℤ) → Divides r x → Divides r y → maximum (scaled r x) (scaled r y) ≡ scaled r (maximum x y)
   unfolding maximum
   greater x y h i =
-      on_both x y (scaled r x) (scaled r y) _ _ (missing-same r ratio x h) (missing-same r ratio y i)
+      on_both r ratio x y (scaled r x) (scaled r y) _ _ (missing-same r ratio x h) (missing-same r ratio y i)
       (λ e f. (units.max-scaled r ratio x y (e, h) (f, i)).0)
 
   lesser : (x y : ℤ) → Divides r x → Divides r y → minimum (scaled r x) (scaled r y) ≡ scaled r (minimum x y)
   unfolding minimum
   lesser x y h i =
-      on_both x y (scaled r x) (scaled r y) _ _ (missing-same r ratio x h) (missing-same r ratio y i)
+      on_both r ratio x y (scaled r x) (scaled r y) _ _ (missing-same r ratio x h) (missing-same r ratio y i)
       (λ e f. (units.min-scaled r ratio x y (e, h) (f, i)).0)
 
   filled : (x y : ℤ) → Divides r x → (if is_missing (scaled r x) then scaled r y else scaled r x) ≡ scaled r (if is_missing x then y else x)

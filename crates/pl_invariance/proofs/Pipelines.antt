@@ -268,7 +268,11 @@ module _ (r : Fraction) (ratio : IsRatio r) where
     group-is CrossRule.percentiles p q = refl
     group-is CrossRule.score p q = refl
     group-is CrossRule.distance p q = refl
+    group-is CrossRule.share p q = refl
+    group-is CrossRule.drawn_in p q = refl
     group-is CrossRule.counted p q = refl
+    group-is CrossRule.median p q = refl
+    group-is CrossRule.percentile p q = refl
     group-is CrossRule.mean p q = refl
     group-is CrossRule.sum p q = refl
     group-is CrossRule.least p q = refl

@@ -1,27 +1,44 @@
 -- Cross-sections of prices in another unit.
-use Rattle.std.proofs.Common.{◌≡◌, ℕ, zero, suc, ◌-◌, ◌*◌, ◌<◌, ◌≤◌, Bool, true, false, not, ◌&&◌, ◌||◌, if◌then◌else◌, cond, ℤ, pos, negsuc, ◌*ℤ◌, List, [], ◌∷◌, length, map, find, Option, Some, None, option_map, unwrap_or, refl, sym, ◌∙◌, ap, arith, inl, inr}
+use Rattle.std.proofs.Common.{◌≡◌, ℕ, zero, suc, ◌+◌, ◌-◌, ◌*◌, ◌/◌, ◌<◌, ◌≤◌, Bool, true, false, not, ◌&&◌, ◌||◌, if◌then◌else◌, cond, ℤ, pos, negsuc, ◌*ℤ◌, List, [], ◌∷◌, length, map, fold, find, Option, Some, None, option_map, unwrap_or, refl, sym, ◌∙◌, ap, arith, inl, inr}
 use Rattle.std.proofs.lemmas.Bool.{true≢false}
 use Rattle.std.proofs.lemmas.List.{length-map}
 use Rattle.pl_spec.specs.Cells.{total}
 use Rattle.pl_spec.specs.Rounding.{MISSING, LIMIT, MILLION, Fraction, is_missing, scaled, to_cell, quot}
-use Rattle.std.specs.Int.RustNames.{unsigned_abs}
+use Rattle.std.specs.Prelude.{sum_by}
+use Rattle.std.specs.Int.{int_max, int_min}
+use Rattle.std.specs.Int.RustNames.{unsigned_abs, int_lt}
+use Rattle.std.proofs.lemmas.Int.{ints, int_max_is, int_min_is}
 use Rattle.pl_spec.proofs.Each.{Each}
 use Rattle.pl_pipeline.specs.Kind.{CrossKind}
-use Rattle.pl_pipeline.specs.Cross.{Entry, values, if_some, summary, is_for_all, cross}
+use Rattle.pl_pipeline.specs.Cross.{Entry, values, winsorized, scaled_to_one, if_some, summary, is_for_all, cross}
 use Rattle.pl_pipeline.specs.Formula.{spread}
-use Rattle.pl_pipeline.specs.Order.{value_at}
+use Rattle.pl_pipeline.specs.Order.{value_at, percentile}
 use Rattle.pl_invariance.specs.Crossed.{AreUnrounded}
 use Rattle.pl_invariance.specs.Exact.{Divides}
 use Rattle.pl_invariance.specs.Pipelines.{Measure, CrossRule, IsCrossExact}
 use Rattle.pl_invariance.specs.Pipelines.Measure.{Price, NoUnit}
 use Rattle.pl_invariance.specs.Ranked.{IsExact, scaled_entry}
 use Rattle.pl_invariance.specs.Units.{IsRatio, IsUnrounded, IsSpreadExact}
+use Rattle.pl_invariance.proofs.Compared.{quot_same}
+use Rattle.pl_invariance.proofs.Operated.{magnitude}
 use Rattle.pl_invariance.proofs.Crossed.{crosses-have-no-unit, value-times}
 use Rattle.pl_invariance.proofs.Exact.{missing_stays}
 use Rattle.pl_invariance.proofs.Formulas.{spread-scaled}
-use Rattle.pl_invariance.proofs.Measured.{number_in, IsOf, by-times}
+use Rattle.pl_invariance.proofs.Measured.{number_in, IsOf, by-times, percentile-in}
 use Rattle.pl_invariance.proofs.Ranked.{ranks-have-no-unit, values_exact, values_same}
 use Rattle.pl_invariance.proofs.Units as units
+
+max-below : (x y : ℤ) → int_lt x y ≡ true → int_max x y ≡ y
+max-below x y l = grind (arith, ints, int_max_is x y)
+
+max-above : (x y : ℤ) → int_lt x y ≡ false → int_max x y ≡ x
+max-above x y l = grind (arith, ints, int_max_is x y)
+
+min-below : (x y : ℤ) → int_lt x y ≡ true → int_min x y ≡ x
+min-below x y l = grind (arith, ints, int_min_is x y)
+
+min-above : (x y : ℤ) → int_lt x y ≡ false → int_min x y ≡ y
+min-above x y l = grind (arith, ints, int_min_is x y)
 
 module _ (r : Fraction) (ratio : IsRatio r) where
   -- ---- summaries
@@ -63,6 +80,46 @@ module _ (r : Fraction) (ratio : IsRatio r) where
   extreme [] h i w = sym (missing_stays r)
   extreme (v ∷ vs) h i w = at_place (v ∷ vs) h i w
 
+  -- ---- shares and bounds
+
+  magnitudes : (vs : List ℤ) → Each (IsExact r) vs → (t u : ℕ) → t * r.den ≡ u * r.num
+      → fold (λ a x. a + unsigned_abs x) t (map (scaled r) vs) * r.den ≡ fold (λ a x. a + unsigned_abs x) u vs * r.num
+  magnitudes [] h t u e = e
+  magnitudes (v ∷ vs) h t u e = magnitudes vs h.1 (t + unsigned_abs (scaled r v)) (u + unsigned_abs v) (summed t (unsigned_abs (scaled r v)) r.den u (unsigned_abs v) r.num e (magnitude r ratio v h.0))
+    where
+      summed : (t a d u b n : ℕ) → t * d ≡ u * n → a * d ≡ b * n → (t + a) * d ≡ (u + b) * n
+      summed t a d u b n e f = omega arith
+
+  shares : (vs : List ℤ) → Each (IsExact r) vs → (x : ℤ) → IsExact r x → scaled_to_one (map (scaled r) vs) (scaled r x) ≡ scaled_to_one vs x
+  shares vs h x hx =
+      quot_same (x *ℤ pos MILLION) (scaled r x *ℤ pos MILLION) (pos (sum_by unsigned_abs vs)) (pos (sum_by unsigned_abs (map (scaled r) vs))) r.num r.den ratio.0 ratio.1
+      (units.times-by r ratio (scaled r x) x (pos MILLION) (units.exact-times r ratio x hx)) (ap pos (magnitudes vs h 0 0 (omega arith)))
+
+  greater : (y y' x x' : ℤ) → units.Times r ratio y x → units.Times r ratio y' x' → units.Times r ratio (int_max y y') (int_max x x')
+  greater y y' x x' e f = step (int_lt x x') refl
+    where
+      step : (b : Bool) → int_lt x x' ≡ b → units.Times r ratio (int_max y y') (int_max x x')
+      step true l = rw (max-below x x' l, max-below y y' (units.less-same r ratio y y' x x' e f ∙ l)) f
+      step false l = rw (max-above x x' l, max-above y y' (units.less-same r ratio y y' x x' e f ∙ l)) e
+
+  lesser : (y y' x x' : ℤ) → units.Times r ratio y x → units.Times r ratio y' x' → units.Times r ratio (int_min y y') (int_min x x')
+  lesser y y' x x' e f = step (int_lt x x') refl
+    where
+      step : (b : Bool) → int_lt x x' ≡ b → units.Times r ratio (int_min y y') (int_min x x')
+      step true l = rw (min-below x x' l, min-below y y' (units.less-same r ratio y y' x x' e f ∙ l)) e
+      step false l = rw (min-above x x' l, min-above y y' (units.less-same r ratio y y' x x' e f ∙ l)) f
+
+  drawn : (vs : List ℤ) → Each (IsExact r) vs → (low high : ℕ) (x : ℤ) → IsExact r x → Divides r (winsorized low high vs x) → is_missing (winsorized low high vs x) ≡ false
+      → winsorized low high (map (scaled r) vs) (scaled r x) ≡ scaled r (winsorized low high vs x)
+  drawn vs h low high x hx w there =
+      ap (λ n. bounded n (map (scaled r) vs) (scaled r x)) (length-map vs (scaled r))
+      ∙ by-times r ratio (bounded (length vs) (map (scaled r) vs) (scaled r x)) (winsorized low high vs x) w there
+      (greater _ _ _ _ (value-times r ratio vs h (low * length vs / MILLION))
+      (lesser _ _ _ _ (value-times r ratio vs h ((high * length vs + MILLION - 1) / MILLION - 1)) (units.exact-times r ratio x hx)))
+    where
+      bounded : ℕ → List ℤ → ℤ → ℤ
+      bounded n us y = int_max (value_at us (low * n / MILLION)) (int_min (value_at us ((high * n + MILLION - 1) / MILLION - 1)) y)
+
   -- ---- by the rules
 
   -- the asset has a value of its own among them
@@ -86,6 +143,11 @@ module _ (r : Fraction) (ratio : IsRatio r) where
     cross-in (CrossRule.percentiles {low} {high}) own w e = crosses-have-no-unit.percentiles low high r list a x (unrounded (own refl))
     cross-in CrossRule.score own w e = crosses-have-no-unit.scores r list a x (unrounded (own refl)) e
     cross-in CrossRule.distance own w e = crosses-have-no-unit.distances r list a x (unrounded (own refl)) e.0 (e.1 (own refl).0.0 (own refl).0.0)
+    cross-in CrossRule.share own w e = ap (λ vs. scaled_to_one vs (scaled r x)) (values_same r ratio.0 list) ∙ shares (values list) exact x (own refl).0
+    cross-in (CrossRule.drawn_in {low} {high}) own w e =
+        ap (λ vs. winsorized low high vs (scaled r x)) (values_same r ratio.0 list) ∙ drawn (values list) exact low high x (own refl).0 w (e (own refl).0.0 (own refl).0.0)
+    cross-in CrossRule.median own w e = ap (λ vs. if_some vs (percentile 5000 vs)) (values_same r ratio.0 list) ∙ of_some (values list) _ _ (λ some. percentile-in r ratio 5000 (values list) exact e)
+    cross-in (CrossRule.percentile {percent}) own w e = ap (λ vs. if_some vs (percentile percent vs)) (values_same r ratio.0 list) ∙ of_some (values list) _ _ (λ some. percentile-in r ratio percent (values list) exact e)
     cross-in CrossRule.counted own w e = ap (λ vs. pos (length vs * MILLION)) (values_same r ratio.0 list) ∙ ap (λ n. pos (n * MILLION)) (length-map (values list) (scaled r))
     cross-in CrossRule.mean own w e = ap (λ vs. quot (total vs) (pos (length vs))) (values_same r ratio.0 list) ∙ means (values list) exact e
     cross-in CrossRule.sum own w e = ap (λ vs. if_some vs (to_cell (total vs))) (values_same r ratio.0 list) ∙ of_some (values list) _ _ (λ some. sums (values list) exact e)

@@ -140,5 +140,5 @@ compared_by : {u mx my mz : Measure} {cell : ℤ} → Rule (Kind.Point (PointKin
 compared_by Rule.pure hx hy = latest_has_one hx
 compared_by (Rule.operation OperationRule.compared) hx hy = number_has_none hy
 
-above_a_number : {u : Measure} {cell : ℤ} → HasMeasure (point (PointKind.Comparison Greater) (latest Close ∷ number cell ∷ [])) u → ⊥
+pub above_a_number : {u : Measure} {cell : ℤ} → HasMeasure (point (PointKind.Comparison Greater) (latest Close ∷ number cell ∷ [])) u → ⊥
 above_a_number (HasMeasure.term rule hx hy hz hm hg) = compared_by rule hx hy

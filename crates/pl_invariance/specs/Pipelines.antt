@@ -1,28 +1,31 @@
 -- Whole pipelines over prices in another unit.
-use Rattle.std.specs.Prelude.{◌≡◌, ◌≤◌, ◌+◌, ◌-◌, ◌*◌, ◌/◌, ◌&&◌, suc, true, false, ℕ, ℤ, pos, negsuc, ◌*ℤ◌, neg_ℤ, List, [], ◌∷◌, length, map, Option, Some, None}
+use Rattle.std.specs.Prelude.{◌≡◌, ◌⊎◌, ◌≤◌, ◌+◌, ◌-◌, ◌*◌, ◌/◌, ◌&&◌, suc, true, false, ℕ, ℤ, pos, negsuc, ◌-ℤ◌, ◌*ℤ◌, neg_ℤ, List, [], ◌∷◌, length, map, Option, Some, None}
 use Rattle.std.specs.Int.RustNames.{unsigned_abs}
 use Rattle.std.specs.List.{list_any, range_with_len}
 use Rattle.pl_spec.specs.declared.Column.{Column}
 use Rattle.pl_spec.specs.declared.Column.TheVariants.{Volume}
 use Rattle.pl_spec.specs.declared.Compare.{Compare}
 use Rattle.pl_spec.specs.declared.Frequency.{Frequency}
+use Rattle.pl_spec.specs.Cells as cells
 use Rattle.pl_spec.specs.Cells.{total, count, present_values}
 use Rattle.pl_spec.specs.Each.{Each}
 use Rattle.pl_spec.specs.Periods.{period_start}
-use Rattle.pl_spec.specs.Rounding.{LIMIT, MILLION, Fraction, is_missing, scaled, add, sub, mul, neg}
+use Rattle.pl_spec.specs.Rounding.{LIMIT, MILLION, Fraction, is_missing, scaled, of_both, add, sub, mul, neg}
 use Rattle.pl_spec.specs.World.{World, exists, living_sids, bar_cell}
 use Rattle.pl_spec.specs.Window.{before, downward, effects}
 use Rattle.pl_pipeline.specs.declared.RankMethod.{RankMethod}
 use Rattle.pl_pipeline.specs.declared.RankOrder.{RankOrder}
 use Rattle.pl_pipeline.specs.declared.Summary.TheVariants as summary
 use Rattle.pl_pipeline.specs.declared.WindowKind.{WindowKind}
-use Rattle.pl_pipeline.specs.declared.WindowKind.TheVariants.{Latest, SimpleMovingAverage, LinearWeightedMovingAverage, WindowSum, WindowMax, WindowMin, WindowStd, BollingerMiddle, Returns, PercentChange, RateOfChangePercentage, RSI, VWAP, AverageDollarVolume, WeightedAverageValue, FastStochasticOscillator, ExponentialWeightedMovingAverage, ExponentialWeightedMovingMean, AroonUp, AroonDown, WindowFirst, AllPresent}
+use Rattle.pl_pipeline.specs.declared.WindowKind.TheVariants.{Latest, SimpleMovingAverage, LinearWeightedMovingAverage, WindowSum, WindowMax, WindowMin, WindowStd, BollingerMiddle, BollingerLower, BollingerUpper, Returns, PercentChange, RateOfChangePercentage, RSI, VWAP, AverageDollarVolume, WeightedAverageValue, FastStochasticOscillator, TrueRange, ExponentialWeightedMovingAverage, ExponentialWeightedMovingMean, AroonUp, AroonDown, WindowPercentile, WindowRank, WindowArgMax, WindowArgMin, WindowFirst, AllPresent}
 use Rattle.pl_pipeline.specs.Kind.{Kind, PointKind, CrossKind}
 use Rattle.pl_pipeline.specs.Kind.Kind.{Window, Point, LabelTest, Cross, Downsample}
 use Rattle.pl_pipeline.specs.Kind.PointKind.{Add, Sub, Mul, Div, Neg, Comparison, Abs, FillNa, IsNull, NotNull, IfElse, Sign, Maximum, Minimum, Where}
-use Rattle.pl_pipeline.specs.Kind.CrossKind.{Rank, Demean, ZScore, Quantiles, Top, Bottom, PercentileBetween, Summarize}
-use Rattle.pl_pipeline.specs.Cross.{values, center}
-use Rattle.pl_pipeline.specs.Formula.{FINE, places, products, weights}
+use Rattle.pl_pipeline.specs.Kind.CrossKind.{Rank, Demean, ZScore, Quantiles, Top, Bottom, PercentileBetween, Winsorize, Scale, Summarize}
+use Rattle.pl_pipeline.specs.Cross.{values, center, winsorized}
+use Rattle.pl_pipeline.specs.Formula.{FINE, oldest, newest, places, products, weights, gap}
+use Rattle.pl_pipeline.specs.Formula as formulas
+use Rattle.pl_pipeline.specs.Order.{edge}
 use Rattle.pl_pipeline.specs.Term.{Term, Graph, term_at}
 use Rattle.pl_pipeline.specs.Term.Term.{absent, column, node}
 use Rattle.pl_pipeline.specs.Value.{Value, Operands, View, Own, number_of, seen_from, value_of_part, window_of, passes, eligible, view_of, seen, seen_operands}
@@ -31,7 +34,7 @@ use Rattle.pl_pipeline.specs.Table.{NamedColumn, Pipeline, Row, is_kept, kept_si
 use Rattle.pl_invariance.specs.Exact.{Divides, AllDivide}
 use Rattle.pl_invariance.specs.Priced.{is_price, priced_world}
 use Rattle.pl_invariance.specs.Ranked.{IsExact}
-use Rattle.pl_invariance.specs.Units.{IsRatio, IsUnrounded, IsSpreadExact}
+use Rattle.pl_invariance.specs.Units.{IsRatio, IsUnrounded, IsSpreadExact, IsBandExact}
 
 -- what the values of a term are measured in: the unit of prices, or none
 pub data Measure : Type 0 where
@@ -42,7 +45,7 @@ pub data Measure : Type 0 where
 -- What a formula gives of windows of prices; an input that is absent has no unit, nor have weights.
 pub data FormulaRule : WindowKind → Measure → Measure → Measure → Measure → Type 0 where
   latest : FormulaRule Latest Price NoUnit NoUnit Price
-  oldest : FormulaRule WindowFirst Price NoUnit NoUnit Price
+  first : FormulaRule WindowFirst Price NoUnit NoUnit Price
   greatest : FormulaRule WindowMax Price NoUnit NoUnit Price
   least : FormulaRule WindowMin Price NoUnit NoUnit Price
   sum : FormulaRule WindowSum Price NoUnit NoUnit Price
@@ -55,6 +58,10 @@ pub data FormulaRule : WindowKind → Measure → Measure → Measure → Measur
   faded : {decay : ℤ} → FormulaRule (ExponentialWeightedMovingAverage decay) Price NoUnit NoUnit Price
   fine : {decay : ℤ} → FormulaRule (ExponentialWeightedMovingMean decay) Price NoUnit NoUnit Price
   deviation : FormulaRule WindowStd Price NoUnit NoUnit Price
+  lower : {k : ℤ} → FormulaRule (BollingerLower k) Price NoUnit NoUnit Price
+  upper : {k : ℤ} → FormulaRule (BollingerUpper k) Price NoUnit NoUnit Price
+  percentile : {percent : ℕ} → FormulaRule (WindowPercentile percent) Price NoUnit NoUnit Price
+  true_range : FormulaRule TrueRange Price Price Price Price
   returns : FormulaRule Returns Price NoUnit NoUnit NoUnit
   change : FormulaRule PercentChange Price NoUnit NoUnit NoUnit
   rate : FormulaRule RateOfChangePercentage Price NoUnit NoUnit NoUnit
@@ -62,6 +69,9 @@ pub data FormulaRule : WindowKind → Measure → Measure → Measure → Measur
   stochastic : FormulaRule FastStochasticOscillator Price Price Price NoUnit
   up : FormulaRule AroonUp Price NoUnit NoUnit NoUnit
   down : FormulaRule AroonDown Price NoUnit NoUnit NoUnit
+  rank : FormulaRule WindowRank Price NoUnit NoUnit NoUnit
+  place_of_greatest : FormulaRule WindowArgMax Price NoUnit NoUnit NoUnit
+  place_of_least : FormulaRule WindowArgMin Price NoUnit NoUnit NoUnit
   all_present : FormulaRule AllPresent Price NoUnit NoUnit NoUnit
 
 -- What an operation gives. The sum of a price and of a number is of no unit that is known here, and neither
@@ -94,12 +104,16 @@ pub data CrossRule : CrossKind → Measure → Type 0 where
   percentiles : {low high : ℕ} → CrossRule (PercentileBetween low high) NoUnit
   score : CrossRule ZScore NoUnit
   distance : CrossRule Demean Price
+  share : CrossRule Scale NoUnit
+  drawn_in : {low high : ℕ} → CrossRule (Winsorize low high) Price
   counted : CrossRule (Summarize summary.NotNullCount) NoUnit
   mean : CrossRule (Summarize summary.Mean) Price
   sum : CrossRule (Summarize summary.Sum) Price
   least : CrossRule (Summarize summary.Least) Price
   greatest : CrossRule (Summarize summary.Greatest) Price
   deviation : CrossRule (Summarize summary.StdDev) Price
+  median : CrossRule (Summarize summary.Median) Price
+  percentile : {percent : ℕ} → CrossRule (Summarize (summary.Percentile percent)) Price
 
 -- What is of terms without a unit has none. Prices that are downsampled are prices.
 pub data Rule : Kind → Measure → Measure → Measure → Measure → Type 0 where
@@ -125,25 +139,52 @@ abbrev pub IsQuotientExact : Fraction → ℤ → ℤ → Type 0
 IsQuotientExact r n (pos m) = IsUnrounded r n m
 IsQuotientExact r n (negsuc m) = IsUnrounded r (neg_ℤ n) (suc m)
 
+-- the values of which a percentile is made have no rest
+abbrev pub IsPercentileExact : Fraction → ℕ → List ℤ → Type 0
+IsPercentileExact r percent vs = IsUnrounded r (edge vs (percent * (length vs - 1)) 10000) 10000
+
+-- a band is exact and a cell, or there is no value of which to make it
+abbrev pub IsBandGiven : Fraction → ℤ → List ℤ → ℤ → Type 0
+IsBandGiven r k xs band = (count xs ≡ 0) ⊎ (IsBandExact r k xs × (is_missing band ≡ false))
+
+-- how far the high lies above the low, and how far the close before lies from each
+abbrev pub spans : ℤ → ℤ → ℤ → List ℤ
+spans h l c = of_both h l (h -ℤ l) ∷ gap h c ∷ gap l c ∷ []
+
+-- what is given of two present values is not rounded by the ratio
+abbrev pub GivesExact : Fraction → ℤ → ℤ → ℤ → Type 0
+GivesExact r x y v = is_missing x ≡ false → is_missing y ≡ false → IsExact r v
+
+-- the ratio rounds none of them, and the greatest is a cell
+pub record AreSpansExact (r : Fraction) (h l c : ℤ) : Type 0 where
+  pub own : GivesExact r h l (h -ℤ l)
+  pub high : GivesExact r h c (pos (unsigned_abs (h -ℤ c)))
+  pub low : GivesExact r l c (pos (unsigned_abs (l -ℤ c)))
+  pub small : is_missing (cells.greatest (spans h l c)) ≡ false → unsigned_abs (cells.greatest (spans h l c)) ≤ LIMIT
+
 -- sums are cells, and quotients have no rest
-abbrev pub IsFormulaExact : Fraction → WindowKind → List ℤ → List ℤ → Type 0
-IsFormulaExact r WindowSum xs ys = unsigned_abs (total (present_values xs)) ≤ LIMIT
-IsFormulaExact r SimpleMovingAverage xs ys = IsUnrounded r (total (present_values xs)) (count xs)
-IsFormulaExact r BollingerMiddle xs ys = IsUnrounded r (total (present_values xs)) (count xs)
-IsFormulaExact r LinearWeightedMovingAverage xs ys =
+abbrev pub IsFormulaExact : Fraction → WindowKind → List ℤ → List ℤ → List ℤ → Type 0
+IsFormulaExact r WindowSum xs ys zs = unsigned_abs (total (present_values xs)) ≤ LIMIT
+IsFormulaExact r SimpleMovingAverage xs ys zs = IsUnrounded r (total (present_values xs)) (count xs)
+IsFormulaExact r BollingerMiddle xs ys zs = IsUnrounded r (total (present_values xs)) (count xs)
+IsFormulaExact r LinearWeightedMovingAverage xs ys zs =
     IsUnrounded r (total (products (places xs) xs)) (length xs * (length xs + 1) / 2)
-IsFormulaExact r WeightedAverageValue xs ys =
+IsFormulaExact r WeightedAverageValue xs ys zs =
     IsQuotientExact r (total (products xs ys)) (total (present_values ys))
-IsFormulaExact r VWAP xs ys = IsQuotientExact r (total (products xs ys)) (total (present_values ys))
-IsFormulaExact r AverageDollarVolume xs ys = IsUnrounded r (total (products xs ys)) (length xs * MILLION)
-IsFormulaExact r (ExponentialWeightedMovingAverage decay) xs ys =
+IsFormulaExact r VWAP xs ys zs = IsQuotientExact r (total (products xs ys)) (total (present_values ys))
+IsFormulaExact r AverageDollarVolume xs ys zs = IsUnrounded r (total (products xs ys)) (length xs * MILLION)
+IsFormulaExact r (ExponentialWeightedMovingAverage decay) xs ys zs =
     let ws = weights MILLION decay (length xs) in
     list_any is_missing xs ≡ false → IsQuotientExact r (total (products ws xs)) (total ws)
-IsFormulaExact r (ExponentialWeightedMovingMean decay) xs ys =
+IsFormulaExact r (ExponentialWeightedMovingMean decay) xs ys zs =
     let ws = weights FINE decay (length xs) in
     list_any is_missing xs ≡ false → IsQuotientExact r (total (products ws xs)) (total ws)
-IsFormulaExact r WindowStd xs ys = IsSpreadExact r (present_values xs)
-IsFormulaExact r k xs ys = Unit {0}
+IsFormulaExact r WindowStd xs ys zs = IsSpreadExact r (present_values xs)
+IsFormulaExact r (BollingerLower k) xs ys zs = IsBandGiven r k xs (formulas.formula (BollingerLower k) xs [] [])
+IsFormulaExact r (BollingerUpper k) xs ys zs = IsBandGiven r k xs (formulas.formula (BollingerUpper k) xs [] [])
+IsFormulaExact r (WindowPercentile percent) xs ys zs = IsPercentileExact r percent (present_values xs)
+IsFormulaExact r TrueRange xs ys zs = AreSpansExact r (newest xs) (newest ys) (oldest zs)
+IsFormulaExact r k xs ys zs = Unit {0}
 
 -- what is given of two present values is a cell
 abbrev pub GivesCell : ℤ → ℤ → ℤ → Type 0
@@ -167,6 +208,9 @@ IsCrossExact r Demean vs x = IsSpreadExact r vs × GivesCell x x (sub x (center 
 IsCrossExact r (Summarize summary.Mean) vs x = IsUnrounded r (total vs) (length vs)
 IsCrossExact r (Summarize summary.Sum) vs x = unsigned_abs (total vs) ≤ LIMIT
 IsCrossExact r (Summarize summary.StdDev) vs x = IsSpreadExact r vs
+IsCrossExact r (Winsorize low high) vs x = GivesCell x x (winsorized low high vs x)
+IsCrossExact r (Summarize summary.Median) vs x = IsPercentileExact r 5000 vs
+IsCrossExact r (Summarize (summary.Percentile percent)) vs x = IsPercentileExact r percent vs
 IsCrossExact r k vs x = Unit {0}
 
 -- what a kind gives by the rule has no rest
@@ -175,6 +219,7 @@ abbrev pub IsStepExact : Fraction → World → {k : Kind} {x y z u : Measure} �
 IsStepExact r w pure size operands a d = Unit {0}
 IsStepExact r w (formula {k} rule) size operands a d =
     IsFormulaExact r k (window_of w size operands.first a d) (window_of w size operands.second a d)
+    (window_of w size operands.third a d)
 IsStepExact r w (operation {k} {y = y} rule) size operands a d =
     IsOperationExact r k y (number_of (value_of_part operands.first a d))
     (number_of (value_of_part operands.second a d))

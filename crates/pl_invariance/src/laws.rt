@@ -172,12 +172,15 @@ pub fn worlds_can_be_restated()
 {}
 
 /// Prices in cents in place of dollars: each term of the price's unit is multiplied by 100, and each term
-/// without a unit is the same.
+/// without a unit, as a return, a rank or a comparison, is the same, from wherever it is seen and under each
+/// mask and group, where nothing is rounded. It guards what a value is made of: which inputs a kind reads, on
+/// which sessions and of which assets, and that nothing mixes a price with a number.
 pub fn pipelines_have_units()
     ensures { PipelinesHaveUnits }
 {}
 
-/// So the table has the same rows, in which the columns of the price's unit are multiplied by 100.
+/// So the table has the same rows: its screen keeps the same assets, the columns of the price's unit are
+/// multiplied by 100, and all others are the same.
 pub fn tables_have_units()
     ensures { TablesHaveUnits }
 {}
