@@ -1,13 +1,11 @@
 -- What the row of a kind says of an operation's term.
-use Rattle.std.proofs.Common.{◌≡◌, ℕ, List, [], refl, sym, ap, ◌∙◌}
-use Rattle.pl_pipeline.specs.Kind.{Kind}
-use Rattle.pl_terms.specs.declared.kind.TermKind.{TermKind}
+use Rattle.std.proofs.Common.{◌≡◌, ℕ, ◌||◌, ◌&&◌, List, [], refl, sym}
 use Rattle.pl_terms.specs.declared.row.KindRow.{KindRow}
-use Rattle.pl_terms.specs.Kinds.{kind_of}
 use Rattle.pl_terms.specs.Sorts.{sort_of, is_safe_kind, is_safe_over}
 use Rattle.pl_check.specs.declared.operation.Operation.{Operation}
 use Rattle.pl_check.specs.declared.operation.Operation.TheVariants as op
 use Rattle.pl_check.specs.Values.{Bound}
+use Rattle.pl_check.specs.Made.{IsRowFor}
 use Rattle.pl_check.specs.Results.{kind_for, result_for, sorted, is_window_safe, all_safe}
 
 -- what is not downsampled is as its kind says
@@ -32,3 +30,8 @@ pub over-unnamed : (o : Operation) (bs : List Bound) (names : List (List ℕ)) �
 unfolding kind_for is_safe_over
 over-unnamed op.StaticSids bs names = refl
 over-unnamed o bs names = refl
+
+-- what the row says is what the operation's term is
+pub row-result : (o : Operation) (bs : List Bound) (row : KindRow) (t : ℕ) → IsRowFor o bs row → (o ≡ op.Downsample → ⊥)
+    → sorted row.sort (row.is_safe || (row.is_safe_over && all_safe bs)) t ≡ result_for o bs t
+row-result o bs row t r f = rw (r.sort, r.is_safe, r.is_safe_over) (sym (result-called o bs t f))
