@@ -8,9 +8,9 @@ use Rattle.pl_spec.specs.Rounding.{IsCell, MILLION}
 use Rattle.pl_pipeline.specs.Formula.{FINE, weights, formula, mean}
 use Rattle.pl_pipeline.specs.Kind.{Kind}
 use Rattle.pl_pipeline.specs.Kind.Kind.{Window}
-use Rattle.pl_pipeline.specs.declared.WindowKind.TheVariants.{ExponentialWeightedMovingAverage, ExponentialWeightedMovingMean, ExponentialWeightedMovingStdDev}
+use Rattle.pl_pipeline.specs.declared.WindowKind.TheVariants.{ExponentialWeightedMovingAverage, ExponentialWeightedMovingMean, ExponentialWeightedMovingStdDev, WindowPercentile}
 use Rattle.pl_factors.specs.Terms.{mean_by, deviation_by}
-use Rattle.pl_factors.specs.Lanes.{AreGiven, AreValues, HasWindows, TakesLanes, weighted_at, deviated_at, window_at}
+use Rattle.pl_factors.specs.Lanes.{AreGiven, AreValues, HasWindows, TakesLanes, weighted_at, deviated_at, percentile_at, window_at}
 use Rattle.pl_factors.specs.Trends.{faded_mean_at, faded_deviation_at}
 use Rattle.pl_factors.specs.Spans.{TakesSpans, after, before, takes_range}
 
@@ -169,3 +169,7 @@ coarse_means d size n a b c out m = record { each = m.each; cell = m.cell }
 pub fine_deviations : (d : ℤ) (size n : ℕ) (a b c out : List ℤ) → AreGiven (faded_deviation_at d size a) n out → AreValues (Window (ExponentialWeightedMovingStdDev d)) size a b c n out
 unfolding formula faded_deviation_at
 fine_deviations d size n a b c out m = record { each = m.each; cell = m.cell }
+
+pub percentiles : (percent size n : ℕ) (a b c out : List ℤ) → AreGiven (percentile_at percent size a) n out → AreValues (Window (WindowPercentile percent)) size a b c n out
+unfolding formula percentile_at
+percentiles percent size n a b c out m = record { each = m.each; cell = m.cell }

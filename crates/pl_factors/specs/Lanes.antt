@@ -2,6 +2,9 @@
 use Rattle.std.specs.Prelude.{◌≡◌, ℕ, ◌+◌, ◌<◌, ◌≤◌, ℤ, pos, List, length, take, drop, get_or}
 use Rattle.std.specs.List.{All}
 use Rattle.pl_spec.specs.Rounding.{IsCell}
+use Rattle.pl_spec.specs.Cells.{present_values}
+use Rattle.pl_pipeline.specs.Formula.{if_any}
+use Rattle.pl_pipeline.specs.Order.{percentile}
 use Rattle.pl_pipeline.specs.Kind.{Kind}
 use Rattle.pl_factors.specs.Kinds.{formula_of}
 use Rattle.pl_factors.specs.Terms.{mean_by, deviation_by}
@@ -45,3 +48,7 @@ weighted_at weights a j = mean_by weights (window_at (length weights) j a)
 -- and the deviation
 abbrev pub deviated_at : List ℤ → List ℤ → ℕ → ℤ
 deviated_at weights a j = deviation_by weights (window_at (length weights) j a)
+
+-- the point percent hundredths of a percent of the way through the present values of the window of place j
+unfoldable pub percentile_at : ℕ → ℕ → List ℤ → ℕ → ℤ
+percentile_at percent size a j = if_any (window_at size j a) (percentile percent (present_values (window_at size j a)))

@@ -15,6 +15,7 @@ ghost use Rattle.pl_factors.specs.Spans.{TakesSpans, TakesWindows, after, before
 
 use crate::averages::total_products;
 use crate::faded::{COARSE, FINE, deviation_by, faded_weights, mean_by};
+use crate::ordered::fill_percentiles;
 use crate::regressions::{fill_regressions, is_regression};
 use crate::running::{Running, keeps};
 use crate::starts::sums_of;
@@ -275,6 +276,8 @@ pub fn fill_values(kind: &TermKind, size: usize, a: &[i64], b: &[i64], c: &[i64]
                 fill_faded(FINE, *decay, size, a, out),
             TermKind::ExponentialWeightedMovingStdDev { decay } if is_filled(size, a, out) =>
                 fill_deviations(*decay, size, a, out),
+            TermKind::WindowPercentile { percent } if size > 0 && is_filled(size, a, out) =>
+                fill_percentiles(*percent, size, a, out),
             _ => fill_anew(kind, size, a, b, c, out),
         }
     }

@@ -1,11 +1,11 @@
 //! The values of a window in order: a point between the least and the greatest one, a rank, the deepest fall.
 
-ghost use Rattle.std.specs.Prelude.{◌≡◌, ◌+◌, ◌*◌, ◌<◌, ◌≤◌, ℤ, pos, ◌*ℤ◌, ◌≤ℤ◌, unsigned_abs, List, IsPermutation, AllPairs, if◌then◌else◌, length, take, get_or};
+ghost use Rattle.std.specs.Prelude.{◌≡◌, ◌+◌, ◌*◌, ◌<◌, ◌≤◌, ℤ, pos, ◌*ℤ◌, ◌≤ℤ◌, unsigned_abs, List, IsPermutation, AllPairs, if◌then◌else◌, length, get_or};
 ghost use Rattle.std.specs.List.{All};
 ghost use Rattle.pl_spec.specs.Limits.{most_window};
-ghost use Rattle.pl_spec.specs.Rounding.{IsCell, LIMIT, MISSING, is_missing, is_present};
+ghost use Rattle.pl_spec.specs.Rounding.{IsCell, LIMIT, MISSING, is_missing};
 ghost use Rattle.pl_spec.specs.Cells.{present_values};
-ghost use Rattle.pl_pipeline.specs.Formula.{newest, if_any, rank_among, drawdown};
+ghost use Rattle.pl_pipeline.specs.Formula.{newest, rank_among, drawdown};
 ghost use Rattle.pl_pipeline.specs.Order.{percentile};
 ghost use Rattle.pl_factors.specs.Falls.{AreFalls};
 
@@ -14,64 +14,8 @@ use pl_fixed::{MISSING, quot};
 use pl_lanes::sum_present;
 use pl_regression::twice_rank;
 
-// How many cells the longest window has.
-const MOST_CELLS: usize = 1_260;
-
-// The point so many hundredths of a percent of the way from the least present cell to the greatest.
-pub(crate) fn window_percentile(percent: u32, a: &[i64]) -> i64
-    requires percent { percent ≤ 10_000 }
-    requires cells { All IsCell a.now }
-    requires few { length a.now ≤ most_window }
-    ensures value { result ≡ if_any a.now (percentile percent (present_values a.now)) }
-    ensures cell { IsCell result }
-{
-    let mut room = [0i64; MOST_CELLS];
-    let count = gather(a, &mut room);
-    if count == 0 {
-        MISSING
-    } else {
-        percentile_of(percent, &mut room[..count])
-    }
-}
-
-fn is_present(x: i64) -> bool
-    ensures { result ≡ is_present x }
-{
-    x != MISSING
-}
-
-// Writes the present cells to the front, and answers how many they are.
-fn gather(a: &[i64], room: &mut [i64]) -> usize
-    requires cells { All IsCell a.now }
-    requires room { length a.now ≤ length room.old }
-    ensures few { result ≤ length a.now }
-    ensures present { take result room.new ≡ present_values a.now }
-    ensures long { length room.new ≡ length room.old }
-{
-    let mut count = 0;
-    for at in 0..a.len() {
-        if is_present(a[at]) {
-            room[count] = a[at];
-            count += 1;
-        }
-    }
-    count
-}
-
-// The same of present cells, which are put in order.
-fn percentile_of(percent: u32, values: &mut [i64]) -> i64
-    requires percent { percent ≤ 10_000 }
-    requires some { 1 ≤ length values.old }
-    requires few { length values.old ≤ most_window }
-    requires small { All (λ v. unsigned_abs v ≤ LIMIT) values.old }
-    ensures value { result ≡ percentile percent values.old }
-    ensures cell { IsCell result }
-{
-    values.sort_unstable();
-    point_of(percent, values)
-}
-
-// The same of values in order.
+// The point so many hundredths of a percent of the way from the least of present cells in order to the
+// greatest.
 pub(crate) fn point_of(percent: u32, values: &[i64]) -> i64
     requires percent { percent ≤ 10_000 }
     requires some { 1 ≤ length values.now }

@@ -1,7 +1,7 @@
 use Rattle.std.proofs.Common.{rules, FitsSigned, w64, sym, ◌∙◌}
 use Rattle.std.proofs.lemmas.Int.{to_z-of_z}
 use Rattle.pl_terms.specs.Kinds.{kind_of}
-use Rattle.pl_factors.proofs.Following.{coarse_means, fine_deviations, fine_means}
+use Rattle.pl_factors.proofs.Following.{coarse_means, fine_deviations, fine_means, percentiles}
 use Rattle.pl_factors.proofs.Regressing.{given_values}
 use Rattle.pl_factors.proofs.Trending.{given_trends}
 use Rattle.pl_factors.proofs.lanes.fill_values.Goals as goal
@@ -37,3 +37,7 @@ returns-in-ExponentialWeightedMovingStdDev-clause-values c =
 pub returns-then-is_filled-2-clause-values : goal.returns-then-is_filled-2-clause-values
 returns-then-is_filled-2-clause-values c =
     given_trends (kind_of c.args.kind.now) c.args.size _ c.args.a.now c.args.b.now c.args.c.now _ (sym c.is_trend.ensures ∙ c.if-is_trend.true) c.fill_trends.ensures
+
+pub returns-in-WindowPercentile-clause-values : goal.returns-in-WindowPercentile-clause-values
+unfolding kind_of
+returns-in-WindowPercentile-clause-values c = rw c.in-WindowPercentile.is (percentiles _ _ _ _ _ _ _ c.fill_percentiles.ensures)
