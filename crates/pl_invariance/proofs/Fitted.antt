@@ -1,10 +1,10 @@
 -- The line of a regression is that of least squares.
-use Rattle.std.proofs.Common.{◌≡◌, ℕ, suc, ◌+◌, ◌*◌, ◌≤◌, ℤ, pos, ◌+ℤ◌, ◌-ℤ◌, ◌*ℤ◌, List, [], ◌∷◌, length, map, sum_by, unsigned_abs, arith, refl, sym, ap, ap₂, ◌∙◌}
+use Rattle.std.proofs.Common.{◌≡◌, ℕ, suc, ◌*◌, ◌≤◌, ℤ, pos, ◌+ℤ◌, ◌-ℤ◌, ◌*ℤ◌, List, [], ◌∷◌, length, map, sum_by, unsigned_abs, arith, refl, sym, ap, ap₂, ◌∙◌}
 use Rattle.std.proofs.lemmas.Int.{ints, unsigned_abs-mul}
 use Rattle.std.proofs.lemmas.List.Sums.{sum_by-cons}
 use Rattle.std.proofs.Math.IntN.{*ℤ_comm}
 use Rattle.pl_spec.specs.Cells.{total}
-use Rattle.pl_pipeline.specs.Formula.{PairSums, sums_of_pairs, present_pairs, spread_x, joint_spread, square, slope, intercept, formula}
+use Rattle.pl_pipeline.specs.Formula.{sums_of_pairs, present_pairs, spread_x, joint_spread, square, slope, intercept, formula}
 use Rattle.pl_invariance.specs.Fitted.{misses, IsOfLeastSquares, LinesAreOfLeastSquares}
 use Rattle.pl_invariance.proofs.Ring.{times-sum, times-less, times-times}
 use Rattle.pl_invariance.proofs.Lines.{sum-by, less-by}

@@ -1,5 +1,5 @@
 -- Correlations and regressions of values to which a constant is added.
-use Rattle.std.proofs.Common.{◌≡◌, ℕ, suc, ◌+◌, ◌*◌, ◌^◌, Bool, true, false, not, ◌||◌, cond, if◌then◌else◌, ◌⊎◌, inl, inr, ℤ, pos, ◌+ℤ◌, ◌-ℤ◌, ◌*ℤ◌, ◌<ℤ◌, List, [], ◌∷◌, length, map, fold, unsigned_abs, arith, refl, sym, ap, ap₂, ◌∙◌}
+use Rattle.std.proofs.Common.{◌≡◌, ℕ, suc, ◌+◌, ◌*◌, Bool, true, false, ◌||◌, cond, if◌then◌else◌, ◌⊎◌, inl, inr, ℤ, pos, ◌+ℤ◌, ◌-ℤ◌, ◌*ℤ◌, ◌<ℤ◌, List, [], ◌∷◌, length, map, fold, arith, refl, sym, ap, ap₂, ◌∙◌}
 use Rattle.std.specs.Int.RustNames.{int_lt}
 use Rattle.std.specs.Ordering.{int_eq}
 use Rattle.std.specs.Cmp.{both_ways}
@@ -7,13 +7,12 @@ use Rattle.std.proofs.lemmas.Int.{ints}
 use Rattle.std.proofs.lemmas.Bool.{true≢false}
 use Rattle.std.proofs.Math.IntN.{*ℤ_comm}
 use Rattle.pl_spec.specs.Cells.{total}
-use Rattle.pl_spec.specs.Rounding.{MISSING, is_missing, is_present, add, of_both, to_cell, quot}
-use Rattle.pl_spec.proofs.Each.{Each}
+use Rattle.pl_spec.specs.Rounding.{MISSING, is_missing, add, to_cell, quot}
 use Rattle.pl_spec.proofs.Signed.{int_eq-true, eq-int_eq, lt-int_lt}
-use Rattle.pl_pipeline.specs.Formula.{PairSums, present_pairs, sums_of_pairs, spread_x, spread_y, joint_spread, square, root_quot, with_sign, correlation, covariance, slope, slope_error, ranked, formula}
+use Rattle.pl_pipeline.specs.Formula.{PairSums, present_pairs, sums_of_pairs, spread_x, spread_y, joint_spread, correlation, covariance, slope, slope_error, ranked, formula}
 use Rattle.pl_pipeline.specs.Order.{twice_rank}
 use Rattle.pl_invariance.specs.Origins.{AreMoved, PairsHaveNoOrigin}
-use Rattle.pl_invariance.proofs.Paired.{AreTurned, swap, pairs-swapped, sums-turned, joint-turned}
+use Rattle.pl_invariance.proofs.Paired.{AreTurned, pairs-swapped, sums-turned, joint-turned}
 use Rattle.pl_invariance.proofs.Ring.{times-sum, times-times}
 use Rattle.pl_invariance.proofs.Scales.{ranked-swapped, both, ranks_in}
 use Rattle.pl_invariance.proofs.Schwarz.{total-cons}

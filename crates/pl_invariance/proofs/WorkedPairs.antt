@@ -1,7 +1,7 @@
 -- Worked rows of the laws of pairs, of scales and of one asset, each computed from the definitions.
 use Rattle.std.specs.Prelude.{◌≡◌, ℕ, ℤ, pos, negsuc, refl, List, [], ◌∷◌, map}
 use Rattle.pl_spec.specs.declared.Column.TheVariants.{Close}
-use Rattle.pl_spec.specs.Rounding.{MISSING, scaled}
+use Rattle.pl_spec.specs.Rounding.{MISSING, scaled, add}
 use Rattle.pl_pipeline.specs.declared.WindowKind.{WindowKind}
 use Rattle.pl_pipeline.specs.declared.WindowKind.TheVariants.{Correlation, RankCorrelation, Covariance, RegressionSlope, RegressionIntercept}
 use Rattle.pl_pipeline.specs.Kind.CrossKind.{Scale}
@@ -10,6 +10,7 @@ use Rattle.pl_pipeline.specs.Formula.{formula, pair_sums, correlation, covarianc
 use Rattle.pl_pipeline.specs.Value.{Value, value}
 use Rattle.pl_pipeline.specs.Value.Value.{Number}
 use Rattle.pl_laws.proofs.Worked.Worlds.{opened, units, three_bars, latest}
+use Rattle.pl_invariance.specs.Fitted.{misses}
 use Rattle.pl_invariance.specs.Lines.{off_means, scaled_sum}
 use Rattle.pl_invariance.specs.OneAsset.{of_asset}
 use Rattle.pl_invariance.proofs.Worked.{cents}
@@ -55,6 +56,9 @@ line_x = units 0 ∷ units 1 ∷ units 3 ∷ []
 abbrev line_y : List ℤ
 line_y = units 0 ∷ units 1 ∷ units 1 ∷ []
 
+abbrev whole_pairs : List (ℤ × ℤ)
+whole_pairs = (pos 0, pos 0) ∷ (pos 1, pos 1) ∷ (pos 3, pos 1) ∷ []
+
 line_is : formula RegressionSlope line_y line_x [] ∷ formula RegressionIntercept line_y line_x [] ∷ [] ≡ pos 285714 ∷ pos 285714 ∷ []
 unfolding opened slope intercept
 line_is = refl
@@ -62,6 +66,18 @@ line_is = refl
 -- two thirds of a millionth below 2/3 at 4/3, within a half and two thirds
 line_off : off_means (pair_sums line_x line_y) (pos 285714) (pos 285714) ≡ negsuc 1999999
 line_off = refl
+
+-- Its squares, of what is taken times 42, and those of (1 + x) / 3, times 3: 504 times 9 is less than 3 times
+-- 42 times 42.
+line_misses : misses (pos 42) (pos 12) (pos 12) whole_pairs ∷ misses (pos 3) (pos 1) (pos 1) whole_pairs ∷ [] ≡ 504 ∷ 3 ∷ []
+line_misses = refl
+
+-- ---- closes and volumes to which a constant is added
+
+-- from 1 below: 0, 2, 6, 1 and 4
+moved_in_each : formula Correlation (map (add (negsuc 999999)) first) second [] ∷ formula RegressionSlope first (map (add (units 1)) second) [] ∷ [] ≡ pos 831522 ∷ pos 1100000 ∷ []
+unfolding opened correlation slope
+moved_in_each = refl
 
 -- ---- a scale of three equal values, each a third
 
