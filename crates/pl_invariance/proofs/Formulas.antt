@@ -9,7 +9,6 @@ use Rattle.std.proofs.lemmas.Int.{unsigned_abs-mul}
 use Rattle.std.proofs.lemmas.List.{length-map}
 use Rattle.pl_spec.specs.Cells.{total, count, present_values}
 use Rattle.pl_spec.specs.Rounding.{LIMIT, MILLION, MISSING, Fraction, is_missing, scaled, div_round, to_cell, quot, of_both, add, sub, mul, isqrt}
-use Rattle.pl_spec.specs.Window.{downward}
 use Rattle.pl_spec.proofs.Each.{Each}
 use Rattle.pl_spec.proofs.Roots.{isqrt-is_root, one_root}
 use Rattle.pl_pipeline.specs.Formula.{mean, if_any, square, spread, deviation, products, places, FINE, weights, faded_mean, formula}
