@@ -24,3 +24,10 @@ pub mod Sections
 pub mod Pipelines
 pub mod Tables
 pub mod WorkedPipelines
+pub mod Scales
+pub mod Origins
+pub mod Lines
+pub mod Fitted
+pub mod Shares
+pub mod OneAsset
+pub mod WorkedPairs

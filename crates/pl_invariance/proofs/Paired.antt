@@ -10,7 +10,7 @@ use Rattle.pl_pipeline.specs.Formula.{PairSums, present_pairs, pair_total, sums_
 use Rattle.pl_invariance.specs.Paired.{IsOne, PairsHaveNoOrder, ValuesExplainThemselves}
 use Rattle.pl_invariance.proofs.Schwarz.{spread-not-below}
 
-abbrev swap : ℤ × ℤ → ℤ × ℤ
+abbrev pub swap : ℤ × ℤ → ℤ × ℤ
 swap p = (p.1, p.0)
 
 pairs-by : (x y : ℤ) (xs ys : List ℤ) (a b : Bool) → is_missing x ≡ a → is_missing y ≡ b → present_pairs ys xs ≡ map swap (present_pairs xs ys)
@@ -20,7 +20,7 @@ pairs-by x y xs ys true false e f h = rw (e, f) h
 pairs-by x y xs ys false true e f h = rw (e, f) h
 pairs-by x y xs ys false false e f h = rw (e, f) (ap (λ (l : List (ℤ × ℤ)). (y, x) ∷ l) h)
 
-pairs-swapped : (xs ys : List ℤ) → present_pairs ys xs ≡ map swap (present_pairs xs ys)
+pub pairs-swapped : (xs ys : List ℤ) → present_pairs ys xs ≡ map swap (present_pairs xs ys)
 pairs-swapped [] [] = refl
 pairs-swapped [] (y ∷ ys) = refl
 pairs-swapped (x ∷ xs) [] = refl
@@ -44,7 +44,7 @@ swap-length : (ps : List (ℤ × ℤ)) → length (map swap ps) ≡ length ps
 swap-length [] = refl
 swap-length (p ∷ ps) = ap suc (swap-length ps)
 
-record AreTurned (s t : PairSums) : Type 0 where
+pub record AreTurned (s t : PairSums) : Type 0 where
   pub number : t.number ≡ s.number
   pub x : t.x ≡ s.y
   pub y : t.y ≡ s.x
@@ -52,7 +52,7 @@ record AreTurned (s t : PairSums) : Type 0 where
   pub yy : t.yy ≡ s.xx
   pub xy : t.xy ≡ s.xy
 
-sums-turned : (ps : List (ℤ × ℤ)) → AreTurned (sums_of_pairs ps) (sums_of_pairs (map swap ps))
+pub sums-turned : (ps : List (ℤ × ℤ)) → AreTurned (sums_of_pairs ps) (sums_of_pairs (map swap ps))
 sums-turned ps = record {
   number = swap-length ps;
   x = map-swapped (λ x y. x) ps;
@@ -62,10 +62,10 @@ sums-turned ps = record {
   xy = map-swapped (λ x y. x *ℤ y) ps ∙ turned-products ps;
 }
 
-joint-turned : (s t : PairSums) → AreTurned s t → joint_spread t ≡ joint_spread s
+pub joint-turned : (s t : PairSums) → AreTurned s t → joint_spread t ≡ joint_spread s
 joint-turned s t h = rw (h.number, h.x, h.y, h.xy) (ap (λ (z : ℤ). (pos s.number *ℤ s.xy) -ℤ z) (*ℤ_comm s.y s.x))
 
-correlation-turned : (s t : PairSums) → AreTurned s t → correlation t ≡ correlation s
+pub correlation-turned : (s t : PairSums) → AreTurned s t → correlation t ≡ correlation s
 unfolding correlation
 correlation-turned s t h =
     let j : joint_spread t ≡ joint_spread s = joint-turned s t h in

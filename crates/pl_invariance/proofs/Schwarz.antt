@@ -41,14 +41,14 @@ total-from : (s : ℤ) (xs : List ℤ) → fold (λ s x. s +ℤ x) s xs ≡ s +�
 total-from s [] = omega (arith, ints)
 total-from s (x ∷ xs) = omega (arith, ints, total-from (s +ℤ x) xs, total-from (pos 0 +ℤ x) xs)
 
-total-cons : (x : ℤ) (xs : List ℤ) → total (x ∷ xs) ≡ x +ℤ total xs
+pub total-cons : (x : ℤ) (xs : List ℤ) → total (x ∷ xs) ≡ x +ℤ total xs
 total-cons x xs = omega (arith, ints, total-from (pos 0 +ℤ x) xs)
 
 -- the sum of the products of what f and g make of each pair, and that of the squares of magnitudes
-abbrev sum_of : (ℤ × ℤ → ℤ) → (ℤ × ℤ → ℤ) → List (ℤ × ℤ) → ℤ
+abbrev pub sum_of : (ℤ × ℤ → ℤ) → (ℤ × ℤ → ℤ) → List (ℤ × ℤ) → ℤ
 sum_of f g ps = total (map (λ p. f p *ℤ g p) ps)
 
-abbrev size : (ℤ × ℤ → ℤ) → List (ℤ × ℤ) → ℕ
+abbrev pub size : (ℤ × ℤ → ℤ) → List (ℤ × ℤ) → ℕ
 size f [] = 0
 size f (p ∷ ps) = size f ps + unsigned_abs (f p) * unsigned_abs (f p)
 
@@ -70,11 +70,11 @@ schwarz f g (p ∷ ps) =
         apart : (a b : ℤ) → unsigned_abs (a +ℤ b) ≤ unsigned_abs b + unsigned_abs a
         apart a b = omega (arith, ints)
 
-square-size : (c : ℤ) → c *ℤ c ≡ pos (unsigned_abs c * unsigned_abs c)
+pub square-size : (c : ℤ) → c *ℤ c ≡ pos (unsigned_abs c * unsigned_abs c)
 square-size (pos n) = refl
 square-size (negsuc n) = negsuc-*ℤ-negsuc n n
 
-own : (f : ℤ × ℤ → ℤ) (ps : List (ℤ × ℤ)) → sum_of f f ps ≡ pos (size f ps)
+pub own : (f : ℤ × ℤ → ℤ) (ps : List (ℤ × ℤ)) → sum_of f f ps ≡ pos (size f ps)
 own f [] = refl
 own f (p ∷ ps) =
     let e = total-cons (f p *ℤ f p) (map (λ (q : ℤ × ℤ). f q *ℤ f q) ps) in

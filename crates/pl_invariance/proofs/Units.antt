@@ -49,7 +49,7 @@ less-times x x' y y' a b some_a some_b e f l =
     never : (x y : ℤ) → x <ℤ y → x ≡ y → ⊥
     never x y l e = omega (arith, ints)
 
-less-true : (x y : ℤ) → int_lt x y ≡ true → x <ℤ y
+pub less-true : (x y : ℤ) → int_lt x y ≡ true → x <ℤ y
 less-true x y h = grind (arith, ints)
 
 minus-itself : (x : ℤ) → unsigned_abs (x -ℤ x) ≡ 0

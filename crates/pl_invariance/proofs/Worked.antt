@@ -80,7 +80,7 @@ volumes_over_restated_bars = refl
 
 -- ---- prices in another unit
 
-abbrev cents : Fraction
+abbrev pub cents : Fraction
 cents = record { num = 100; den = 1 }
 
 windows_in_cents : bar_window (priced_world cents split) Close 3 1 (pos 3) ≡ units 5000 ∷ units 5100 ∷ units 5100 ∷ []

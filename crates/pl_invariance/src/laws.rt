@@ -9,6 +9,11 @@ ghost use Rattle.pl_invariance.specs.Priced.{PricesHaveUnits};
 ghost use Rattle.pl_invariance.specs.Ranked.{RanksHaveNoUnit};
 ghost use Rattle.pl_invariance.specs.Renamed.{SidsAreNames};
 ghost use Rattle.pl_invariance.specs.Restated.{SplitsMayBeRestated, WorldsCanBeRestated};
+ghost use Rattle.pl_invariance.specs.Fitted.{LinesAreOfLeastSquares};
+ghost use Rattle.pl_invariance.specs.Lines.{LinesGoThroughMeans, ScalesAddUp};
+ghost use Rattle.pl_invariance.specs.OneAsset.{OneAssetForAll};
+ghost use Rattle.pl_invariance.specs.Origins.{PairsHaveNoOrigin};
+ghost use Rattle.pl_invariance.specs.Scales.{CorrelationsHaveNoScale, RegressionsHaveUnits};
 ghost use Rattle.pl_invariance.specs.Units.{FormulasHaveUnits, IndicatorsHaveNoUnit};
 
 /// A number beside bars is the same whatever the bars, the adjustments and the labels are. It guards the way
@@ -59,6 +64,11 @@ pub fn correlations_are_bounded()
     ensures { CorrelationsAreBounded }
 {}
 
+/// So does a correlation of ranks.
+pub fn rank_correlations_are_bounded()
+    ensures { RankCorrelationsAreBounded }
+{}
+
 /// A correlation and a covariance are the same with the two inputs swapped. It guards the sums of pairs.
 pub fn pairs_have_no_order()
     ensures { PairsHaveNoOrder }
@@ -70,9 +80,48 @@ pub fn values_explain_themselves()
     ensures { ValuesExplainThemselves }
 {}
 
-/// So does a correlation of ranks.
-pub fn rank_correlations_are_bounded()
-    ensures { RankCorrelationsAreBounded }
+/// A correlation, one of ranks too, and the share of the variance that a line explains are the same where one
+/// side is multiplied by a ratio above 0 that rounds none of its values. It guards the spreads that a
+/// correlation is divided by, and its sign.
+pub fn correlations_have_no_scale()
+    ensures { CorrelationsHaveNoScale }
+{}
+
+/// A covariance and a slope are multiplied by the ratio by which y is, where nothing is rounded.
+pub fn regressions_have_units()
+    ensures { RegressionsHaveUnits }
+{}
+
+/// Correlations, covariances, slopes and their errors are the same where a constant is added to one side. It
+/// guards the spreads, which are of what lies between the values and their means.
+pub fn pairs_have_no_origin()
+    ensures { PairsHaveNoOrigin }
+{}
+
+/// Where x is at its mean, the line of a regression is at the mean of y: exactly before slope and intercept
+/// are rounded, and after it within half a millionth for the intercept and half a millionth of the mean of x
+/// for the slope. It guards that both are of one line.
+pub fn lines_go_through_means()
+    ensures { LinesGoThroughMeans }
+{}
+
+/// Before its slope and intercept are rounded, the line of a regression is that of least squares: the sum of
+/// the squares of what lies between y and it is no greater than that of any other line. It is what the two
+/// formulas are defined for, and guards both.
+pub fn lines_are_of_least_squares()
+    ensures { LinesAreOfLeastSquares }
+{}
+
+/// The magnitudes of what a scale gives add up to 1, within half a millionth for each value, where not all
+/// values are 0. It guards what the values are divided by.
+pub fn scales_add_up()
+    ensures { ScalesAddUp }
+{}
+
+/// `y.of(sid)` gives each asset that exists the value of y for the asset sid, from wherever it is seen, and
+/// none where that asset does not exist. It guards what stands for it: a greatest value of one.
+pub fn one_asset_for_all()
+    ensures { OneAssetForAll }
 {}
 
 /// A percentile of a window lies between its least present value and its greatest, in every hundredth of a
