@@ -18,6 +18,12 @@ pub mod Units
 pub mod Formulas
 pub mod Crossed
 pub mod Indicators
+pub mod Measured
+pub mod Operated
+pub mod Sections
+pub mod Pipelines
+pub mod Tables
+pub mod WorkedPipelines
 pub mod Scales
 pub mod Origins
 pub mod Lines
@@ -25,9 +31,3 @@ pub mod Fitted
 pub mod Shares
 pub mod OneAsset
 pub mod WorkedPairs
-pub mod Measured
-pub mod Operated
-pub mod Sections
-pub mod Pipelines
-pub mod Tables
-pub mod WorkedPipelines

@@ -1,8 +1,7 @@
 -- Numbers and windows of a measure in another unit, and the formulas of them.
-use Rattle.std.proofs.Common.{◌≡◌, ℕ, zero, suc, ◌+◌, ◌*◌, ◌==◌, ◌<◌, ◌≤◌, ◌||◌, Bool, true, false, not, ◌&&◌, if◌then◌else◌, ℤ, pos, negsuc, ◌-◌, ◌-ℤ◌, ◌*ℤ◌, neg_ℤ, List, [], ◌∷◌, length, map, refl, sym, ◌∙◌, ap, arith, inl, inr}
+use Rattle.std.proofs.Common.{◌≡◌, ℕ, suc, ◌+◌, ◌*◌, ◌==◌, ◌≤◌, Bool, true, false, if◌then◌else◌, ℤ, pos, negsuc, ◌-◌, ◌-ℤ◌, neg_ℤ, List, [], ◌∷◌, length, map, refl, sym, ◌∙◌, ap, inl, inr}
 use Rattle.std.specs.List.{list_any, list_all}
 use Rattle.std.specs.Int.RustNames.{unsigned_abs}
-use Rattle.std.proofs.lemmas.Bool.{true≢false}
 use Rattle.std.proofs.lemmas.Int.{unsigned_abs-mul}
 use Rattle.pl_spec.proofs.Signed.{int_eq-true}
 use Rattle.std.proofs.lemmas.List.{length-map}
@@ -19,7 +18,7 @@ use Rattle.pl_invariance.specs.Exact.{Divides}
 use Rattle.pl_invariance.specs.Pipelines.{Measure, FormulaRule, IsQuotientExact, IsPercentileExact, IsBandGiven, spans, GivesExact, AreSpansExact, IsFormulaExact}
 use Rattle.pl_invariance.specs.Pipelines.Measure.{Price, NoUnit}
 use Rattle.pl_invariance.specs.Ranked.{IsExact}
-use Rattle.pl_invariance.specs.Units.{IsRatio, AreExact, IsUnrounded}
+use Rattle.pl_invariance.specs.Units.{IsRatio, AreExact}
 use Rattle.pl_invariance.proofs.Compared.{oldest_scaled, newest_scaled, changes-have-no-unit}
 use Rattle.pl_invariance.proofs.Crossed.{edge-times}
 use Rattle.pl_invariance.proofs.Ranked.{preceding_same, equals_same}
@@ -170,9 +169,10 @@ module _ (r : Fraction) (ratio : IsRatio r) where
 
   span-in : (x y v' v : ℤ) → Divides r x → Divides r y → GivesExact r x y v → (IsExact r x → IsExact r y → Times v' v)
       → (of_both (scaled r x) (scaled r y) v' ≡ scaled r (of_both x y v)) × Divides r (of_both x y v)
-  span-in x y v' v h i g t =
-      (on_both x y (scaled r x) (scaled r y) v v' (missing-same r ratio x h) (missing-same r ratio y i) (λ e f. by-times v' v (g e f).1 (g e f).0 (t (e, h) (f, i))),
-      step (is_missing x) (is_missing y) refl refl)
+  span-in x y v' v h i g t = (
+    on_both x y (scaled r x) (scaled r y) v v' (missing-same r ratio x h) (missing-same r ratio y i) (λ e f. by-times v' v (g e f).1 (g e f).0 (t (e, h) (f, i))),
+    step (is_missing x) (is_missing y) refl refl,
+  )
     where
       step : (b c : Bool) → is_missing x ≡ b → is_missing y ≡ c → Divides r (of_both x y v)
       step true c e f = rw e (nothing-divides r ratio)

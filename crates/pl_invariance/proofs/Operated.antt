@@ -1,18 +1,15 @@
 -- Operations on prices in another unit.
-use Rattle.std.proofs.Common.{◌≡◌, ℕ, zero, suc, ◌*◌, Bool, true, false, not, ◌||◌, if◌then◌else◌, ℤ, pos, negsuc, ◌*ℤ◌, neg_ℤ, refl, sym, ◌∙◌, ap, arith, subst}
-use Rattle.std.specs.Int.{int_max, int_min}
+use Rattle.std.proofs.Common.{◌≡◌, ◌*◌, Bool, true, false, ◌||◌, if◌then◌else◌, ℤ, pos, ◌*ℤ◌, neg_ℤ, refl, sym, ◌∙◌, ap, subst}
 use Rattle.std.specs.Int.RustNames.{unsigned_abs, int_lt}
 use Rattle.std.proofs.Math.IntN.{*ℤ_comm}
-use Rattle.std.proofs.lemmas.Bool.{true≢false}
 use Rattle.pl_spec.specs.Cells.{truth, is_true}
-use Rattle.pl_spec.specs.Rounding.{MISSING, MILLION, Fraction, is_missing, is_present, scaled, div_round, to_cell, of_both, quot, add, sub, mul, div, neg}
+use Rattle.pl_spec.specs.Rounding.{MISSING, MILLION, Fraction, is_missing, scaled, div_round, to_cell, of_both, add, sub, mul, div, neg}
 use Rattle.std.proofs.lemmas.Int.{unsigned_abs-mul}
 use Rattle.pl_pipeline.specs.Elementary.{sign, maximum, minimum}
 use Rattle.pl_pipeline.specs.Kind.{PointKind}
 use Rattle.pl_pipeline.specs.Pointwise.{pointwise}
 use Rattle.pl_invariance.specs.Exact.{Divides}
 use Rattle.pl_invariance.specs.Pipelines.{Measure, OperationRule, GivesCell, IsQuotientExact, IsOperationExact}
-use Rattle.pl_invariance.specs.Pipelines.Measure.{Price, NoUnit}
 use Rattle.pl_invariance.specs.Ranked.{IsExact}
 use Rattle.pl_invariance.specs.Units.{IsRatio}
 use Rattle.pl_invariance.proofs.Compared.{quot_same}
@@ -22,8 +19,6 @@ use Rattle.pl_invariance.proofs.Formulas.{add-scaled, sub-scaled, mul-scaled}
 use Rattle.pl_invariance.proofs.Indicators.{missing-same}
 use Rattle.pl_invariance.proofs.Measured.{number_in, IsOf, by-times, quotient-scaled, on_both}
 use Rattle.pl_invariance.proofs.Units as units
-
-
 
 both-gone : (x y v : ℤ) → (is_missing x || is_missing y) ≡ true → of_both x y v ≡ MISSING
 both-gone x y v e = rw e refl

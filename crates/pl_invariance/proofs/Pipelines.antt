@@ -1,19 +1,17 @@
 -- Terms over prices in another unit.
-use Rattle.std.proofs.Common.{◌≡◌, ℕ, zero, suc, ◌<◌, ◌≤◌, ◌==◌, Bool, true, false, ◌&&◌, ◌||◌, if◌then◌else◌, cond, ℤ, pos, ◌-ℤ◌, List, [], ◌∷◌, length, map, filter, refl, sym, ◌∙◌, ap, arith, subst, inl, inr}
+use Rattle.std.proofs.Common.{◌≡◌, ℕ, suc, ◌<◌, ◌≤◌, ◌==◌, Bool, true, false, ◌&&◌, ◌||◌, if◌then◌else◌, cond, ℤ, pos, List, [], ◌∷◌, length, map, filter, refl, sym, ◌∙◌, ap, arith, subst}
 use Rattle.std.specs.List.{list_any}
 use Rattle.std.specs.Int.RustNames.{unsigned_abs}
 use Rattle.std.proofs.Math.Path.{fun_ext}
 use Rattle.std.proofs.lemmas.Bool.{true≢false, and_parts, eqb-true}
 use Rattle.std.proofs.lemmas.Int.{ints}
 use Rattle.pl_spec.specs.declared.Column.{Column}
-use Rattle.pl_spec.specs.declared.Frequency.{Frequency}
-use Rattle.pl_spec.specs.Rounding.{LIMIT, MISSING, Fraction, is_missing, is_present, scaled, to_cell}
+use Rattle.pl_spec.specs.Rounding.{LIMIT, MISSING, Fraction, is_present, scaled}
 use Rattle.pl_spec.specs.Periods.{period_start}
 use Rattle.pl_spec.specs.Window.{Effect, before, downward, effects, after_all, seen_cell}
 use Rattle.pl_spec.specs.Window.Effect.{Scale, Put}
 use Rattle.pl_spec.specs.World.{World, exists, living_sids, bar_cell}
 use Rattle.pl_spec.proofs.Each.{Each, each_in_map, each_more, each_known, map_each, filter_each}
-use Rattle.pl_pipeline.specs.declared.WindowKind.{WindowKind}
 use Rattle.pl_pipeline.specs.Kind as kinds
 use Rattle.pl_pipeline.specs.Kind.{Kind, PointKind, CrossKind}
 use Rattle.pl_pipeline.specs.Kind.Kind.{Constant, Label, StaticSids, Window, Point, LabelTest, Cross, Downsample}
@@ -22,15 +20,15 @@ use Rattle.pl_pipeline.specs.Cross.{Entry, values, is_for_all, cross}
 use Rattle.pl_pipeline.specs.Formula.{formula}
 use Rattle.pl_pipeline.specs.Pointwise.{pointwise}
 use Rattle.pl_pipeline.specs.Term.{Term}
-use Rattle.pl_pipeline.specs.Term.Term.{absent, column, node}
+use Rattle.pl_pipeline.specs.Term.Term.{node}
 use Rattle.pl_pipeline.specs.Value.{Value, View, Own, From, seen_from, Part, Operands, part_from, number_of, holds, value_of_part, window_of, passes, in_group, entry, counts_for, eligible, group_of, test_value, is_filter, empty, sort_over, sort_kind, is_same, keeps_window, view_of, kind_value, seen, value}
 use Rattle.pl_pipeline.specs.Value.Value.{Number, Text}
 use Rattle.pl_invariance.specs.Exact.{Divides, AllDivide}
-use Rattle.pl_invariance.specs.Pipelines.{Measure, FormulaRule, OperationRule, CrossRule, Rule, HasMeasure, IsFormulaExact, IsOperationExact, IsCrossExact, IsStepExact, HoldsOfInputs, IsWhole, NothingIsRounded, in_unit, PipelinesHaveUnits}
+use Rattle.pl_invariance.specs.Pipelines.{Measure, CrossRule, Rule, HasMeasure, IsCrossExact, IsStepExact, HoldsOfInputs, IsWhole, NothingIsRounded, in_unit, PipelinesHaveUnits}
 use Rattle.pl_invariance.specs.Pipelines.Measure.{Price, NoUnit}
-use Rattle.pl_invariance.specs.Priced.{is_price, priced_world}
+use Rattle.pl_invariance.specs.Priced.{priced_world}
 use Rattle.pl_invariance.specs.Ranked.{IsExact, scaled_entry}
-use Rattle.pl_invariance.specs.Units.{IsRatio, AreExact}
+use Rattle.pl_invariance.specs.Units.{IsRatio}
 use Rattle.pl_invariance.proofs.Exact.{missing_stays}
 use Rattle.pl_invariance.proofs.Indicators.{nothing-divides}
 use Rattle.pl_invariance.proofs.Lists.{maps, any-map}
@@ -374,8 +372,11 @@ module _ (r : Fraction) (ratio : IsRatio r) where
         ∙ ap (λ l. Number (formula k xs l (window_of other size (there (From q) z) a d))) (window-in hy q size a d (each_more _ _ (downward size) (λ n t. t.1) e) iy)
         ∙ ap (λ l. Number (formula k xs ys l)) (window-in hz q size a d (each_more _ _ (downward size) (λ n t. t.2) e) iz)
     step-in (Rule.pure {k = Point k}) hx hy hz hm hg ix iy iz im ig size view a d lives e whole exact =
-        rw (number-now hx (view_of (Point k) view d) a d (ix (view_of (Point k) view d) a d e.0), number-now hy (view_of (Point k) view d) a d (iy (view_of (Point k) view d) a d e.1),
-        number-now hz (view_of (Point k) view d) a d (iz (view_of (Point k) view d) a d e.2)) refl
+        rw (
+          number-now hx (view_of (Point k) view d) a d (ix (view_of (Point k) view d) a d e.0),
+          number-now hy (view_of (Point k) view d) a d (iy (view_of (Point k) view d) a d e.1),
+          number-now hz (view_of (Point k) view d) a d (iz (view_of (Point k) view d) a d e.2),
+        ) refl
     step-in (Rule.pure {k = LabelTest k}) hx hy hz hm hg ix iy iz im ig size view a d lives e whole exact = ap (test_value k) (now-in hx Own a d (ix Own a d e))
     step-in {x = x} {y = y} {z = z} {m = m} {g = g} (Rule.pure {k = Cross k}) hx hy hz hm hg ix iy iz im ig size view a d lives e whole exact =
         let own : IsExactAt hx hm hg ix im ig y z Own d a = each_known (IsExactAt hx hm hg ix im ig y z Own d) (living_sids w d) a e lives in

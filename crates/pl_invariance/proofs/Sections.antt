@@ -1,9 +1,8 @@
 -- Cross-sections of prices in another unit.
-use Rattle.std.proofs.Common.{◌≡◌, ℕ, zero, suc, ◌+◌, ◌-◌, ◌*◌, ◌/◌, ◌<◌, ◌≤◌, Bool, true, false, not, ◌&&◌, ◌||◌, if◌then◌else◌, cond, ℤ, pos, negsuc, ◌*ℤ◌, List, [], ◌∷◌, length, map, fold, find, Option, Some, None, option_map, unwrap_or, refl, sym, ◌∙◌, ap, arith, inl, inr}
-use Rattle.std.proofs.lemmas.Bool.{true≢false}
+use Rattle.std.proofs.Common.{◌≡◌, ℕ, ◌+◌, ◌-◌, ◌*◌, ◌/◌, ◌<◌, ◌≤◌, Bool, true, false, cond, ℤ, pos, ◌*ℤ◌, List, [], ◌∷◌, length, map, fold, find, Some, unwrap_or, refl, sym, ◌∙◌, ap, arith}
 use Rattle.std.proofs.lemmas.List.{length-map}
 use Rattle.pl_spec.specs.Cells.{total}
-use Rattle.pl_spec.specs.Rounding.{MISSING, LIMIT, MILLION, Fraction, is_missing, scaled, to_cell, quot}
+use Rattle.pl_spec.specs.Rounding.{LIMIT, MILLION, Fraction, is_missing, scaled, to_cell, quot}
 use Rattle.std.specs.Prelude.{sum_by}
 use Rattle.std.specs.Int.{int_max, int_min}
 use Rattle.std.specs.Int.RustNames.{unsigned_abs, int_lt}
@@ -16,7 +15,6 @@ use Rattle.pl_pipeline.specs.Order.{value_at, percentile}
 use Rattle.pl_invariance.specs.Crossed.{AreUnrounded}
 use Rattle.pl_invariance.specs.Exact.{Divides}
 use Rattle.pl_invariance.specs.Pipelines.{Measure, CrossRule, IsCrossExact}
-use Rattle.pl_invariance.specs.Pipelines.Measure.{Price, NoUnit}
 use Rattle.pl_invariance.specs.Ranked.{IsExact, scaled_entry}
 use Rattle.pl_invariance.specs.Units.{IsRatio, IsUnrounded, IsSpreadExact}
 use Rattle.pl_invariance.proofs.Compared.{quot_same}

@@ -9,7 +9,6 @@ use Rattle.pl_pipeline.specs.Term.{term_at}
 use Rattle.pl_pipeline.specs.Value.{Value, Own, value, holds}
 use Rattle.pl_pipeline.specs.Table.{NamedColumn, Pipeline, Row, value_of, is_kept, kept_sids, table_row, session_rows, table}
 use Rattle.pl_invariance.specs.Pipelines.{Measure, HasMeasure, NothingIsRounded, in_unit, HaveMeasures, HasNoUnit, HasMeasures, AreUnrounded, IsScreenUnrounded, IsSessionUnrounded, in_units, priced_row, TablesHaveUnits}
-use Rattle.pl_invariance.specs.Pipelines.Measure.{Price, NoUnit}
 use Rattle.pl_invariance.specs.Priced.{priced_world}
 use Rattle.pl_invariance.specs.Units.{IsRatio}
 use Rattle.pl_invariance.proofs.Lists.{maps, flat-map}

@@ -1,5 +1,5 @@
 -- Worked rows of the laws of whole pipelines, each computed from the definitions.
-use Rattle.std.proofs.Common.{◌≡◌, ℕ, ◌*◌, false, true, ℤ, pos, ◌*ℤ◌, List, [], ◌∷◌, map, Some, refl, sym, arith, inl, inr}
+use Rattle.std.proofs.Common.{◌≡◌, ℕ, false, ℤ, pos, ◌*ℤ◌, List, [], ◌∷◌, map, Some, refl, sym, arith, inr}
 use Rattle.std.specs.Prelude.{codes}
 use Rattle.std.proofs.lemmas.Bool.{true≢false}
 use Rattle.pl_spec.specs.declared.Column.TheVariants.{Close}
@@ -11,7 +11,7 @@ use Rattle.pl_pipeline.specs.declared.RankOrder.TheVariants.{Ascending}
 use Rattle.pl_pipeline.specs.declared.WindowKind.{WindowKind}
 use Rattle.pl_pipeline.specs.declared.WindowKind.TheVariants.{Latest, SimpleMovingAverage, Returns}
 use Rattle.pl_pipeline.specs.Kind.{Kind, PointKind, CrossKind}
-use Rattle.pl_pipeline.specs.Term.{Term, Graph}
+use Rattle.pl_pipeline.specs.Term.{Graph}
 use Rattle.pl_pipeline.specs.Term.Term.{absent, column, node}
 use Rattle.pl_pipeline.specs.Value.{Value, Own}
 use Rattle.pl_pipeline.specs.Value.Value.{Number}
@@ -21,7 +21,6 @@ use Rattle.pl_invariance.specs.Exact.{Divides}
 use Rattle.pl_invariance.specs.Pipelines.{Measure, FormulaRule, OperationRule, CrossRule, Rule, HasMeasure, NothingIsRounded, HasMeasures, IsSessionUnrounded, priced_row}
 use Rattle.pl_invariance.specs.Pipelines.Measure.{Price, NoUnit}
 use Rattle.pl_invariance.specs.Priced.{priced_world}
-use Rattle.pl_invariance.specs.Units.{IsRatio}
 use Rattle.pl_invariance.proofs.Tables.{tables-have-units}
 
 abbrev cents : Fraction
@@ -78,15 +77,17 @@ divides x e f = (omega arith, inr (e, f))
 
 latest_exact : NothingIsRounded cents two_assets [] latest_is Own 1 (pos 2) × NothingIsRounded cents two_assets [] latest_is Own 2 (pos 2)
 unfolding opened
-latest_exact =
-    ((tt, divides (units 4) refl refl, λ kept. (((divides (units 4) refl refl, tt, tt), tt), tt)),
-    (tt, divides (units 3) refl refl, λ kept. (((divides (units 3) refl refl, tt, tt), tt), tt)))
+latest_exact = (
+  (tt, divides (units 4) refl refl, λ kept. (((divides (units 4) refl refl, tt, tt), tt), tt)),
+  (tt, divides (units 3) refl refl, λ kept. (((divides (units 3) refl refl, tt, tt), tt), tt)),
+)
 
 mean_exact : NothingIsRounded cents two_assets [] mean_is Own 1 (pos 2) × NothingIsRounded cents two_assets [] mean_is Own 2 (pos 2)
 unfolding opened
-mean_exact =
-    ((tt, divides (units 3) refl refl, λ kept. (((divides (units 2) refl refl, tt, tt), ((divides (units 4) refl refl, tt, tt), tt)), inr ((refl, divides (units 3) refl refl), refl))),
-    (tt, divides (units 4) refl refl, λ kept. (((divides (units 5) refl refl, tt, tt), ((divides (units 3) refl refl, tt, tt), tt)), inr ((refl, divides (units 4) refl refl), refl))))
+mean_exact = (
+  (tt, divides (units 3) refl refl, λ kept. (((divides (units 2) refl refl, tt, tt), ((divides (units 4) refl refl, tt, tt), tt)), inr ((refl, divides (units 3) refl refl), refl))),
+  (tt, divides (units 4) refl refl, λ kept. (((divides (units 5) refl refl, tt, tt), ((divides (units 3) refl refl, tt, tt), tt)), inr ((refl, divides (units 4) refl refl), refl))),
+)
 
 return_exact : NothingIsRounded cents two_assets [] return_is Own 1 (pos 2)
 unfolding opened
@@ -98,9 +99,10 @@ rank_exact = (tt, tt, λ kept. (((latest_exact.0, tt, tt), ((latest_exact.1, tt,
 
 session_exact : IsSessionUnrounded cents two_assets rising measures has_measures (pos 2)
 unfolding opened
-session_exact =
-    (((tt, tt, λ kept. ((latest_exact.0, mean_exact.0, tt), tt)), λ kept. (mean_exact.0, (rank_exact, (return_exact, tt)))),
-    (((tt, tt, λ kept. ((latest_exact.1, mean_exact.1, tt), tt)), λ kept. absurd (true≢false (sym kept))), tt))
+session_exact = (
+  ((tt, tt, λ kept. ((latest_exact.0, mean_exact.0, tt), tt)), λ kept. (mean_exact.0, (rank_exact, (return_exact, tt)))),
+  (((tt, tt, λ kept. ((latest_exact.1, mean_exact.1, tt), tt)), λ kept. absurd (true≢false (sym kept))), tt),
+)
 
 -- the law holds of this table
 in_both : table (priced_world cents two_assets) rising 2 2 ≡ map (priced_row cents measures) (table two_assets rising 2 2)

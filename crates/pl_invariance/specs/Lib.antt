@@ -10,9 +10,9 @@ pub mod Paired
 pub mod Ordered
 pub mod Units
 pub mod Crossed
+pub mod Pipelines
 pub mod Scales
 pub mod Origins
 pub mod Lines
 pub mod Fitted
 pub mod OneAsset
-pub mod Pipelines
