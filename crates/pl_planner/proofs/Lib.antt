@@ -1,9 +1,9 @@
+pub mod Anew
 pub mod Asking
 pub mod Coned
 pub mod Counting
 pub mod Covers
 pub mod Gathers
-pub mod Held
 pub mod Live
 pub mod Lows
 pub mod Marks

@@ -1,10 +1,13 @@
 -- What a plan is good for.
-use Rattle.std.specs.Prelude.{◌≡◌, ℕ, ◌<◌, true, ℤ, pos, ◌≤ℤ◌, ◌<ℤ◌, List, AllPairs, Some, slice_get}
+use Rattle.std.specs.Prelude.{◌≡◌, ℕ, ◌<◌, ◌≤◌, true, ℤ, pos, ◌≤ℤ◌, ◌<ℤ◌, List, AllPairs, Some, slice_get}
+use Rattle.pl_spec.specs.Limits.{most_extra_rows}
+use Rattle.pl_spec.specs.Window.{before}
+use Rattle.pl_pipeline.specs.Cones.{HasDepth}
 use Rattle.pl_pipeline.specs.Term.{Node}
 use Rattle.pl_pipeline.specs.Lows.{Reads}
 use Rattle.pl_pipeline.specs.Table.{Pipeline}
 use Rattle.pl_terms.specs.Checked.{IsChecked}
-use Rattle.pl_planner.specs.Plans.{Planned, IsAsked, IsPlanOf, is_used, low_at, IsLive}
+use Rattle.pl_planner.specs.Plans.{Planned, IsAsked, IsPlanOf, is_used, low_at, cone, IsLive}
 
 -- What a used term k reads of a term t, for a session that it is computed on: t is used, has a lower number,
 -- is live with k and is computed from that session on.
@@ -19,3 +22,17 @@ ReadsAreCovered = (days : List ℤ) → AllPairs (λ a b. a <ℤ b) days
     → (p : Pipeline) → IsChecked p → (plan : Planned) → IsPlanOf days p plan
     → (k t c : ℕ) (n : Node) (s r : ℤ) → IsAsked plan k c → slice_get p.graph k ≡ Some n
     → pos (low_at plan k c) ≤ℤ s → Reads days n s t r → IsCovered p plan k t c r
+
+-- What is computed anew of a term u for term k, where k is computed on session s: u is used, has a lower
+-- number and is computed from m sessions before on, which are few.
+pub record IsCoveredAnew (plan : Planned) (k u m c : ℕ) (s : ℤ) : Type 0 where
+  pub used : is_used plan u ≡ true
+  pub lower : u < k
+  pub computed : pos (low_at plan u c) ≤ℤ before s m
+  pub few : m ≤ most_extra_rows
+
+abbrev pub ConesAreCovered : Type 0
+ConesAreCovered = (days : List ℤ) → AllPairs (λ a b. a <ℤ b) days
+    → (p : Pipeline) → IsChecked p → (plan : Planned) → IsPlanOf days p plan
+    → (k u m c : ℕ) (s : ℤ) → IsAsked plan k c → pos (low_at plan k c) ≤ℤ s
+    → HasDepth u m (cone plan k) → IsCoveredAnew plan k u m c s

@@ -2,7 +2,6 @@ pub mod Asked
 pub mod Columns
 pub mod Cones
 pub mod Extra
-pub mod Holds
 pub mod Inside
 pub mod Laws
 pub mod Plans

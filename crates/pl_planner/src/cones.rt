@@ -10,6 +10,7 @@ ghost use Rattle.pl_planner.specs.Cones.{AddsMarks, AreMarks, HaveRoom, cones_of
 ghost use Rattle.pl_planner.specs.Steady.{AreSteady};
 
 use crate::steady::{is_windowed, steady_terms};
+use pl_fixed::Memory;
 use pl_terms::{Graph, Input, Node, TermId};
 use std::alloc::{AllocError, Global};
 
@@ -42,12 +43,7 @@ fn mark_depth(depths: &mut [Option<usize>; 256], t: TermId, depth: usize)
     depths[own] = Some(larger(depth, depths[own]));
 }
 
-fn mark_moving(
-    depths: &mut [Option<usize>; 256],
-    steady: &[bool; 256],
-    t: TermId,
-    depth: usize,
-)
+fn mark_moving(depths: &mut [Option<usize>; 256], steady: &[bool; 256], t: TermId, depth: usize)
     ensures { AddsMarks depths.old depths.new
         (if get_or steady.now (number_of t) false then [] else ((number_of t, depth) ∷ [])) }
 {
@@ -85,12 +81,7 @@ fn sessions_before(node: &Node) -> usize
 }
 
 #[tactic(auto, unfolding(pl_terms::specs::Nodes::node_of))]
-fn mark_node(
-    depths: &mut [Option<usize>; 256],
-    steady: &[bool; 256],
-    node: &Node,
-    depth: usize,
-)
+fn mark_node(depths: &mut [Option<usize>; 256], steady: &[bool; 256], node: &Node, depth: usize)
     ensures { AddsMarks depths.old depths.new (moving_marks steady.now depth (node_of node.now).inputs) }
 {
     mark_inputs(depths, steady, node.inputs.as_slice(), depth);
@@ -179,4 +170,16 @@ pub(crate) fn gather_cones(alloc: Global, graph: &Graph) -> Result<Vec<Cone>, Al
         cones.push(cone_of(alloc, graph, &steady, TermId(k as u8))?)?;
     }
     Ok(cones)
+}
+
+/// The cone of a term: the terms that its windows are over and that move with the bars, ascending, each with
+/// the greatest number of sessions before the term's own on which it is read, as it is seen on that. A term
+/// whose windows hold bars, or terms that keep their values, has none. The only error is want of memory.
+pub fn cone_at(alloc: Global, graph: &Graph, t: TermId) -> Result<Vec<ConeTerm>, Memory>
+    requires { t.0 < length graph.now }
+    ensures { IfOk result (λ cone. pairs_of cone.items ≡ cone_depths (graph_of graph.now) t.0) }
+{
+    let steady = steady_terms(graph);
+    let cone = cone_of(alloc, graph, &steady, t)?;
+    Ok(cone.terms)
 }

@@ -1,7 +1,13 @@
 //! The laws of plans.
-ghost use Rattle.pl_planner.specs.Laws.{ReadsAreCovered};
+ghost use Rattle.pl_planner.specs.Laws.{ConesAreCovered, ReadsAreCovered};
 
 /// What a term's window, mask and group read is computed, and kept until it is read.
 pub fn reads_are_covered()
     ensures { ReadsAreCovered }
+{}
+
+/// What is computed anew for a term's windows is of terms that are computed on these sessions, of which there
+/// are at most 4,096 before the term's own.
+pub fn cones_are_covered()
+    ensures { ConesAreCovered }
 {}

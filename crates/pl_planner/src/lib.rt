@@ -5,7 +5,6 @@
 mod columns;
 mod cones;
 pub mod laws;
-mod holds;
 mod names;
 mod pipeline;
 mod planning;
@@ -19,7 +18,7 @@ pub mod text_laws;
 mod uses;
 
 pub use columns::has_column;
-pub use cones::ConeTerm;
+pub use cones::{ConeTerm, cone_at};
 pub use pipeline::{count, node_at};
 pub use planning::plan;
 pub use plans::{Plan, PlanError};

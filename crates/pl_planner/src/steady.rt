@@ -62,9 +62,7 @@ fn are_still(steady: &[bool; 256], inputs: &[Input], windowed: bool) -> bool
     match inputs {
         [] => true,
         [Input::Column(_), rest @ ..] => !windowed && are_still(steady, rest, windowed),
-        [Input::Term(t), rest @ ..] => {
-            steady[t.0 as usize] && are_still(steady, rest, windowed)
-        }
+        [Input::Term(t), rest @ ..] => { steady[t.0 as usize] && are_still(steady, rest, windowed) }
     }
 }
 

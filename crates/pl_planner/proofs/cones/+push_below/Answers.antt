@@ -20,10 +20,23 @@ pub push_below-requires-in-Some : goal.push_below-requires-in-Some
 push_below-requires-in-Some t c =
     let less : c.args.count - 1 < t = search rules in
     let within : c.args.count - 1 ≤ length c.args.graph.now = (let l = c.requires.within in omega arith) in
-    let few : c.args.count - 1 ≤ most_terms = (let l = c.requires.few in omega arith) in
-    (less, (c.requires.graph, (within, (few, (c.requires.steady,
-      room-next (graph_of c.args.graph.now) c.args.count (c.args.count - 1) (omega arith) (omega arith) c.args.depths.now c.in-Some.depth c.sessions_before.result c.mark_node.new.depths c.args.steady.now (node_of c.node-node.result.now).inputs
-      c.in-Some.is c.requires.room c.sessions_before.ensures.few c.mark_node.ensures)))))
+    let few : c.args.count - 1 ≤ most_terms = (let l = c.requires.few in omega arith) in (
+      less,
+      (
+        c.requires.graph,
+        (
+          within,
+          (
+            few,
+            (
+              c.requires.steady,
+              room-next (graph_of c.args.graph.now) c.args.count (c.args.count - 1) (omega arith) (omega arith) c.args.depths.now c.in-Some.depth c.sessions_before.result c.mark_node.new.depths c.args.steady.now (node_of c.node-node.result.now).inputs
+                  c.in-Some.is c.requires.room c.sessions_before.ensures.few c.mark_node.ensures,
+            ),
+          ),
+        ),
+      ),
+    )
 
 pub returns-in-None : goal.returns-in-None
 returns-in-None t c = λ marks are.

@@ -12,7 +12,7 @@ loop-k-preserved c =
     let size = c.loop-k.invariant.size in
     let inside : c.loop-k.k < length (graph_of c.args.graph.now) = (let l = graph-long c.args.graph.now in omega arith) in
     let own = c.is_still.ensures
-        ∙ still-is (graph_of c.args.graph.now) c.len-k-end.ensures.graph c.loop-k.k inside c.loop-k.steady c.loop-k.invariant.are (node_of c.node.result.now) (graph-at c.args.graph.now c.loop-k.k c.node.result.now c.node.ensures) in
+    ∙ still-is (graph_of c.args.graph.now) c.len-k-end.ensures.graph c.loop-k.k inside c.loop-k.steady c.loop-k.invariant.are (node_of c.node.result.now) (graph-at c.args.graph.now c.loop-k.k c.node.result.now c.node.ensures) in
     record {
       are = one-more (graph_of c.args.graph.now) c.loop-k.k c.loop-k.steady c.is_still.result c.loop-k.invariant.are (omega arith) own;
       size = length-set c.loop-k.steady c.loop-k.k c.is_still.result ∙ size;

@@ -20,6 +20,6 @@ returns c =
     let given : term_line c.args.t.0 n c.extra.result c.uses.result (pairs_of c.cone.result.now)
     ≡ term_line c.args.t.0 n (plans.extra c.args.plan.now c.args.t.0) (pipeline.uses (pipeline_of c.args.checked.now) c.args.t.0) (cone_depths (pipeline_of c.args.checked.now).graph c.args.t.0)
     = ap (λ m. term_line c.args.t.0 n m c.uses.result (pairs_of c.cone.result.now)) c.extra.ensures.value
-        ∙ ap (λ m. term_line c.args.t.0 n (plans.extra c.args.plan.now c.args.t.0) m (pairs_of c.cone.result.now)) c.uses.ensures
-        ∙ ap (term_line c.args.t.0 n (plans.extra c.args.plan.now c.args.t.0) (pipeline.uses (pipeline_of c.args.checked.now) c.args.t.0)) (c.cone.ensures ∙ c.requires.cone) in
+    ∙ ap (λ m. term_line c.args.t.0 n (plans.extra c.args.plan.now c.args.t.0) m (pairs_of c.cone.result.now)) c.uses.ensures
+    ∙ ap (term_line c.args.t.0 n (plans.extra c.args.plan.now c.args.t.0) (pipeline.uses (pipeline_of c.args.checked.now) c.args.t.0)) (c.cone.ensures ∙ c.requires.cone) in
     subst (λ l. OnOk c.put_line.result (c.put_line.new.out.items ≡ c.args.out.now.items ++ l)) (given ∙ sym line) c.put_line.ensures
