@@ -22,7 +22,8 @@ use Rattle.pl_terms.specs.declared.node.Node.{Node}
 use Rattle.pl_terms.specs.Nodes.{graph_of}
 use Rattle.pl_terms.specs.Checked.{IsChecked}
 use Rattle.pl_terms.specs.declared.row.Sort.TheVariants.{Factors, Filters, Labels, Numbers}
-use Rattle.pl_terms.specs.Sorts.{Sort, sort_at, sort_of, window_sort, point_sort, cross_sort}
+use Rattle.pl_terms.specs.declared.row.Sort.{Sort}
+use Rattle.pl_terms.specs.Sorts.{sort_at, sort_of, window_sort, point_sort, cross_sort}
 use Rattle.pl_cross.specs.Arrays.{HasTexts}
 use Rattle.pl_cross.proofs.Codes.{IsCoded}
 use Rattle.pl_values.specs.Families.{IsCode}

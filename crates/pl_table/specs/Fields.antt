@@ -10,7 +10,7 @@ use Rattle.pl_pipeline.specs.Text.{described, truth_text}
 use Rattle.pl_pipeline.specs.Term.{Graph}
 use Rattle.pl_pipeline.specs.Table.{NamedColumn}
 use Rattle.pl_terms.specs.declared.row.Sort.TheVariants.{Factors, Filters, Labels, Numbers}
-use Rattle.pl_terms.specs.Sorts.{Sort}
+use Rattle.pl_terms.specs.declared.row.Sort.{Sort}
 use Rattle.pl_table.specs.declared.writing.Writing.{Writing}
 use Rattle.pl_table.specs.declared.writing.Writing.TheVariants.{Cell, Truth, Whole, Label}
 

@@ -16,7 +16,8 @@ use Rattle.pl_pipeline.specs.NodeValue.{meaning_of, input_part, number_part, nod
 use Rattle.pl_pipeline.specs.Table.{Pipeline, in_array}
 use Rattle.pl_terms.specs.Checked.{IsChecked}
 use Rattle.pl_terms.specs.declared.row.Sort.TheVariants.{Factors, Labels, Numbers}
-use Rattle.pl_terms.specs.Sorts.{Sort, Place, Factor, Classifier, sort_at, places, cross_places, fits, all_fit, takes_sort, has_group}
+use Rattle.pl_terms.specs.declared.row.Sort.{Sort}
+use Rattle.pl_terms.specs.Sorts.{Place, Factor, Classifier, sort_at, places, cross_places, fits, all_fit, takes_sort, has_group}
 use Rattle.pl_cross.specs.Section.{IsRight, HasParameters}
 use Rattle.pl_cross.specs.Listing.{labels_for}
 use Rattle.pl_cross.specs.Arrays.{sid_in, IsArray, IsNumbered, IsLabelled, IsGroupArray, HasNumbers, Columns, AreArrays, HasTexts}

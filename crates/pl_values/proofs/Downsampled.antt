@@ -14,7 +14,8 @@ use Rattle.pl_pipeline.specs.Table.{Pipeline, value_of}
 use Rattle.pl_pipeline.proofs.Unfolds.{seen_at-node, value_at-node}
 use Rattle.pl_pipeline.proofs.Trees.{term_at-node}
 use Rattle.pl_terms.specs.Checked.{IsChecked}
-use Rattle.pl_terms.specs.Sorts.{Sort, AnyTerm, sort_of, sort_at, is_downsampled, is_windowed, first_term, places, fits, takes_sort}
+use Rattle.pl_terms.specs.declared.row.Sort.{Sort}
+use Rattle.pl_terms.specs.Sorts.{AnyTerm, sort_of, sort_at, is_downsampled, is_windowed, first_term, places, fits, takes_sort}
 use Rattle.pl_terms.proofs.TermSorts.{kind-own, sort-input, sorted-there}
 use Rattle.pl_values.proofs.Typed.{has-input}
 use Rattle.pl_values.proofs.KindFamilies.{downsampled_kind}

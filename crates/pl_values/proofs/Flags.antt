@@ -19,7 +19,8 @@ use Rattle.pl_pipeline.specs.NodeValue.{node_seen, number_part, seen_node_operan
 use Rattle.pl_pipeline.specs.Table.{Pipeline, value_of, in_array}
 use Rattle.pl_terms.specs.Checked.{IsChecked}
 use Rattle.pl_terms.specs.declared.row.Sort.TheVariants.{Factors, Filters}
-use Rattle.pl_terms.specs.Sorts.{Sort, sort_of, sort_at, window_sort, point_sort, cross_sort}
+use Rattle.pl_terms.specs.declared.row.Sort.{Sort}
+use Rattle.pl_terms.specs.Sorts.{sort_of, sort_at, window_sort, point_sort, cross_sort}
 use Rattle.pl_lanes.specs.Flags.{IsFlag}
 use Rattle.pl_cross.specs.Arrays.{sid_in}
 use Rattle.pl_values.specs.Arrays.{cell_of}

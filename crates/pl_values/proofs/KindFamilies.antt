@@ -15,7 +15,8 @@ use Rattle.pl_pipeline.specs.Pointwise.{label_test}
 use Rattle.pl_pipeline.proofs.Cells.{zero-cell, truth-cell}
 use Rattle.pl_terms.specs.Rows.{kind_row, cross_sort}
 use Rattle.pl_terms.specs.declared.row.Sort.TheVariants.{Factors, Filters}
-use Rattle.pl_terms.specs.Sorts.{Sort, is_downsampled, is_windowed}
+use Rattle.pl_terms.specs.declared.row.Sort.{Sort}
+use Rattle.pl_terms.specs.Sorts.{is_downsampled, is_windowed}
 use Rattle.pl_cross.specs.Section.{is_section}
 use Rattle.pl_values.specs.Views.{keeps_kind}
 use Rattle.pl_values.specs.Families.{IsOf, is_sids, is_point, is_label_test, sid_flag, code_flag}

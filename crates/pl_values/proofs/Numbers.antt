@@ -19,7 +19,8 @@ use Rattle.pl_pipeline.specs.Table.{Pipeline, value_of, in_array}
 use Rattle.pl_pipeline.proofs.Trees.{term_at-node}
 use Rattle.pl_terms.specs.Checked.{IsChecked}
 use Rattle.pl_terms.specs.declared.row.Sort.TheVariants.{Factors, Filters, Labels, Numbers}
-use Rattle.pl_terms.specs.Sorts.{Sort, sort_of, sort_at, window_sort, point_sort, cross_sort, is_downsampled}
+use Rattle.pl_terms.specs.declared.row.Sort.{Sort}
+use Rattle.pl_terms.specs.Sorts.{sort_of, sort_at, window_sort, point_sort, cross_sort, is_downsampled}
 use Rattle.pl_cross.specs.Arrays.{HasTexts}
 use Rattle.pl_cross.proofs.LabelCodes.{labels-coded}
 use Rattle.pl_cross.proofs.Codes.{IsCoded, IsNumber}

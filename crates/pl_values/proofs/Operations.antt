@@ -19,7 +19,8 @@ use Rattle.pl_pipeline.specs.NodeValue.{input_part}
 use Rattle.pl_pipeline.specs.Table.{Pipeline, value_of, in_array}
 use Rattle.pl_terms.specs.Checked.{IsChecked}
 use Rattle.pl_terms.specs.declared.row.Sort.TheVariants.{Factors, Filters, Numbers}
-use Rattle.pl_terms.specs.Sorts.{Sort, Place, AnyTerm, Series, Factor, Filter, FactorOrClassifier, Classifier, LabelClassifier, NumberedClassifier, sort_at, places, point_places, fits, all_fit, takes_sort, has_parameters, is_limited, is_windowed}
+use Rattle.pl_terms.specs.declared.row.Sort.{Sort}
+use Rattle.pl_terms.specs.Sorts.{Place, AnyTerm, Series, Factor, Filter, FactorOrClassifier, Classifier, LabelClassifier, NumberedClassifier, sort_at, places, point_places, fits, all_fit, takes_sort, has_parameters, is_limited, is_windowed}
 use Rattle.pl_lanes.specs.Flags.{IsFlag}
 use Rattle.pl_pointwise.specs.Operands.{IsOperation, HasCells, AreOperands, AreOperandsOf, AreCells, AreFlags, ArePlaced, operation}
 use Rattle.pl_cross.specs.Arrays.{sid_in}

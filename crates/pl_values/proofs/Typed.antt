@@ -8,7 +8,8 @@ use Rattle.pl_pipeline.specs.Kind.PointKind.{Neg}
 use Rattle.pl_pipeline.specs.Kind.CrossKind.{PeerCount}
 use Rattle.pl_pipeline.specs.Term.{Graph, Input}
 use Rattle.pl_terms.specs.declared.row.Sort.TheVariants.{Filters, Labels}
-use Rattle.pl_terms.specs.Sorts.{Sort, sort_at, Place, Own, Bar, Series, point_places, cross_places, takes_sort, takes_column, fits, all_fit, optional_fits}
+use Rattle.pl_terms.specs.declared.row.Sort.{Sort}
+use Rattle.pl_terms.specs.Sorts.{sort_at, Place, Own, Bar, Series, point_places, cross_places, takes_sort, takes_column, fits, all_fit, optional_fits}
 
 -- each input is one that its place takes
 pub fit-at : (g : Graph) (ps : List Place) (is : List Input) (i : ℕ) (x : Input) → all_fit g ps is ≡ true → slice_get is i ≡ Some x
