@@ -26,6 +26,7 @@ use Rattle.pl_invariance.proofs.Exact.{cancel, missing_stays}
 use Rattle.pl_invariance.proofs.Formulas.{formulas-have-units}
 use Rattle.pl_invariance.proofs.Formulas as formulas
 use Rattle.pl_invariance.proofs.Indicators.{missing-same, nothing-divides, get-divides, position-same, indicators-have-no-unit}
+use Rattle.pl_invariance.proofs.Scales.{correlations-have-no-scale, regressions-have-units}
 use Rattle.pl_invariance.proofs.Units as units
 
 module _ (r : Fraction) where
@@ -260,3 +261,14 @@ module _ (r : Fraction) (ratio : IsRatio r) where
       let g = units.least-scaled r ratio xs h in
       ap (λ x. place_number x (map (scaled r) xs)) g.0 ∙ place-in (least xs) g.1 xs h
   formula-in FormulaRule.all_present xs ys zs h i j e = ap truth (all-present xs h)
+  formula-in FormulaRule.correlation ys xs zs h i j e =
+      correlations-have-no-scale.correlation.first r ys (map (scaled r) xs) zs ratio h ∙ correlations-have-no-scale.correlation.second r ys xs zs ratio i
+  formula-in FormulaRule.correlation_of_y ys xs zs h i j e = correlations-have-no-scale.correlation.first r ys xs zs ratio h
+  formula-in FormulaRule.correlation_of_x ys xs zs h i j e = correlations-have-no-scale.correlation.second r ys xs zs ratio i
+  formula-in FormulaRule.rank_correlation ys xs zs h i j e =
+      correlations-have-no-scale.ranks.first r ys (map (scaled r) xs) zs ratio h ∙ correlations-have-no-scale.ranks.second r ys xs zs ratio i
+  formula-in FormulaRule.rank_correlation_of_y ys xs zs h i j e = correlations-have-no-scale.ranks.first r ys xs zs ratio h
+  formula-in FormulaRule.rank_correlation_of_x ys xs zs h i j e = correlations-have-no-scale.ranks.second r ys xs zs ratio i
+  formula-in FormulaRule.r_squared xs ys zs h i j e = correlations-have-no-scale.r_squared r xs ys zs ratio h
+  formula-in FormulaRule.covariance ys xs zs h i j e = regressions-have-units.covariance r ys xs zs ratio h e
+  formula-in FormulaRule.slope ys xs zs h i j e = regressions-have-units.slope r ys xs zs ratio h e
