@@ -43,8 +43,8 @@ pub data Measure : Type 0 where
 -- ---- the rules
 
 -- What a formula gives of windows of prices; an input that is absent has no unit, nor have weights. There is
--- no rule for trends, drawdowns, faded deviations, skewness and kurtosis of prices, for intercepts, errors,
--- and slopes of a price on a price: the laws say nothing of them.
+-- no rule for trends, drawdowns, faded deviations, skewness and kurtosis of prices, and for intercepts and
+-- errors: the laws say nothing of them.
 pub data FormulaRule : WindowKind → Measure → Measure → Measure → Measure → Type 0 where
   latest : FormulaRule Latest Price NoUnit NoUnit Price
   first : FormulaRule WindowFirst Price NoUnit NoUnit Price
@@ -85,6 +85,7 @@ pub data FormulaRule : WindowKind → Measure → Measure → Measure → Measur
   r_squared : FormulaRule WindowRSquared Price NoUnit NoUnit NoUnit
   covariance : FormulaRule Covariance Price NoUnit NoUnit Price
   slope : FormulaRule RegressionSlope Price NoUnit NoUnit Price
+  hedge : FormulaRule RegressionSlope Price Price NoUnit NoUnit
 
 -- What an operation gives. There is no rule for a price beside a number in a sum, a comparison or a bound: in
 -- another unit the number would have to be another.
@@ -174,35 +175,35 @@ pub record AreSpansExact (r : Fraction) (h l c : ℤ) : Type 0 where
   pub low : GivesExact r l c (pos (unsigned_abs (l -ℤ c)))
   pub small : let span = cells.greatest (spans h l c) in is_missing span ≡ false → unsigned_abs span ≤ LIMIT
 
--- sums are cells, and quotients have no rest
-abbrev pub IsFormulaExact : Fraction → WindowKind → List ℤ → List ℤ → List ℤ → Type 0
-IsFormulaExact r WindowSum xs ys zs = unsigned_abs (total (present_values xs)) ≤ LIMIT
-IsFormulaExact r SimpleMovingAverage xs ys zs = IsUnrounded r (total (present_values xs)) (count xs)
-IsFormulaExact r BollingerMiddle xs ys zs = IsUnrounded r (total (present_values xs)) (count xs)
-IsFormulaExact r LinearWeightedMovingAverage xs ys zs =
+-- sums are cells, and quotients have no rest; the second input is of the measure
+abbrev pub IsFormulaExact : Fraction → WindowKind → Measure → List ℤ → List ℤ → List ℤ → Type 0
+IsFormulaExact r WindowSum second xs ys zs = unsigned_abs (total (present_values xs)) ≤ LIMIT
+IsFormulaExact r SimpleMovingAverage second xs ys zs = IsUnrounded r (total (present_values xs)) (count xs)
+IsFormulaExact r BollingerMiddle second xs ys zs = IsUnrounded r (total (present_values xs)) (count xs)
+IsFormulaExact r LinearWeightedMovingAverage second xs ys zs =
     IsUnrounded r (total (products (places xs) xs)) (length xs * (length xs + 1) / 2)
-IsFormulaExact r WeightedAverageValue xs ys zs =
+IsFormulaExact r WeightedAverageValue second xs ys zs =
     IsQuotientExact r (total (products xs ys)) (total (present_values ys))
-IsFormulaExact r VWAP xs ys zs = IsQuotientExact r (total (products xs ys)) (total (present_values ys))
-IsFormulaExact r AverageDollarVolume xs ys zs = IsUnrounded r (total (products xs ys)) (length xs * MILLION)
-IsFormulaExact r (ExponentialWeightedMovingAverage decay) xs ys zs =
+IsFormulaExact r VWAP second xs ys zs = IsQuotientExact r (total (products xs ys)) (total (present_values ys))
+IsFormulaExact r AverageDollarVolume second xs ys zs = IsUnrounded r (total (products xs ys)) (length xs * MILLION)
+IsFormulaExact r (ExponentialWeightedMovingAverage decay) second xs ys zs =
     let ws = weights MILLION decay (length xs) in
     list_any is_missing xs ≡ false → IsQuotientExact r (total (products ws xs)) (total ws)
-IsFormulaExact r (ExponentialWeightedMovingMean decay) xs ys zs =
+IsFormulaExact r (ExponentialWeightedMovingMean decay) second xs ys zs =
     let ws = weights FINE decay (length xs) in
     list_any is_missing xs ≡ false → IsQuotientExact r (total (products ws xs)) (total ws)
-IsFormulaExact r WindowStd xs ys zs = IsSpreadExact r (present_values xs)
-IsFormulaExact r (BollingerLower k) xs ys zs =
+IsFormulaExact r WindowStd second xs ys zs = IsSpreadExact r (present_values xs)
+IsFormulaExact r (BollingerLower k) second xs ys zs =
     IsBandGiven r k xs (formulas.formula (BollingerLower k) xs [] [])
-IsFormulaExact r (BollingerUpper k) xs ys zs =
+IsFormulaExact r (BollingerUpper k) second xs ys zs =
     IsBandGiven r k xs (formulas.formula (BollingerUpper k) xs [] [])
-IsFormulaExact r (WindowPercentile percent) xs ys zs = IsPercentileExact r percent (present_values xs)
-IsFormulaExact r TrueRange xs ys zs = AreSpansExact r (newest xs) (newest ys) (oldest zs)
-IsFormulaExact r Covariance ys xs zs =
+IsFormulaExact r (WindowPercentile percent) second xs ys zs = IsPercentileExact r percent (present_values xs)
+IsFormulaExact r TrueRange second xs ys zs = AreSpansExact r (newest xs) (newest ys) (oldest zs)
+IsFormulaExact r Covariance second ys xs zs =
     let s = pair_sums xs ys in IsUnrounded r (joint_spread s) (s.number * s.number * MILLION)
-IsFormulaExact r RegressionSlope ys xs zs =
+IsFormulaExact r RegressionSlope NoUnit ys xs zs =
     let s = pair_sums xs ys in IsUnrounded r (joint_spread s *ℤ pos MILLION) (unsigned_abs (spread_x s))
-IsFormulaExact r k xs ys zs = Unit {0}
+IsFormulaExact r k second xs ys zs = Unit {0}
 
 -- what is given of two present values is a cell
 abbrev pub GivesCell : ℤ → ℤ → ℤ → Type 0
@@ -235,8 +236,8 @@ IsCrossExact r k vs x = Unit {0}
 abbrev pub IsStepExact : Fraction → World → {k : Kind} {x y z u : Measure} → Rule k x y z u → ℕ → Operands
     → ℕ → ℤ → Type 0
 IsStepExact r w pure size operands a d = Unit {0}
-IsStepExact r w (formula {k} rule) size operands a d =
-    IsFormulaExact r k (window_of w size operands.first a d) (window_of w size operands.second a d)
+IsStepExact r w (formula {k} {y = y} rule) size operands a d =
+    IsFormulaExact r k y (window_of w size operands.first a d) (window_of w size operands.second a d)
     (window_of w size operands.third a d)
 IsStepExact r w (operation {k} {y = y} rule) size operands a d =
     IsOperationExact r k y (number_of (value_of_part operands.first a d))
