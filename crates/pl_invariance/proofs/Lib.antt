@@ -18,6 +18,7 @@ pub mod Units
 pub mod Formulas
 pub mod Crossed
 pub mod Indicators
+pub mod Slopes
 pub mod Measured
 pub mod Operated
 pub mod Sections

@@ -26,6 +26,8 @@ use Rattle.pl_invariance.proofs.Exact.{cancel, missing_stays}
 use Rattle.pl_invariance.proofs.Formulas.{formulas-have-units}
 use Rattle.pl_invariance.proofs.Formulas as formulas
 use Rattle.pl_invariance.proofs.Indicators.{missing-same, nothing-divides, get-divides, position-same, indicators-have-no-unit}
+use Rattle.pl_invariance.proofs.Scales.{correlations-have-no-scale, regressions-have-units}
+use Rattle.pl_invariance.proofs.Slopes.{slope-same}
 use Rattle.pl_invariance.proofs.Units as units
 
 module _ (r : Fraction) where
@@ -225,7 +227,7 @@ module _ (r : Fraction) (ratio : IsRatio r) where
   all-present (x ∷ xs) h = rw (units.present-same r ratio x h.0, all-present xs h.1) refl
 
   pub formula-in : {k : WindowKind} {mx my mz u : Measure} → FormulaRule k mx my mz u → (xs ys zs : List ℤ) → AreOf r mx xs → AreOf r my ys → AreOf r mz zs
-      → IsFormulaExact r k xs ys zs → formula k (list_in r mx xs) (list_in r my ys) (list_in r mz zs) ≡ number_in r u (formula k xs ys zs)
+      → IsFormulaExact r k my xs ys zs → formula k (list_in r mx xs) (list_in r my ys) (list_in r mz zs) ≡ number_in r u (formula k xs ys zs)
   unfolding formula
   formula-in FormulaRule.latest xs ys zs h i j e = oldest_scaled r xs
   formula-in FormulaRule.first xs ys zs h i j e = oldest_scaled r xs
@@ -260,3 +262,15 @@ module _ (r : Fraction) (ratio : IsRatio r) where
       let g = units.least-scaled r ratio xs h in
       ap (λ x. place_number x (map (scaled r) xs)) g.0 ∙ place-in (least xs) g.1 xs h
   formula-in FormulaRule.all_present xs ys zs h i j e = ap truth (all-present xs h)
+  formula-in FormulaRule.correlation ys xs zs h i j e =
+      correlations-have-no-scale.correlation.first r ys (map (scaled r) xs) zs ratio h ∙ correlations-have-no-scale.correlation.second r ys xs zs ratio i
+  formula-in FormulaRule.correlation_of_y ys xs zs h i j e = correlations-have-no-scale.correlation.first r ys xs zs ratio h
+  formula-in FormulaRule.correlation_of_x ys xs zs h i j e = correlations-have-no-scale.correlation.second r ys xs zs ratio i
+  formula-in FormulaRule.rank_correlation ys xs zs h i j e =
+      correlations-have-no-scale.ranks.first r ys (map (scaled r) xs) zs ratio h ∙ correlations-have-no-scale.ranks.second r ys xs zs ratio i
+  formula-in FormulaRule.rank_correlation_of_y ys xs zs h i j e = correlations-have-no-scale.ranks.first r ys xs zs ratio h
+  formula-in FormulaRule.rank_correlation_of_x ys xs zs h i j e = correlations-have-no-scale.ranks.second r ys xs zs ratio i
+  formula-in FormulaRule.r_squared xs ys zs h i j e = correlations-have-no-scale.r_squared r xs ys zs ratio h
+  formula-in FormulaRule.covariance ys xs zs h i j e = regressions-have-units.covariance r ys xs zs ratio h e
+  formula-in FormulaRule.slope ys xs zs h i j e = regressions-have-units.slope r ys xs zs ratio h e
+  formula-in FormulaRule.hedge ys xs zs h i j e = slope-same r ratio xs ys i h

@@ -22,10 +22,10 @@ use Rattle.pl_invariance.proofs.Schwarz.{spread-not-below}
 use Rattle.pl_invariance.proofs.Units.{Times, times-zero, times-minus, times-by, by-times, exact-times, less-same, equal-same, quot-scaled, AllTimes, total-times, present-same, is-exact}
 
 -- the ratio twice
-abbrev squared : Fraction → Fraction
+abbrev pub squared : Fraction → Fraction
 squared r = record { num = r.num * r.num; den = r.den * r.den }
 
-ratio-squared : (r : Fraction) → IsRatio r → IsRatio (squared r)
+pub ratio-squared : (r : Fraction) → IsRatio r → IsRatio (squared r)
 ratio-squared r h = (mul-pos h.0 h.0, mul-pos h.1 h.1)
 
 abbrev pub both : ℕ → ℕ → ℤ × ℤ
@@ -53,7 +53,7 @@ root-same a a' (suc b) (suc b') p q sp sq e f =
     rw (no, none) (ap (λ n. to_cell (pos (near_root n))) same)
 
 module _ (r : Fraction) (ratio : IsRatio r) where
-  twice : (a b c : ℤ) → Times r ratio a b → Times r ratio b c → Times (squared r) (ratio-squared r ratio) a c
+  pub twice : (a b c : ℤ) → Times r ratio a b → Times r ratio b c → Times (squared r) (ratio-squared r ratio) a c
   twice a b c e f =
       sym (times-times a (pos r.den) (pos r.den))
       ∙ ap (λ t. t *ℤ pos r.den) e
@@ -124,7 +124,7 @@ module _ (r : Fraction) (ratio : IsRatio r) where
   squares (q ∷ qs) [] h = absurd h
   squares (q ∷ qs) (p ∷ ps) h = (times-square q.1 p.1 h.1, squares qs ps h.2)
 
-  record AreScaled (t s : PairSums) : Type 0 where
+  pub record AreScaled (t s : PairSums) : Type 0 where
     pub number : t.number ≡ s.number
     pub spread : spread_x t ≡ spread_x s
     pub joint : Times r ratio (joint_spread t) (joint_spread s)
@@ -150,7 +150,7 @@ module _ (r : Fraction) (ratio : IsRatio r) where
             (by-times (squared r) (ratio-squared r ratio) t.yy s.yy (pos s.number) yy) (times-square t.y s.y y));
       }
 
-  window-scaled : (xs ys : List ℤ) → AreExact r ys → AreScaled (pair_sums xs (map (scaled r) ys)) (pair_sums xs ys)
+  pub window-scaled : (xs ys : List ℤ) → AreExact r ys → AreScaled (pair_sums xs (map (scaled r) ys)) (pair_sums xs ys)
   window-scaled xs ys h = sums-scaled _ _ (paired xs ys h)
 
   -- ---- correlations

@@ -17,13 +17,13 @@ use Rattle.pl_pipeline.specs.declared.RankMethod.{RankMethod}
 use Rattle.pl_pipeline.specs.declared.RankOrder.{RankOrder}
 use Rattle.pl_pipeline.specs.declared.Summary.TheVariants as summary
 use Rattle.pl_pipeline.specs.declared.WindowKind.{WindowKind}
-use Rattle.pl_pipeline.specs.declared.WindowKind.TheVariants.{Latest, SimpleMovingAverage, LinearWeightedMovingAverage, WindowSum, WindowMax, WindowMin, WindowStd, BollingerMiddle, BollingerLower, BollingerUpper, Returns, PercentChange, RateOfChangePercentage, RSI, VWAP, AverageDollarVolume, WeightedAverageValue, FastStochasticOscillator, TrueRange, ExponentialWeightedMovingAverage, ExponentialWeightedMovingMean, AroonUp, AroonDown, WindowPercentile, WindowRank, WindowArgMax, WindowArgMin, WindowFirst, AllPresent}
+use Rattle.pl_pipeline.specs.declared.WindowKind.TheVariants.{Latest, SimpleMovingAverage, LinearWeightedMovingAverage, WindowSum, WindowMax, WindowMin, WindowStd, BollingerMiddle, BollingerLower, BollingerUpper, Returns, PercentChange, RateOfChangePercentage, RSI, VWAP, AverageDollarVolume, WeightedAverageValue, FastStochasticOscillator, TrueRange, ExponentialWeightedMovingAverage, ExponentialWeightedMovingMean, AroonUp, AroonDown, Correlation, RankCorrelation, Covariance, RegressionSlope, WindowRSquared, WindowPercentile, WindowRank, WindowArgMax, WindowArgMin, WindowFirst, AllPresent}
 use Rattle.pl_pipeline.specs.Kind.{Kind, PointKind, CrossKind}
 use Rattle.pl_pipeline.specs.Kind.Kind.{Window, Point, LabelTest, Cross, Downsample}
 use Rattle.pl_pipeline.specs.Kind.PointKind.{Add, Sub, Mul, Div, Neg, Comparison, Abs, FillNa, IsNull, NotNull, IfElse, Sign, Maximum, Minimum, Where}
 use Rattle.pl_pipeline.specs.Kind.CrossKind.{Rank, Demean, ZScore, Quantiles, Top, Bottom, PercentileBetween, Winsorize, Scale, Summarize}
 use Rattle.pl_pipeline.specs.Cross.{values, center, winsorized}
-use Rattle.pl_pipeline.specs.Formula.{FINE, oldest, newest, places, products, weights, gap}
+use Rattle.pl_pipeline.specs.Formula.{FINE, oldest, newest, places, products, weights, gap, pair_sums, joint_spread, spread_x}
 use Rattle.pl_pipeline.specs.Formula as formulas
 use Rattle.pl_pipeline.specs.Order.{edge}
 use Rattle.pl_pipeline.specs.Term.{Term, Graph, term_at}
@@ -42,7 +42,9 @@ pub data Measure : Type 0 where
 
 -- ---- the rules
 
--- What a formula gives of windows of prices; an input that is absent has no unit, nor have weights.
+-- What a formula gives of windows of prices; an input that is absent has no unit, nor have weights. There is
+-- no rule for trends, drawdowns, faded deviations, skewness and kurtosis of prices, and for intercepts and
+-- errors: the laws say nothing of them.
 pub data FormulaRule : WindowKind → Measure → Measure → Measure → Measure → Type 0 where
   latest : FormulaRule Latest Price NoUnit NoUnit Price
   first : FormulaRule WindowFirst Price NoUnit NoUnit Price
@@ -73,9 +75,20 @@ pub data FormulaRule : WindowKind → Measure → Measure → Measure → Measur
   place_of_greatest : FormulaRule WindowArgMax Price NoUnit NoUnit NoUnit
   place_of_least : FormulaRule WindowArgMin Price NoUnit NoUnit NoUnit
   all_present : FormulaRule AllPresent Price NoUnit NoUnit NoUnit
+  -- of pairs, the first input being y
+  correlation : FormulaRule Correlation Price Price NoUnit NoUnit
+  correlation_of_y : FormulaRule Correlation Price NoUnit NoUnit NoUnit
+  correlation_of_x : FormulaRule Correlation NoUnit Price NoUnit NoUnit
+  rank_correlation : FormulaRule RankCorrelation Price Price NoUnit NoUnit
+  rank_correlation_of_y : FormulaRule RankCorrelation Price NoUnit NoUnit NoUnit
+  rank_correlation_of_x : FormulaRule RankCorrelation NoUnit Price NoUnit NoUnit
+  r_squared : FormulaRule WindowRSquared Price NoUnit NoUnit NoUnit
+  covariance : FormulaRule Covariance Price NoUnit NoUnit Price
+  slope : FormulaRule RegressionSlope Price NoUnit NoUnit Price
+  hedge : FormulaRule RegressionSlope Price Price NoUnit NoUnit
 
--- What an operation gives. The sum of a price and of a number is of no unit that is known here, and neither
--- is a price compared with a number.
+-- What an operation gives. There is no rule for a price beside a number in a sum, a comparison or a bound: in
+-- another unit the number would have to be another.
 pub data OperationRule : PointKind → Measure → Measure → Measure → Measure → Type 0 where
   plus : OperationRule Add Price Price NoUnit Price
   minus : OperationRule Sub Price Price NoUnit Price
@@ -160,31 +173,37 @@ pub record AreSpansExact (r : Fraction) (h l c : ℤ) : Type 0 where
   pub own : GivesExact r h l (h -ℤ l)
   pub high : GivesExact r h c (pos (unsigned_abs (h -ℤ c)))
   pub low : GivesExact r l c (pos (unsigned_abs (l -ℤ c)))
-  pub small : is_missing (cells.greatest (spans h l c)) ≡ false → unsigned_abs (cells.greatest (spans h l c)) ≤ LIMIT
+  pub small : let span = cells.greatest (spans h l c) in is_missing span ≡ false → unsigned_abs span ≤ LIMIT
 
--- sums are cells, and quotients have no rest
-abbrev pub IsFormulaExact : Fraction → WindowKind → List ℤ → List ℤ → List ℤ → Type 0
-IsFormulaExact r WindowSum xs ys zs = unsigned_abs (total (present_values xs)) ≤ LIMIT
-IsFormulaExact r SimpleMovingAverage xs ys zs = IsUnrounded r (total (present_values xs)) (count xs)
-IsFormulaExact r BollingerMiddle xs ys zs = IsUnrounded r (total (present_values xs)) (count xs)
-IsFormulaExact r LinearWeightedMovingAverage xs ys zs =
+-- sums are cells, and quotients have no rest; the second input is of the measure
+abbrev pub IsFormulaExact : Fraction → WindowKind → Measure → List ℤ → List ℤ → List ℤ → Type 0
+IsFormulaExact r WindowSum second xs ys zs = unsigned_abs (total (present_values xs)) ≤ LIMIT
+IsFormulaExact r SimpleMovingAverage second xs ys zs = IsUnrounded r (total (present_values xs)) (count xs)
+IsFormulaExact r BollingerMiddle second xs ys zs = IsUnrounded r (total (present_values xs)) (count xs)
+IsFormulaExact r LinearWeightedMovingAverage second xs ys zs =
     IsUnrounded r (total (products (places xs) xs)) (length xs * (length xs + 1) / 2)
-IsFormulaExact r WeightedAverageValue xs ys zs =
+IsFormulaExact r WeightedAverageValue second xs ys zs =
     IsQuotientExact r (total (products xs ys)) (total (present_values ys))
-IsFormulaExact r VWAP xs ys zs = IsQuotientExact r (total (products xs ys)) (total (present_values ys))
-IsFormulaExact r AverageDollarVolume xs ys zs = IsUnrounded r (total (products xs ys)) (length xs * MILLION)
-IsFormulaExact r (ExponentialWeightedMovingAverage decay) xs ys zs =
+IsFormulaExact r VWAP second xs ys zs = IsQuotientExact r (total (products xs ys)) (total (present_values ys))
+IsFormulaExact r AverageDollarVolume second xs ys zs = IsUnrounded r (total (products xs ys)) (length xs * MILLION)
+IsFormulaExact r (ExponentialWeightedMovingAverage decay) second xs ys zs =
     let ws = weights MILLION decay (length xs) in
     list_any is_missing xs ≡ false → IsQuotientExact r (total (products ws xs)) (total ws)
-IsFormulaExact r (ExponentialWeightedMovingMean decay) xs ys zs =
+IsFormulaExact r (ExponentialWeightedMovingMean decay) second xs ys zs =
     let ws = weights FINE decay (length xs) in
     list_any is_missing xs ≡ false → IsQuotientExact r (total (products ws xs)) (total ws)
-IsFormulaExact r WindowStd xs ys zs = IsSpreadExact r (present_values xs)
-IsFormulaExact r (BollingerLower k) xs ys zs = IsBandGiven r k xs (formulas.formula (BollingerLower k) xs [] [])
-IsFormulaExact r (BollingerUpper k) xs ys zs = IsBandGiven r k xs (formulas.formula (BollingerUpper k) xs [] [])
-IsFormulaExact r (WindowPercentile percent) xs ys zs = IsPercentileExact r percent (present_values xs)
-IsFormulaExact r TrueRange xs ys zs = AreSpansExact r (newest xs) (newest ys) (oldest zs)
-IsFormulaExact r k xs ys zs = Unit {0}
+IsFormulaExact r WindowStd second xs ys zs = IsSpreadExact r (present_values xs)
+IsFormulaExact r (BollingerLower k) second xs ys zs =
+    IsBandGiven r k xs (formulas.formula (BollingerLower k) xs [] [])
+IsFormulaExact r (BollingerUpper k) second xs ys zs =
+    IsBandGiven r k xs (formulas.formula (BollingerUpper k) xs [] [])
+IsFormulaExact r (WindowPercentile percent) second xs ys zs = IsPercentileExact r percent (present_values xs)
+IsFormulaExact r TrueRange second xs ys zs = AreSpansExact r (newest xs) (newest ys) (oldest zs)
+IsFormulaExact r Covariance second ys xs zs =
+    let s = pair_sums xs ys in IsUnrounded r (joint_spread s) (s.number * s.number * MILLION)
+IsFormulaExact r RegressionSlope NoUnit ys xs zs =
+    let s = pair_sums xs ys in IsUnrounded r (joint_spread s *ℤ pos MILLION) (unsigned_abs (spread_x s))
+IsFormulaExact r k second xs ys zs = Unit {0}
 
 -- what is given of two present values is a cell
 abbrev pub GivesCell : ℤ → ℤ → ℤ → Type 0
@@ -217,8 +236,8 @@ IsCrossExact r k vs x = Unit {0}
 abbrev pub IsStepExact : Fraction → World → {k : Kind} {x y z u : Measure} → Rule k x y z u → ℕ → Operands
     → ℕ → ℤ → Type 0
 IsStepExact r w pure size operands a d = Unit {0}
-IsStepExact r w (formula {k} rule) size operands a d =
-    IsFormulaExact r k (window_of w size operands.first a d) (window_of w size operands.second a d)
+IsStepExact r w (formula {k} {y = y} rule) size operands a d =
+    IsFormulaExact r k y (window_of w size operands.first a d) (window_of w size operands.second a d)
     (window_of w size operands.third a d)
 IsStepExact r w (operation {k} {y = y} rule) size operands a d =
     IsOperationExact r k y (number_of (value_of_part operands.first a d))
@@ -248,10 +267,10 @@ IsWhole r Price v = Divides r (number_of v)
 IsWhole r NoUnit v = Unit {0}
 
 -- Nothing is rounded on the way to what a term is worth for asset a on session d: neither bars and the values
--- that it reads, nor what it makes of them, nor what the ratio makes of its own value. A column stands for the
--- bar of the session before.
-abbrev pub NothingIsRounded : Fraction → World → List (List ℕ) → {t : Term} {u : Measure} → HasMeasure t u → View
-    → ℕ → ℤ → Type 0
+-- that it reads, nor what it makes of them, nor what the ratio makes of its own value. A column stands for
+-- the bar of the session before.
+abbrev pub NothingIsRounded : Fraction → World → List (List ℕ) → {t : Term} {u : Measure} → HasMeasure t u
+    → View → ℕ → ℤ → Type 0
 NothingIsRounded r w names nothing view a d = Unit {0}
 NothingIsRounded r w names volume view a d = Unit {0}
 NothingIsRounded r w names (price {c} is) view a d =
@@ -261,8 +280,9 @@ NothingIsRounded r w names (term {k} {size} {x} {y} {z} {m} {g} {u = u} rule hx 
     let operands = seen_operands w names t view d in
     NothingIsRounded r w names hm Own a d × IsWhole r u (seen w names t view a d)
     × ((exists w a d && passes operands.mask a d) ≡ true
-    → HoldsOfInputs w k size (view_of k view d) (NothingIsRounded r w names hx) (NothingIsRounded r w names hy)
-    (NothingIsRounded r w names hz) (NothingIsRounded r w names hm) (NothingIsRounded r w names hg) a d
+    → HoldsOfInputs w k size (view_of k view d) (NothingIsRounded r w names hx)
+    (NothingIsRounded r w names hy) (NothingIsRounded r w names hz) (NothingIsRounded r w names hm)
+    (NothingIsRounded r w names hg) a d
     × IsStepExact r w rule size operands a d)
 
 -- ---- the laws
@@ -298,23 +318,26 @@ pub record HasMeasures (p : Pipeline) (us : List Measure) : Type 0 where
   pub columns : HaveMeasures p.graph p.columns us
   pub screen : HasNoUnit p.graph p.screen
 
-abbrev pub AreUnrounded : Fraction → World → List (List ℕ) → (g : Graph) (cs : List NamedColumn) (us : List Measure)
-    → HaveMeasures g cs us → ℕ → ℤ → Type 0
+abbrev pub AreUnrounded : Fraction → World → List (List ℕ) → (g : Graph) (cs : List NamedColumn)
+    (us : List Measure) → HaveMeasures g cs us → ℕ → ℤ → Type 0
 AreUnrounded r w names g (c ∷ cs) (u ∷ us) h a d =
     NothingIsRounded r w names h.0 Own a d × AreUnrounded r w names g cs us h.1 a d
 AreUnrounded r w names g [] us h a d = Unit {0}
 AreUnrounded r w names g (c ∷ cs) [] h a d = Unit {0}
 
-abbrev pub IsScreenUnrounded : Fraction → World → List (List ℕ) → (g : Graph) (o : Option ℕ) → HasNoUnit g o → ℕ → ℤ
-    → Type 0
+abbrev pub IsScreenUnrounded : Fraction → World → List (List ℕ) → (g : Graph) (o : Option ℕ) → HasNoUnit g o
+    → ℕ → ℤ → Type 0
 IsScreenUnrounded r w names g None h a d = Unit {0}
 IsScreenUnrounded r w names g (Some t) h a d = NothingIsRounded r w names h Own a d
 
 -- nothing is rounded on session d: not in the screen, nor in the columns of the assets that it keeps
-abbrev pub IsSessionUnrounded : Fraction → World → (p : Pipeline) (us : List Measure) → HasMeasures p us → ℤ → Type 0
+abbrev pub IsSessionUnrounded : Fraction → World → (p : Pipeline) (us : List Measure) → HasMeasures p us → ℤ
+    → Type 0
 IsSessionUnrounded r w p us h d =
-    Each (λ a. IsScreenUnrounded r w p.names p.graph p.screen h.screen a d
-    × (is_kept w p p.screen d a ≡ true → AreUnrounded r w p.names p.graph p.columns us h.columns a d)) (living_sids w d)
+    Each
+    (λ a. IsScreenUnrounded r w p.names p.graph p.screen h.screen a d
+    × (is_kept w p p.screen d a ≡ true → AreUnrounded r w p.names p.graph p.columns us h.columns a d))
+    (living_sids w d)
 
 abbrev pub in_units : Fraction → List Measure → List Value → List Value
 in_units r (u ∷ us) (v ∷ vs) = in_unit r u v ∷ in_units r us vs
@@ -325,12 +348,13 @@ in_units r (u ∷ us) [] = []
 abbrev pub priced_row : Fraction → List Measure → Row → Row
 priced_row r us row = record row { values = in_units r us row.values }
 
--- Where nothing is rounded, the screen keeps the same assets, and each column of the price's unit is multiplied
--- by the ratio; all others are the same.
+-- Where nothing is rounded, the screen keeps the same assets, and each column of the price's unit is
+-- multiplied by the ratio; all others are the same.
 pub record TablesHaveUnits : Type 0 where
-  pub sids : (r : Fraction) (w : World) (p : Pipeline) (us : List Measure) → IsRatio r → (h : HasMeasures p us) (d : ℤ)
-      → IsSessionUnrounded r w p us h d
+  pub sids : (r : Fraction) (w : World) (p : Pipeline) (us : List Measure) → IsRatio r
+      → (h : HasMeasures p us) (d : ℤ) → IsSessionUnrounded r w p us h d
       → kept_sids (priced_world r w) p d ≡ kept_sids w p d
-  pub rows : (r : Fraction) (w : World) (p : Pipeline) (us : List Measure) → IsRatio r → (h : HasMeasures p us)
-      (from to : ℕ) → Each (λ d. IsSessionUnrounded r w p us h (pos d)) (range_with_len from (suc to - from))
+  pub rows : (r : Fraction) (w : World) (p : Pipeline) (us : List Measure) → IsRatio r
+      → (h : HasMeasures p us) (from to : ℕ)
+      → Each (λ d. IsSessionUnrounded r w p us h (pos d)) (range_with_len from (suc to - from))
       → table (priced_world r w) p from to ≡ map (priced_row r us) (table w p from to)
