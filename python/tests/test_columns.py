@@ -31,7 +31,7 @@ is_primary, sector, exchange = (
 )
 TEXTS = [
     (is_primary, 'number("is_primary") == 1', Filter),
-    (~is_primary & sector.eq(103), '~(number("is_primary") == 1) & label("sector_code") == "103"', Filter),
+    (~is_primary & sector.eq(103), '~number("is_primary") == 1 & label("sector_code") == "103"', Filter),
     (All([is_primary], window_length=3), 'All(number("is_primary") == 1, 3)', Filter),
     (sector, 'label("sector_code")', Classifier),
     (sector != 103, 'label("sector_code") != "103"', Filter),

@@ -37,7 +37,7 @@ IMPORTS = {  # what the first of these that fits becomes
 NUMBERS = {  # a vendor's numbers by the sid and the place of their names
     "shares_outstanding": lambda sid, at: 1e6 * (sid % 7 + 1),
     "market_cap": lambda sid, at: 1e8 * (sid % 23 + 1),
-    "enterprise_value": lambda sid, at: 1e8 * (sid % 19 + 1),
+    "enterprise_value": lambda sid, at: 1e2 * (sid % 19 + 1),  # in millions, as the earnings before interest and taxes
     "limited_partnership": lambda sid, at: 1.0 if sid % 9 == 0 else np.nan,
     "is_primary_share": lambda sid, at: float(sid % 8 != 0),
     "is_depositary_receipt": lambda sid, at: float(sid % 11 == 0),

@@ -19,7 +19,7 @@ from typing import IO, TYPE_CHECKING, Any, Iterable, Mapping, Optional
 import numpy as np
 
 from .data import HEADERS
-from .faults import LimitFault, ReadFault
+from .faults import ReadFault
 
 if TYPE_CHECKING:
     Array = np.ndarray[Any, Any]
@@ -207,7 +207,7 @@ def _begin(user: Optional[Path], path: Path, part: str, names: Optional[Iterable
             numbers = _put_some(source.read(), file, names)
         return len(numbers) - 1, numbers
     if count > MOST[part] + 1:
-        raise LimitFault(f"limit: {part}")
+        raise TooMany(part)
     shutil.copyfile(user, path)  # within the kernel, where it can
     with open(path, "rb+") as file:
         if file.seek(0, os.SEEK_END) and file.seek(-1, os.SEEK_END) and file.read(1) != b"\n":
