@@ -17,3 +17,4 @@ pub mod Steadied
 pub mod Calendars
 pub mod Lines
 pub mod Told
+pub mod Worked

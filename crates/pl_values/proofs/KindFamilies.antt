@@ -15,11 +15,10 @@ use Rattle.pl_pipeline.specs.Pointwise.{label_test}
 use Rattle.pl_pipeline.proofs.Cells.{zero-cell, truth-cell}
 use Rattle.pl_terms.specs.Rows.{kind_row, cross_sort}
 use Rattle.pl_terms.specs.declared.row.Sort.TheVariants.{Factors, Filters}
-use Rattle.pl_terms.specs.declared.row.Sort.{Sort}
 use Rattle.pl_terms.specs.Sorts.{is_downsampled, is_windowed}
 use Rattle.pl_cross.specs.Section.{is_section}
 use Rattle.pl_values.specs.Views.{keeps_kind}
-use Rattle.pl_values.specs.Families.{IsOf, is_sids, is_point, is_label_test, sid_flag, code_flag}
+use Rattle.pl_values.specs.Families.{IsOf, empty_number, is_sids, is_point, is_label_test, sid_flag, code_flag}
 
 pub sids_kind : (k : Kind) → is_sids k ≡ true → (own : List ℕ) × (k ≡ StaticSids own)
 sids_kind (StaticSids own) e = (own, refl)
@@ -70,10 +69,6 @@ keeps-own (Window f) = refl
 keeps-own k = refl
 
 -- what stands in the place of a value, by the sort of the row
-abbrev pub empty_number : Sort → ℤ
-empty_number Filters = pos 0
-empty_number s = MISSING
-
 either-sorted : (b : Bool) → number_of (if b then Number (pos 0) else Number MISSING) ≡ empty_number (if b then Filters else Factors)
 either-sorted true = refl
 either-sorted false = refl

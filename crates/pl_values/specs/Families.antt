@@ -12,6 +12,8 @@ use Rattle.pl_pipeline.specs.Value.{label_value}
 use Rattle.pl_pipeline.specs.Table.{in_array}
 use Rattle.pl_factors.specs.Kinds.{IsWindowFactor, takes_pairs}
 use Rattle.pl_factors.specs.Filters.{IsWindowFilter, AreValues}
+use Rattle.pl_terms.specs.declared.row.Sort.{Sort}
+use Rattle.pl_terms.specs.declared.row.Sort.TheVariants.{Filters}
 use Rattle.pl_terms.specs.Sorts.{is_windowed}
 use Rattle.pl_cross.specs.Section.{is_section}
 use Rattle.pl_terms.specs.declared.row.Family.{Family}
@@ -40,6 +42,11 @@ IsOf k family.Point = is_point k ≡ true
 IsOf k family.LabelTest = is_label_test k ≡ true
 IsOf k family.Section = is_section k ≡ true
 IsOf k (family.Downsample frequency) = k ≡ spec.Downsample frequency
+
+-- what stands in the place of a value of a sort
+abbrev pub empty_number : Sort → ℤ
+empty_number Filters = pos 0
+empty_number s = MISSING
 
 -- ---- windows
 

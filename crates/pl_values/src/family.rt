@@ -4,7 +4,7 @@ ghost use Rattle.pl_pipeline.specs.Term.{term_at, IsGraph};
 ghost use Rattle.pl_pipeline.specs.Value.{number_of, empty, sort_kind};
 ghost use Rattle.pl_terms.specs.Kinds.{kind_of};
 ghost use Rattle.pl_terms.specs.Nodes.{graph_of};
-ghost use Rattle.pl_values.specs.Families.{IsOf};
+ghost use Rattle.pl_values.specs.Families.{IsOf, empty_number};
 
 use pl_fixed::MISSING;
 use pl_terms::{Family, Graph, Sort, TermId, TermKind, kind_row, sorting_kind};
@@ -29,12 +29,19 @@ pub fn empty_value(graph: &Graph, t: TermId) -> i64
     }
 }
 
-// What stands in the place of a value of the kind.
-fn empty_of(kind: &TermKind) -> i64
-    ensures { result ≡ number_of (empty (kind_of kind.now)) }
+// What stands in the place of a value of a sort.
+fn empty_number(sort: Sort) -> i64
+    ensures { result ≡ empty_number sort }
 {
-    match kind_row(kind).sort {
+    match sort {
         Sort::Filters => 0,
         _ => MISSING,
     }
+}
+
+// The same of a kind.
+fn empty_of(kind: &TermKind) -> i64
+    ensures { result ≡ number_of (empty (kind_of kind.now)) }
+{
+    empty_number(kind_row(kind).sort)
 }
