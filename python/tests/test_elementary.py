@@ -24,6 +24,11 @@ TEXTS = [
     (price.log10(), "close.latest.log() / 2.302585"),
     (change.log().zscore(), "Returns(close, 5).log().zscore()"),
     (SimpleMovingAverage(inputs=[change.sign()], window_length=9), "SimpleMovingAverage(Returns(close, 5).sign(), 9)"),
+    (
+        SimpleMovingAverage([SimpleMovingAverage([change], window_length=5)], window_length=9),
+        "SimpleMovingAverage(SimpleMovingAverage(Returns(close, 5), 5), 9)",
+    ),
+    (Labels.sector.latest.has_substring("y"), 'label("sector").has_substring("y")'),
 ]
 
 
