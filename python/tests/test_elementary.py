@@ -7,7 +7,7 @@ import pytest
 
 from tohmeril import PipelineError, check, program, run_pipeline
 from tohmeril.pipeline import Inexpressible, Pipeline
-from tohmeril.pipeline.data import EquityPricing
+from tohmeril.pipeline.data import EquityPricing, Labels
 from tohmeril.pipeline.factors import Returns, SimpleMovingAverage
 
 price, change = EquityPricing.close.latest, Returns(window_length=5)
