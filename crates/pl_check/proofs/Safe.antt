@@ -110,8 +110,8 @@ no-bars_given bs (q ∷ qs) i c k h = here (input_for bs q) refl i h (λ j e. no
     here (Some x) e zero h f =
         let same : x ≡ BarColumn c = (let s : Some x ≡ Some (BarColumn c) = h in cc) in
         let r = given-bars (gives_input q) (given bs q) c (e ∙ ap Some same) in
-        let none : not (is_bars r.0) ≡ true = test-given (λ p w. not (is_bars w)) bs q r.0 k r.1.0 in
-        let no : false ≡ true = sym (ap not r.1.1) ∙ none in cc
+        let none : not (is_bars r.0) ≡ true = test-given (λ p w. not (is_bars w)) bs q r.0 k r.1 in
+        let no : false ≡ true = sym (ap not r.2) ∙ none in cc
     here (Some x) e (suc j) h f = f j h
 
 no-columns : (cs : List Column) → (length cs == 0) ≡ true → cs ≡ []
@@ -208,7 +208,8 @@ result-called o bs names t h = not-or_self (is_window_safe (kind_for o bs names)
 
 called-cases : (s a b n c : Bool) → s ≡ true → (not s || ((a || (b && c)) || (n && c))) ≡ true → (a ≡ true) ⊎ (((b ≡ true) ⊎ (n ≡ true)) × (c ≡ true))
 called-cases true true b n c e h = inl refl
-called-cases true false true n true e h = inr (inl refl, refl)
+called-cases true false true true true e h = inr (inl refl, refl)
+called-cases true false true false true e h = inr (inl refl, refl)
 called-cases true false false true true e h = inr (inr refl, refl)
 called-cases s a b n c e h = absurd (cc)
 
