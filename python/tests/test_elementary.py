@@ -7,7 +7,7 @@ import pytest
 
 from tohmeril import PipelineError, check, program, run_pipeline
 from tohmeril.pipeline import Inexpressible, Pipeline
-from tohmeril.pipeline.data import EquityPricing
+from tohmeril.pipeline.data import EquityPricing, Labels
 from tohmeril.pipeline.factors import Returns, SimpleMovingAverage
 
 price, change = EquityPricing.close.latest, Returns(window_length=5)
@@ -24,6 +24,11 @@ TEXTS = [
     (price.log10(), "close.latest.log() / 2.302585"),
     (change.log().zscore(), "Returns(close, 5).log().zscore()"),
     (SimpleMovingAverage(inputs=[change.sign()], window_length=9), "SimpleMovingAverage(Returns(close, 5).sign(), 9)"),
+    (
+        SimpleMovingAverage([SimpleMovingAverage([change], window_length=5)], window_length=9),
+        "SimpleMovingAverage(SimpleMovingAverage(Returns(close, 5), 5), 9)",
+    ),
+    (Labels.sector.latest.has_substring("y"), 'label("sector").has_substring("y")'),
 ]
 
 

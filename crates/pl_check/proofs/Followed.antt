@@ -132,7 +132,7 @@ called-agrees p o object ws s f w i k =
 
 object-value : (o : Operation) (v : Value) → values (object_of o v) ≡ v ∷ []
 unfolding object_of parameters
-object-value (op.Window window.Latest) v = refl
+object-value (op.Window window.Latest nests) v = refl
 object-value (op.Summarize summary.Mean) v = refl
 object-value o v = refl
 

@@ -6,11 +6,12 @@ use Rattle.pl_check.specs.declared.operation.Operation.{Operation}
 use Rattle.pl_check.specs.declared.operation.Operation.TheVariants as op
 use Rattle.pl_check.specs.Values.{Bound}
 use Rattle.pl_check.specs.Made.{IsRowFor}
-use Rattle.pl_check.specs.Results.{kind_for, result_for, sorted, is_window_safe, all_safe}
+use Rattle.pl_check.specs.Results.{kind_for, result_for, sorted, is_window_safe, all_safe, nests_safe}
 
--- what is not downsampled is as its kind says
+-- what is not downsampled is as its kind says, or nests
 pub result-called : (o : Operation) (bs : List Bound) (t : ℕ) → (o ≡ op.Downsample → ⊥)
-    → result_for o bs t ≡ sorted (sort_of (kind_for o bs [])) (is_window_safe (kind_for o bs []) (all_safe bs)) t
+    → result_for o bs t ≡ sorted (sort_of (kind_for o bs []))
+    (is_window_safe (kind_for o bs []) (all_safe bs) || nests_safe o bs) t
 unfolding result_for
 result-called op.Downsample bs t f = absurd (f refl)
 result-called o bs t f = refl
@@ -33,5 +34,5 @@ over-unnamed o bs names = refl
 
 -- what the row says is what the operation's term is
 pub row-result : (o : Operation) (bs : List Bound) (row : KindRow) (t : ℕ) → IsRowFor o bs row → (o ≡ op.Downsample → ⊥)
-    → sorted row.sort (row.is_safe || (row.is_safe_over && all_safe bs)) t ≡ result_for o bs t
+    → sorted row.sort ((row.is_safe || (row.is_safe_over && all_safe bs)) || nests_safe o bs) t ≡ result_for o bs t
 row-result o bs row t r f = rw (r.sort, r.is_safe, r.is_safe_over) (sym (result-called o bs t f))

@@ -25,13 +25,13 @@ use Rattle.pl_check.proofs.Lists.{same-one, true-false, needed, or-right, same-s
 -- ---- from the start
 
 pub few-none : (o : Operation) → is_few o [] ≡ true
-few-none (op.Window window.Latest) = refl
+few-none (op.Window window.Latest nests) = refl
 few-none (op.Summarize summary.Mean) = refl
 few-none o = refl
 
 pub few-object : (o : Operation) (v : Value) → is_few o (object_of o v) ≡ true
 unfolding object_of parameters given number_of
-few-object (op.Window window.Latest) v = refl
+few-object (op.Window window.Latest nests) v = refl
 few-object (op.Summarize summary.Mean) v = refl
 few-object o v = refl
 

@@ -1,9 +1,11 @@
 -- Rules, kinds, windows and sorts look at no number of a term.
-use Rattle.std.proofs.Common.{◌≡◌, ℕ, Bool, true, false, ◌&&◌, ◌||◌, cond, List, [], ◌∷◌, ◌++◌, map, Option, Some, None, option_map, pos, refl, sym, ap, ◌∙◌}
+use Rattle.std.proofs.Common.{◌≡◌, ◌==◌, ℕ, length, Bool, true, false, not, ◌&&◌, ◌||◌, cond, List, [], ◌∷◌, ◌++◌, map, Option, Some, None, option_map, pos, refl, sym, ap, ◌∙◌}
 use Rattle.std.specs.Prelude.{filter, is_some, option_and_then}
 use Rattle.std.proofs.lemmas.List.{length-map, map-append}
+use Rattle.pl_terms.specs.Windows.{row_of}
 use Rattle.pl_terms.specs.Sorts.{sort_of, is_safe_kind, is_safe_over}
 use Rattle.pl_pipeline.specs.Kind as kind
+use Rattle.pl_pipeline.specs.Kind.{Kind}
 use Rattle.pl_pipeline.specs.declared.WindowKind.TheVariants as window
 use Rattle.pl_pipeline.specs.declared.Summary.TheVariants as summary
 use Rattle.pl_grammar.specs.declared.BinarySign.{BinarySign}
@@ -13,10 +15,10 @@ use Rattle.pl_check.specs.declared.operation.Operation.TheVariants as op
 use Rattle.pl_check.specs.declared.operation.Parameter.{Parameter}
 use Rattle.pl_check.specs.declared.operation.Parameter.TheVariants as parameter
 use Rattle.pl_check.specs.Parameters.{same_parameter, is_optional}
-use Rattle.pl_check.specs.Values.{Value, Factor, Filter, Labels, Numbers, Bound, bound, is_safe, number_in, text_in, given, read_or}
+use Rattle.pl_check.specs.Values.{Value, Factor, Filter, Labels, Numbers, Bound, bound, is_safe, is_bars, number_in, text_in, given, read_or}
 use Rattle.pl_check.specs.Operations.{parameters, operator}
 use Rattle.pl_check.specs.Rules.{Written, place_at, named_in, is_given, unless_given, parameter_of, has_all, form, takes, number_given, is_within, is_window, is_safe_for, each, broken}
-use Rattle.pl_check.specs.Results.{whole, text_given, values_given, with_sid, sorted_sids, with_name, kind_for, names_after, window_of, window_for, all_safe, like, sorted, is_window_safe, result_for}
+use Rattle.pl_check.specs.Results.{whole, text_given, values_given, with_sid, sorted_sids, with_name, kind_for, names_after, window_of, window_for, all_safe, has_no_bars, nests_over, nests_safe, like, sorted, is_window_safe, result_for}
 use Rattle.pl_check.specs.Typed.{object_of, second_of, operands_of, is_storable, is_term_filter}
 use Rattle.pl_check.specs.Typed as typed
 use Rattle.pl_check.proofs.Lists.{given-cons, all-same, within-by}
@@ -48,6 +50,10 @@ text-bare v = refl
 safe-bare : (v : Value) → is_safe (unnumbered v) ≡ is_safe v
 safe-bare (Factor t s) = refl
 safe-bare v = refl
+
+bars-bare : (v : Value) → is_bars (unnumbered v) ≡ is_bars v
+bars-bare (Factor t s) = refl
+bars-bare v = refl
 
 pub storable-bare : (v : Value) → is_storable (unnumbered v) ≡ is_storable v
 storable-bare (Factor t s) = refl
@@ -146,7 +152,7 @@ broken-bare bs =
 
 pub kind-bare : (o : Operation) (bs : List Bound) (names : List (List ℕ)) → kind_for o (map bare bs) names ≡ kind_for o bs names
 unfolding kind_for
-kind-bare (op.Window window.Latest) bs names = refl
+kind-bare (op.Window window.Latest nests) bs names = refl
 kind-bare (op.Summarize summary.Mean) bs names = refl
 kind-bare op.StaticSids bs names =
     ap kind.StaticSids
@@ -180,14 +186,28 @@ like-bare None s t = refl
 like-bare (Some (Filter u)) s t = refl
 like-bare (Some v) s t = refl
 
+no-bars_bare : (bs : List Bound) → has_no_bars (map bare bs) ≡ has_no_bars bs
+no-bars_bare [] = refl
+no-bars_bare (b ∷ bs) = ap (λ a. a && has_no_bars (map bare bs)) (ap not (bars-bare b.value)) ∙ ap (λ a. not (is_bars b.value) && a) (no-bars_bare bs)
+
+nests-bare : (o : Operation) (bs : List Bound) → nests_over o (map bare bs) ≡ nests_over o bs
+nests-bare (op.Window k nests) bs = ap (λ a. nests && length (row_of k).columns == 0 && a) (no-bars_bare bs)
+nests-bare o bs = refl
+
+-- whether a window may be over the term of the operation
+may-bare : (o : Operation) (bs : List Bound) (k : Kind) → is_window_safe k (all_safe (map bare bs)) || nests_safe o (map bare bs) ≡ is_window_safe k (all_safe bs) || nests_safe o bs
+may-bare o bs k =
+    ap (λ safe. is_window_safe k safe || (nests_over o (map bare bs) && safe)) (all-safe-bare bs)
+    ∙ ap (λ n. is_window_safe k (all_safe bs) || (n && all_safe bs)) (nests-bare o bs)
+
 pub result-bare : (o : Operation) (bs : List Bound) (t : ℕ) → result_for o (map bare bs) 0 ≡ unnumbered (result_for o bs t)
 unfolding result_for kind_for sort_of is_safe_kind is_safe_over
 result-bare op.Downsample bs t =
     ap (λ v. like v (all_safe (map bare bs)) 0) (given-bare bs parameter.AnyTerm) ∙ ap (λ s. like (option_map unnumbered (given bs parameter.AnyTerm)) s 0) (all-safe-bare bs)
     ∙ like-bare (given bs parameter.AnyTerm) (all_safe bs) t
-result-bare (op.Window window.Latest) bs t = ap (λ safe. sorted (sort_of (kind_for (op.Window window.Latest) bs [])) (is_window_safe (kind_for (op.Window window.Latest) bs []) safe) 0) (all-safe-bare bs)
-result-bare (op.Summarize summary.Mean) bs t = ap (λ safe. sorted (sort_of (kind_for (op.Summarize summary.Mean) bs [])) (is_window_safe (kind_for (op.Summarize summary.Mean) bs []) safe) 0) (all-safe-bare bs)
-result-bare o bs t = ap (λ safe. sorted (sort_of (kind_for o bs [])) (is_window_safe (kind_for o bs []) safe) 0) (all-safe-bare bs)
+result-bare (op.Window window.Latest nests) bs t = ap (λ safe. sorted (sort_of (kind_for (op.Window window.Latest nests) bs [])) safe 0) (may-bare (op.Window window.Latest nests) bs (kind_for (op.Window window.Latest nests) bs []))
+result-bare (op.Summarize summary.Mean) bs t = ap (λ safe. sorted (sort_of (kind_for (op.Summarize summary.Mean) bs [])) safe 0) (may-bare (op.Summarize summary.Mean) bs (kind_for (op.Summarize summary.Mean) bs []))
+result-bare o bs t = ap (λ safe. sorted (sort_of (kind_for o bs [])) safe 0) (may-bare o bs (kind_for o bs []))
 
 -- ---- the form of arguments
 

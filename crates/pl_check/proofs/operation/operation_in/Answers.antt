@@ -1,4 +1,4 @@
-use Rattle.std.proofs.Common.{rules, sym, ◌∙◌, []}
+use Rattle.std.proofs.Common.{rules, false, sym, ◌∙◌, []}
 use Rattle.pl_check.specs.declared.operation.Operation.TheVariants.{Window}
 use Rattle.pl_pipeline.specs.declared.WindowKind.TheVariants.{Latest}
 use Rattle.pl_check.proofs.Tables.{taken-at, passed-at, none-left}
@@ -10,7 +10,7 @@ returns-then-is_word c =
 
 pub loop-known-preserved : goal.loop-known-preserved
 loop-known-preserved c =
-    c.loop-known.invariant ∙ passed-at c.args.version c.args.name.now c.args.table.now c.loop-known.known-index (record { ref_ptr = (0, 0); now = [] }, 0, Window Latest) (search rules) (search rules)
+    c.loop-known.invariant ∙ passed-at c.args.version c.args.name.now c.args.table.now c.loop-known.known-index (record { ref_ptr = (0, 0); now = [] }, 0, Window Latest false) (search rules) (search rules)
 
 pub returns : goal.returns
 returns c = sym (c.loop-known.invariant ∙ none-left c.args.version c.args.name.now c.args.table.now c.loop-known.known-index (search rules))
