@@ -1,9 +1,9 @@
 -- What may stand in a window.
-use Rattle.std.proofs.Common.{◌≡◌, ◌==◌, ℕ, zero, suc, length, Bool, true, false, ◌&&◌, ◌||◌, not, cond, List, [], ◌∷◌, ◌++◌, map, Option, Some, None, slice_get, refl, sym, ap, subst, ◌∙◌, ◌⊎◌, inl, inr}
+use Rattle.std.proofs.Common.{◌≡◌, ◌==◌, ℕ, zero, suc, length, Bool, true, false, ◌&&◌, ◌||◌, not, cond, List, [], ◌∷◌, ◌++◌, map, Option, Some, None, slice_get, refl, sym, ap, subst, ◌∙◌, ◌⊎◌, inl, inr, arith}
 use Rattle.std.specs.Prelude.{option_and_then}
 use Rattle.std.specs.List.{list_all, list_any, filter_map, cons_option}
 use Rattle.std.proofs.Math.Bool.{or-true, not-or_self}
-use Rattle.std.proofs.lemmas.Bool.{and_parts}
+use Rattle.std.proofs.lemmas.Bool.{and_parts, eqb-true}
 use Rattle.pl_spec.specs.declared.Column.{Column}
 use Rattle.pl_pipeline.specs.Kind.{Kind}
 use Rattle.pl_pipeline.specs.Term.{Graph, Node, Input, BarColumn, TermInput}
@@ -116,7 +116,9 @@ no-bars_given bs (q ∷ qs) i c k h = here (input_for bs q) refl i h (λ j e. no
 
 no-columns : (cs : List Column) → (length cs == 0) ≡ true → cs ≡ []
 no-columns [] h = refl
-no-columns (c ∷ cs) h = absurd (let no : false ≡ true = h in cc)
+no-columns (c ∷ cs) h =
+    let none : suc (length cs) ≡ 0 = eqb-true (suc (length cs)) 0 h in
+    absurd (omega arith)
 
 pub nested-bars : (o : Operation) (bs : List Bound) → nests_over o bs ≡ true → (i : ℕ) (c : Column) → slice_get (inputs_for o bs) i ≡ Some (BarColumn c) → ⊥
 unfolding columns_of
