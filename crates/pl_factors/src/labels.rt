@@ -8,8 +8,8 @@ ghost use Rattle.pl_factors.specs.Filters.{IsLabelTest, HasText, passes};
 use pl_terms::{LabelValue, TermKind, Text};
 
 /// Whether a label's text passes the test: it is the kind's text, is another, begins or ends with it, has it
-/// somewhere, or is one of the kind's list, byte by byte, as Zipline's classifiers test theirs. It asks for one of these
-/// kinds; a comparison with a number is none. It takes no memory.
+/// somewhere, or is one of the kind's list, byte by byte, as Zipline's classifiers test theirs. It asks for
+/// one of these kinds; a comparison with a number is none. It takes no memory.
 #[tactic(auto, unfolding(pl_pipeline::specs::Pointwise::label_test, pl_terms::specs::Kinds::kind_of))]
 pub fn label_test(kind: &TermKind, text: &[u8]) -> bool
     requires { IsLabelTest (kind_of kind.now) }
