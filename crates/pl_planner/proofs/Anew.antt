@@ -1,9 +1,8 @@
 -- What is computed anew is computed by itself on the same sessions.
-use Rattle.std.proofs.Common.{◌≡◌, ℕ, ◌<◌, ◌≤◌, true, pos, ◌≤ℤ◌, length, ◌∙◌, sym, subst, arith}
+use Rattle.std.proofs.Common.{◌≡◌, ◌<◌, ◌≤◌, true, pos, ◌≤ℤ◌, length, ◌∙◌, sym, subst, arith}
 use Rattle.std.proofs.lemmas.Int.{ints}
-use Rattle.pl_spec.specs.Limits.{most_extra_rows}
 use Rattle.pl_spec.specs.Window.{before}
-use Rattle.pl_pipeline.specs.Cones.{Follows, HasDepth, cone_depths}
+use Rattle.pl_pipeline.specs.Cones.{Follows, HasDepth}
 use Rattle.pl_pipeline.specs.Graph.{contains, used_terms, Used}
 use Rattle.pl_pipeline.specs.Lows.{Needs}
 use Rattle.pl_laws.proofs.Cones.{cone-needed}
@@ -11,7 +10,7 @@ use Rattle.pl_laws.proofs.ConeDepths.{depths-sound}
 use Rattle.pl_laws.proofs.ConeInputs.{cone-lower}
 use Rattle.pl_laws.proofs.Uses.{used_terms-sound, used_terms-complete}
 use Rattle.pl_terms.specs.Uses.{outputs}
-use Rattle.pl_planner.specs.Plans.{is_used, low_at, cone}
+use Rattle.pl_planner.specs.Plans.{is_used, low_at}
 use Rattle.pl_planner.specs.Laws.{ConesAreCovered}
 use Rattle.pl_planner.proofs.Mentions.{needs-used}
 use Rattle.pl_planner.proofs.Pipelines.{IsPipeline, is-pipeline, used-inside}

@@ -1,13 +1,13 @@
 -- The cone of a term is gathered as it is defined.
-use Rattle.std.proofs.Common.{◌≡◌, ℕ, suc, ◌+◌, ◌-◌, ◌*◌, ◌^◌, ◌<◌, ◌≤◌, ◌==◌, cond, not, max, Bool, true, false, List, [], ◌∷◌, ◌++◌, length, map, filter, filter_map, get_or, set, replicate, Option, Some, None, slice_get, refl, sym, ◌∙◌, ap, subst, arith, inl, inr, append-nil, append_assoc, get_or-set_same, get_or-set_other}
-use Rattle.std.proofs.lemmas.Bool.{cases_eq, eq-eqb, eqb-true, true≢false}
+use Rattle.std.proofs.Common.{◌≡◌, ℕ, suc, ◌+◌, ◌-◌, ◌*◌, ◌^◌, ◌<◌, ◌≤◌, ◌==◌, cond, not, max, Bool, true, false, List, [], ◌∷◌, ◌++◌, length, map, filter, filter_map, get_or, set, replicate, Option, Some, None, slice_get, refl, sym, ◌∙◌, ap, subst, arith, inl, inr, append-nil, get_or-set_same, get_or-set_other}
+use Rattle.std.proofs.lemmas.Bool.{cases_eq, eq-eqb, eqb-true}
 use Rattle.std.proofs.lemmas.Option.{slice_get_within}
 use Rattle.std.proofs.lemmas.List.{get_or-replicate, get_or-map, length-map, map-append}
 use Rattle.pl_spec.specs.Limits.{most_terms}
 use Rattle.pl_pipeline.specs.Term.{Node, Graph, Input, IsGraph, term_at}
 use Rattle.pl_pipeline.specs.Term.Input.{BarColumn, TermInput}
 use Rattle.pl_pipeline.specs.Graph.{input_number}
-use Rattle.pl_pipeline.specs.Cones.{is_windowed, larger, mark, moves_at, moving_inputs, inputs_at, windowed_at, window_at, marks_of, more_marks, entry, depths_below, cone_depths}
+use Rattle.pl_pipeline.specs.Cones.{is_windowed, larger, mark, moves_at, moving_inputs, inputs_at, windowed_at, window_at, marks_of, depths_below, cone_depths}
 use Rattle.pl_pipeline.specs.Value.{is_steady}
 use Rattle.std.specs.List.{range_with_len}
 use Rattle.pl_spec.proofs.Ranges.{range-next}

@@ -1,4 +1,4 @@
-use Rattle.std.proofs.Common.{◌≡◌, ◌∙◌, ◌<◌, ◌≤◌, ◌+◌, ◌-◌, ◌*◌, ◌^◌, ◌++◌, [], length, cond, replicate, None, ap, sym, subst, arith}
+use Rattle.std.proofs.Common.{◌∙◌, ◌≤◌, ◌+◌, ◌-◌, ◌*◌, ◌^◌, ◌++◌, [], cond, replicate, None, ap, sym, subst, arith}
 use Rattle.pl_spec.specs.Limits.{most_terms}
 use Rattle.pl_pipeline.specs.Cones.{depths_below, is_windowed}
 use Rattle.pl_terms.specs.Nodes.{graph_of, node_of}

@@ -1,4 +1,4 @@
-use Rattle.std.proofs.Common.{◌≡◌, ◌∙◌, ◌<◌, length, arith, length-set}
+use Rattle.std.proofs.Common.{◌∙◌, ◌<◌, length, arith, length-set}
 use Rattle.pl_terms.specs.Nodes.{graph_of, node_of}
 use Rattle.pl_terms.proofs.Graphs.{graph-at, graph-long}
 use Rattle.pl_planner.proofs.Steadied.{one-more, still-is, all-told}
