@@ -587,7 +587,7 @@ def test_more_results_than_a_file_takes(part, pipe, data, monkeypatch):
     text, frame = run_text(pipe, *ends, data), run_pipeline(pipe, *ends, data)
     users = len(data.files[part].read_text().splitlines()) - 1
     most = dict(_results.MOST)
-    for limit in (users + 60, users + 333, users):
+    for limit in (users + 60, users + 333, *[users] * (part == "numbers")):  # of which the pipeline reads none
         monkeypatch.setitem(_results.MOST, part, limit)
         assert run_text(pipe, *ends, data) == text
         pd.testing.assert_frame_equal(run_pipeline(pipe, *ends, data, pieces=2), frame)

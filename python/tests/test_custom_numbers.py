@@ -1,10 +1,11 @@
 """The user's own numbers beside what is computed: all of them are judged once, and then the names that are read are kept."""
 
 import io
+from decimal import Decimal
 
 import pytest
 
-from tohmeril import Data, DataFault, _results, run_text
+from tohmeril import Data, DataFault, _results, explain, run_text
 from tohmeril.pipeline import CustomFactor, Pipeline
 from tohmeril.pipeline.data import Column, DataSet, EquityPricing
 
@@ -64,6 +65,7 @@ def test_numbers_beyond_what_a_run_reads(market, numbers, kept, monkeypatch):
     data = Data(market, revisions=None, numbers=numbers)
     text = run_text(PIPE, FIRST, LAST, data)
     assert {len(each) for each in kept} == {3} and b",2.500000\n" in text and b",4.000000\n" in text
+    assert explain(PIPE, LAST, 101, "e", data).value == Decimal("2.5")
     numbers.write_text("\n".join([*LINES, *many, "earnings,103,nothing,1"]))
     with pytest.raises(DataFault, match=f"{numbers}:{6 + len(many)}: data "):
         run_text(PIPE, FIRST, LAST, data)

@@ -33,9 +33,7 @@ if TYPE_CHECKING:
 
 Tick = Callable[[float], None]  # told how much is computed, from 0 to 1
 Ends = tuple[str, str]  # the first and the last session of a range
-_judged: set[
-    tuple[Stamp, ...]
-] = set()  # users' files that the program has read whole, with the sessions and the assets
+_known: set[tuple[Stamp, ...]] = set()  # files of users that are judged, or that have no room beside results
 EMPTY: dict[str, Any] = {"factor": np.nan, "filter": False, "number": -1, "label": None}  # by the sort of a term
 
 
@@ -72,7 +70,7 @@ def tables(
     run reads. `move` is told how many sessions of the range are done.
     """
     first = bisect_left(data.sessions, ends[0])
-    waiting, found, narrow = _parts(script, names, data, ends)[::-1], [], False
+    waiting, found = _parts(script, names, data, ends)[::-1], []
     while waiting:
         part = waiting.pop()
         days = data.days(*part)
@@ -82,11 +80,10 @@ def tables(
             move(done + portion * count)
 
         try:
-            with computed(script, names, data, part, tick, narrow) as whole:
+            with computed(script, names, data, part, tick) as whole:
                 found.append(run(whole, part))
         except TooMany as error:
-            if not narrow and error.part in data.files:
-                narrow = True
+            if make_room(data, error.part):
                 waiting.append(part)
                 continue
             if len(days) < 2:
@@ -127,17 +124,13 @@ def _existing(data: Data, ends: Ends) -> int:
 
 @contextmanager
 def computed(
-    script: Script,
-    names: Mapping[Term, str],
-    data: Data,
-    ends: Ends,
-    tick: Tick = lambda portion: None,
-    narrow: bool = False,
+    script: Script, names: Mapping[Term, str], data: Data, ends: Ends, tick: Tick = lambda portion: None
 ) -> Iterator[Data]:
     """The data with what is computed for a range, within the block.
 
     The user's own numbers and labels come first in their files, so that the program judges them. Where it has judged
-    them before, or with `narrow`, there are those of the names that the pipeline reads.
+    them before, or they have no room beside results (`make_room`), there are those of the names that the pipeline
+    reads.
 
     Raises
     ------
@@ -149,8 +142,8 @@ def computed(
     order = order_of(script, ends[0], ends[1], data)
     with TemporaryDirectory() as folder:
         users = {part: data.files[part] for part in ("numbers", "labels") if part in data.files}
-        stamps = {part: tuple(stamp(data.files[each]) for each in ("sessions", "assets", part)) for part in users}
-        kept = {part: names_in(script, part) for part in users if narrow or stamps[part] in _judged}
+        stamps = {part: _stamps(data, part) for part in users}
+        kept = {part: names_in(script, part) for part in users if stamps[part] in _known}
         found = Records(Path(folder), users, _sids(data), kept)
         for leaf in names:
             found.open("labels" if leaf.sort == "label" else "numbers")
@@ -167,7 +160,20 @@ def computed(
             if not order.has_bars and any(bars_of(need.custom) for level in order.levels for need in level):
                 whole.files["bars"] = _no_bars(Path(folder))
             yield whole
-        _judged.update(stamps[part] for part in users.keys() & found.files.keys() - kept.keys())
+        _known.update(stamps[part] for part in users.keys() & found.files.keys() - kept.keys())
+
+
+def _stamps(data: Data, part: str) -> tuple[Stamp, ...]:
+    """What tells a file of the user's, with those against which it is judged."""
+    return tuple(stamp(data.files[each]) for each in ("sessions", "assets", part))
+
+
+def make_room(data: Data, part: str) -> bool:
+    """Take of a file of the user's, from now on, only what pipelines read. Whether that leaves more room than before."""
+    if part not in data.files or (stamps := _stamps(data, part)) in _known:
+        return False
+    _known.add(stamps)
+    return True
 
 
 def _no_bars(folder: Path) -> Path:
