@@ -19,6 +19,8 @@ pub mod Formulas
 pub mod Crossed
 pub mod Indicators
 pub mod Slopes
+pub mod Quotients
+pub mod Trends
 pub mod Measured
 pub mod Operated
 pub mod Sections

@@ -1,5 +1,5 @@
 -- Numbers and windows of a measure in another unit, and the formulas of them.
-use Rattle.std.proofs.Common.{◌≡◌, ℕ, suc, ◌+◌, ◌*◌, ◌==◌, ◌≤◌, Bool, true, false, if◌then◌else◌, ℤ, pos, negsuc, ◌-◌, ◌-ℤ◌, neg_ℤ, List, [], ◌∷◌, length, map, refl, sym, ◌∙◌, ap, inl, inr}
+use Rattle.std.proofs.Common.{◌≡◌, ℕ, ◌+◌, ◌*◌, ◌==◌, ◌≤◌, Bool, true, false, if◌then◌else◌, ℤ, pos, ◌-◌, ◌-ℤ◌, List, [], ◌∷◌, length, map, refl, sym, ◌∙◌, ap, inl, inr}
 use Rattle.std.specs.List.{list_any, list_all}
 use Rattle.std.specs.Int.RustNames.{unsigned_abs}
 use Rattle.std.proofs.lemmas.Int.{unsigned_abs-mul}
@@ -26,8 +26,10 @@ use Rattle.pl_invariance.proofs.Exact.{cancel, missing_stays}
 use Rattle.pl_invariance.proofs.Formulas.{formulas-have-units}
 use Rattle.pl_invariance.proofs.Formulas as formulas
 use Rattle.pl_invariance.proofs.Indicators.{missing-same, nothing-divides, get-divides, position-same, indicators-have-no-unit}
-use Rattle.pl_invariance.proofs.Scales.{correlations-have-no-scale, regressions-have-units}
+use Rattle.pl_invariance.proofs.Quotients.{quotient-scaled}
+use Rattle.pl_invariance.proofs.Scales.{correlations-have-no-scale, regressions-have-units, window-scaled}
 use Rattle.pl_invariance.proofs.Slopes.{slope-same}
+use Rattle.pl_invariance.proofs.Trends.{intercept-in, trend-in, off-trend-in}
 use Rattle.pl_invariance.proofs.Units as units
 
 module _ (r : Fraction) where
@@ -56,11 +58,6 @@ module _ (r : Fraction) (ratio : IsRatio r) where
   pub by-times : (y z : ℤ) → Divides r z → is_missing z ≡ false → Times y z → y ≡ scaled r z
   by-times y z h p e = cancel y (scaled r z) r.den ratio.1 (e ∙ sym (units.exact-times r ratio z (p, h)))
 
-  pub quotient-scaled : (n n' t : ℤ) → Times n' n → IsQuotientExact r n t → quot n' t ≡ scaled r (quot n t)
-  unfolding quot
-  quotient-scaled n n' (pos m) e h = units.quot-scaled r ratio n n' m e h
-  quotient-scaled n n' (negsuc m) e h = units.quot-scaled r ratio (neg_ℤ n) (neg_ℤ n') (suc m) (units.times-neg r ratio n' n e) h
-
   -- ---- of two cells
 
   -- two cells that are missing alike in both units
@@ -77,7 +74,7 @@ module _ (r : Fraction) (ratio : IsRatio r) where
 
   weighted : (xs ys : List ℤ) → AreExact r xs → IsQuotientExact r (total (products xs ys)) (total (present_values ys)) → weighted_mean (map (scaled r) xs) ys ≡ scaled r (weighted_mean xs ys)
   weighted xs ys h e =
-      quotient-scaled (total (products xs ys)) (total (products (map (scaled r) xs) ys)) (total (present_values ys))
+      quotient-scaled r ratio (total (products xs ys)) (total (products (map (scaled r) xs) ys)) (total (present_values ys))
       (units.total-times r ratio (products (map (scaled r) xs) ys) (products xs ys) (units.first-products r ratio xs ys h)) e
 
   fading : (one : ℕ) (decay : ℤ) (xs : List ℤ) → AreExact r xs
@@ -97,7 +94,7 @@ module _ (r : Fraction) (ratio : IsRatio r) where
       step : (b : Bool) → (b ≡ false → IsQuotientExact r (total (products ws xs)) (total ws)) → made ws b (map (scaled r) xs) ≡ scaled r (made ws b xs)
       step true e = sym (missing_stays r)
       step false e =
-          quotient-scaled (total (products ws xs)) (total (products ws (map (scaled r) xs))) (total ws)
+          quotient-scaled r ratio (total (products ws xs)) (total (products ws (map (scaled r) xs))) (total ws)
           (units.total-times r ratio (products ws (map (scaled r) xs)) (products ws xs) (units.second-products r ratio ws xs h)) (e refl)
 
   -- ---- bands
@@ -274,3 +271,6 @@ module _ (r : Fraction) (ratio : IsRatio r) where
   formula-in FormulaRule.covariance ys xs zs h i j e = regressions-have-units.covariance r ys xs zs ratio h e
   formula-in FormulaRule.slope ys xs zs h i j e = regressions-have-units.slope r ys xs zs ratio h e
   formula-in FormulaRule.hedge ys xs zs h i j e = slope-same r ratio xs ys i h
+  formula-in FormulaRule.intercept ys xs zs h i j e = intercept-in r ratio _ _ (window-scaled r ratio xs ys h) e
+  formula-in FormulaRule.trend xs ys zs h i j e = trend-in r ratio xs h e
+  formula-in FormulaRule.off_trend xs ys zs h i j e = off-trend-in r ratio xs h e

@@ -17,7 +17,8 @@ use Rattle.pl_invariance.proofs.Crossed.{screens-have-no-unit}
 use Rattle.pl_invariance.proofs.Exact.{missing_stays}
 use Rattle.pl_invariance.proofs.Formulas.{add-scaled, sub-scaled, mul-scaled}
 use Rattle.pl_invariance.proofs.Indicators.{missing-same}
-use Rattle.pl_invariance.proofs.Measured.{number_in, IsOf, by-times, quotient-scaled, on_both}
+use Rattle.pl_invariance.proofs.Measured.{number_in, IsOf, by-times, on_both}
+use Rattle.pl_invariance.proofs.Quotients.{quotient-scaled}
 use Rattle.pl_invariance.proofs.Units as units
 
 both-gone : (x y v : ℤ) → (is_missing x || is_missing y) ≡ true → of_both x y v ≡ MISSING

@@ -126,6 +126,8 @@ module _ (r : Fraction) (ratio : IsRatio r) where
 
   pub record AreScaled (t s : PairSums) : Type 0 where
     pub number : t.number ≡ s.number
+    pub first : t.x ≡ s.x
+    pub second : Times r ratio t.y s.y
     pub spread : spread_x t ≡ spread_x s
     pub joint : Times r ratio (joint_spread t) (joint_spread s)
     pub other : Times (squared r) (ratio-squared r ratio) (spread_y t) (spread_y s)
@@ -142,6 +144,8 @@ module _ (r : Fraction) (ratio : IsRatio r) where
       let yy : Times (squared r) (ratio-squared r ratio) t.yy s.yy = total-times (squared r) (ratio-squared r ratio) _ _ (squares qs ps h) in
       record {
         number = n;
+        first = x;
+        second = y;
         spread = rw (n, x, xx) refl;
         joint = rw (n, x) (times-minus r ratio (pos s.number *ℤ t.xy) (s.x *ℤ t.y) (pos s.number *ℤ s.xy) (s.x *ℤ s.y) (by-times r ratio t.xy s.xy (pos s.number) xy) (by-times r ratio t.y s.y s.x y));
         other =

@@ -1,6 +1,6 @@
 -- The slope of prices on prices is the same in every unit.
-use Rattle.std.proofs.Common.{◌≡◌, ◌*◌, ℤ, pos, ◌-ℤ◌, ◌*ℤ◌, List, map, refl, sym, ◌∙◌, ap}
-use Rattle.pl_spec.specs.Rounding.{MILLION, Fraction, scaled, quot}
+use Rattle.std.proofs.Common.{◌≡◌, ◌*◌, ℤ, pos, ◌*ℤ◌, List, map, refl, sym, ◌∙◌, ap}
+use Rattle.pl_spec.specs.Rounding.{MILLION, Fraction, scaled}
 use Rattle.pl_pipeline.specs.Formula.{PairSums, sums_of_pairs, pair_sums, present_pairs, spread_x, spread_y, joint_spread, slope}
 use Rattle.pl_invariance.specs.Units.{IsRatio, AreExact}
 use Rattle.pl_invariance.proofs.Compared.{quot_same}

@@ -17,13 +17,13 @@ use Rattle.pl_pipeline.specs.declared.RankMethod.{RankMethod}
 use Rattle.pl_pipeline.specs.declared.RankOrder.{RankOrder}
 use Rattle.pl_pipeline.specs.declared.Summary.TheVariants as summary
 use Rattle.pl_pipeline.specs.declared.WindowKind.{WindowKind}
-use Rattle.pl_pipeline.specs.declared.WindowKind.TheVariants.{Latest, SimpleMovingAverage, LinearWeightedMovingAverage, WindowSum, WindowMax, WindowMin, WindowStd, BollingerMiddle, BollingerLower, BollingerUpper, Returns, PercentChange, RateOfChangePercentage, RSI, VWAP, AverageDollarVolume, WeightedAverageValue, FastStochasticOscillator, TrueRange, ExponentialWeightedMovingAverage, ExponentialWeightedMovingMean, AroonUp, AroonDown, Correlation, RankCorrelation, Covariance, RegressionSlope, WindowRSquared, WindowPercentile, WindowRank, WindowArgMax, WindowArgMin, WindowFirst, AllPresent}
+use Rattle.pl_pipeline.specs.declared.WindowKind.TheVariants.{Latest, SimpleMovingAverage, LinearWeightedMovingAverage, WindowSum, WindowMax, WindowMin, WindowStd, BollingerMiddle, BollingerLower, BollingerUpper, Returns, PercentChange, RateOfChangePercentage, RSI, VWAP, AverageDollarVolume, WeightedAverageValue, FastStochasticOscillator, TrueRange, ExponentialWeightedMovingAverage, ExponentialWeightedMovingMean, AroonUp, AroonDown, Correlation, RankCorrelation, Covariance, RegressionSlope, RegressionIntercept, WindowSlope, WindowResidual, WindowRSquared, WindowPercentile, WindowRank, WindowArgMax, WindowArgMin, WindowFirst, AllPresent}
 use Rattle.pl_pipeline.specs.Kind.{Kind, PointKind, CrossKind}
 use Rattle.pl_pipeline.specs.Kind.Kind.{Window, Point, LabelTest, Cross, Downsample}
 use Rattle.pl_pipeline.specs.Kind.PointKind.{Add, Sub, Mul, Div, Neg, Comparison, Abs, FillNa, IsNull, NotNull, IfElse, Sign, Maximum, Minimum, Where}
 use Rattle.pl_pipeline.specs.Kind.CrossKind.{Rank, Demean, ZScore, Quantiles, Top, Bottom, PercentileBetween, Winsorize, Scale, Summarize}
 use Rattle.pl_pipeline.specs.Cross.{values, center, winsorized}
-use Rattle.pl_pipeline.specs.Formula.{FINE, oldest, newest, places, products, weights, gap, pair_sums, joint_spread, spread_x}
+use Rattle.pl_pipeline.specs.Formula.{FINE, oldest, newest, places, products, weights, gap, PairSums, pair_sums, joint_spread, spread_x, trend_sums}
 use Rattle.pl_pipeline.specs.Formula as formulas
 use Rattle.pl_pipeline.specs.Order.{edge}
 use Rattle.pl_pipeline.specs.Term.{Term, Graph, term_at}
@@ -43,8 +43,8 @@ pub data Measure : Type 0 where
 -- ---- the rules
 
 -- What a formula gives of windows of prices; an input that is absent has no unit, nor have weights. There is
--- no rule for trends, drawdowns, faded deviations, skewness and kurtosis of prices, and for intercepts and
--- errors: the laws say nothing of them.
+-- no rule for drawdowns, faded deviations, skewness and kurtosis of prices, and for the error of a slope: the
+-- laws say nothing of them.
 pub data FormulaRule : WindowKind → Measure → Measure → Measure → Measure → Type 0 where
   latest : FormulaRule Latest Price NoUnit NoUnit Price
   first : FormulaRule WindowFirst Price NoUnit NoUnit Price
@@ -86,6 +86,9 @@ pub data FormulaRule : WindowKind → Measure → Measure → Measure → Measur
   covariance : FormulaRule Covariance Price NoUnit NoUnit Price
   slope : FormulaRule RegressionSlope Price NoUnit NoUnit Price
   hedge : FormulaRule RegressionSlope Price Price NoUnit NoUnit
+  intercept : FormulaRule RegressionIntercept Price NoUnit NoUnit Price
+  trend : FormulaRule WindowSlope Price NoUnit NoUnit Price
+  off_trend : FormulaRule WindowResidual Price NoUnit NoUnit Price
 
 -- What an operation gives. There is no rule for a price beside a number in a sum, a comparison or a bound: in
 -- another unit the number would have to be another.
@@ -175,6 +178,12 @@ pub record AreSpansExact (r : Fraction) (h l c : ℤ) : Type 0 where
   pub low : GivesExact r l c (pos (unsigned_abs (l -ℤ c)))
   pub small : let span = cells.greatest (spans h l c) in is_missing span ≡ false → unsigned_abs span ≤ LIMIT
 
+-- how far y lies above the line at x, times the number of pairs and their spread
+abbrev pub above_trend : PairSums → ℤ → ℤ → ℤ
+above_trend s x y =
+    let n = pos s.number in
+    (((n *ℤ y) -ℤ s.y) *ℤ spread_x s) -ℤ (joint_spread s *ℤ ((n *ℤ x) -ℤ s.x))
+
 -- sums are cells, and quotients have no rest; the second input is of the measure
 abbrev pub IsFormulaExact : Fraction → WindowKind → Measure → List ℤ → List ℤ → List ℤ → Type 0
 IsFormulaExact r WindowSum second xs ys zs = unsigned_abs (total (present_values xs)) ≤ LIMIT
@@ -185,7 +194,8 @@ IsFormulaExact r LinearWeightedMovingAverage second xs ys zs =
 IsFormulaExact r WeightedAverageValue second xs ys zs =
     IsQuotientExact r (total (products xs ys)) (total (present_values ys))
 IsFormulaExact r VWAP second xs ys zs = IsQuotientExact r (total (products xs ys)) (total (present_values ys))
-IsFormulaExact r AverageDollarVolume second xs ys zs = IsUnrounded r (total (products xs ys)) (length xs * MILLION)
+IsFormulaExact r AverageDollarVolume second xs ys zs =
+    IsUnrounded r (total (products xs ys)) (length xs * MILLION)
 IsFormulaExact r (ExponentialWeightedMovingAverage decay) second xs ys zs =
     let ws = weights MILLION decay (length xs) in
     list_any is_missing xs ≡ false → IsQuotientExact r (total (products ws xs)) (total ws)
@@ -203,6 +213,15 @@ IsFormulaExact r Covariance second ys xs zs =
     let s = pair_sums xs ys in IsUnrounded r (joint_spread s) (s.number * s.number * MILLION)
 IsFormulaExact r RegressionSlope NoUnit ys xs zs =
     let s = pair_sums xs ys in IsUnrounded r (joint_spread s *ℤ pos MILLION) (unsigned_abs (spread_x s))
+IsFormulaExact r RegressionIntercept second ys xs zs =
+    let s = pair_sums xs ys in
+    IsQuotientExact r ((s.y *ℤ spread_x s) -ℤ (joint_spread s *ℤ s.x)) (pos s.number *ℤ spread_x s)
+IsFormulaExact r WindowSlope second xs ys zs =
+    IsQuotientExact r (joint_spread (trend_sums xs)) (spread_x (trend_sums xs))
+IsFormulaExact r WindowResidual second xs ys zs =
+    let s = trend_sums xs in
+    is_missing (newest xs) ≡ false
+    → IsQuotientExact r (above_trend s (pos (length xs)) (newest xs)) (pos s.number *ℤ spread_x s)
 IsFormulaExact r k second xs ys zs = Unit {0}
 
 -- what is given of two present values is a cell
