@@ -18,7 +18,7 @@ use Rattle.pl_pipeline.specs.declared.WindowKind.{WindowKind}
 use Rattle.pl_pipeline.specs.declared.WindowKind.TheVariants.{Latest}
 use Rattle.pl_pipeline.specs.Formula.{formula}
 use Rattle.pl_pipeline.specs.Elementary.{size_by, log_bits, log, series, exp, sqrt, sign, maximum, minimum}
-use Rattle.pl_pipeline.specs.Pointwise.{pointwise, label_test}
+use Rattle.pl_pipeline.specs.Pointwise.{pointwise, has_substring, label_test}
 use Rattle.pl_pipeline.specs.Cross.{cross}
 use Rattle.pl_pipeline.specs.Term.{Term, Input, Node, Graph}
 use Rattle.pl_pipeline.specs.Term.Term.{absent, column, node}
