@@ -25,4 +25,5 @@ plan-same days other k p plan same last within is =
       live = is.live;
       slots = is.slots;
       cones = is.cones;
+      kept = is.kept;
     }

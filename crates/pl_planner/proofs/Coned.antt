@@ -221,7 +221,7 @@ cones-long cs = length-map cs (λ (c : Cone). pairs_of c.terms.items)
 pub cone-within : (p now : Planned) → p ≡ now → KeepsLimits p → (t : ℕ) → is_used now t ≡ true → t < length p.cones
 cone-within p now is keeps t used = keeps.cones t (subst (λ q. is_used q t ≡ true) (sym is) used)
 
-listed-at : (cs : List Cone) (t : ℕ) (x : Cone) → t < length cs → x ≡ get_or cs t x → pairs_of x.terms.items ≡ get_or (cones_of cs) t []
+pub listed-at : (cs : List Cone) (t : ℕ) (x : Cone) → t < length cs → x ≡ get_or cs t x → pairs_of x.terms.items ≡ get_or (cones_of cs) t []
 unfolding cones_of
 listed-at cs t x h e = ap (λ (c : Cone). pairs_of c.terms.items) e ∙ sym (get_or-map (λ (c : Cone). pairs_of c.terms.items) cs t x [] h)
 

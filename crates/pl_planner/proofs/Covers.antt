@@ -27,11 +27,12 @@ use Rattle.pl_planner.specs.Columns.{held_at}
 use Rattle.pl_planner.specs.Rows.{extra_at, IsRow, AreRows, most_extra}
 use Rattle.pl_planner.specs.Slotting.{slots_at, own_slot, kept_below, one, IsHad, IsHadBefore, IsLowest, IsSlotted, AreSlotted}
 use Rattle.pl_planner.specs.Plans as plans
-use Rattle.pl_planner.specs.Plans.{Planned, is_used, low_at, last_user, is_read_by, slot_of, column_slot, cone, AreLows, AreLastUsers, IsLive, HasSlot, HasColumn, IsPlanOf, IsDeepest, KeepsLimits}
+use Rattle.pl_planner.specs.Plans.{Planned, is_used, low_at, last_user, is_read_by, slot_of, column_slot, cone, AreLows, AreLastUsers, IsLive, HasSlot, HasColumn, AreKeptBy, IsPlanOf, IsDeepest, KeepsLimits}
 use Rattle.pl_planner.specs.Laws.{ReadsAreCovered}
 use Rattle.pl_planner.proofs.Pipelines.{IsPipeline, is-pipeline}
 use Rattle.pl_planner.proofs.Mentions.{needs-used, reads-mention}
 use Rattle.pl_planner.proofs.Counting.{count_more, most_in, columns-few}
+use Rattle.pl_planner.proofs.Held.{reads-same}
 use Rattle.pl_planner.proofs.Live.{turned, contains-filter, some_holds, used_within, live_is, bound_is}
 use Rattle.pl_planner.proofs.Lows.{needs-rise}
 use Rattle.pl_planner.proofs.Tables.{ReachedAt, most-at, most-in, extra-used, extra-some}
@@ -408,6 +409,7 @@ module _ (days : List ℤ) (rise : AllPairs (λ a b. a <ℤ b) days) (p : Pipeli
         columns_room = λ k i h l. column-room k (used-of k h) i (let f = few-columns k (inside k (used-of k h)) in omega arith) l;
       };
       cones = λ t h. cone-is t h;
+      kept = subst (λ by. AreKeptBy by p plan) (sym (reads-same g checked.steady)) (record { live = live-plan; apart = λ k t u h a b e. apart k t u (used-of k h) a b e });
     }
 
     pub limits : length p.graph ≤ most_terms → held ≤ most_terms + 5 → KeepsLimits plan

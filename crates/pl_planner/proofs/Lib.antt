@@ -4,6 +4,7 @@ pub mod Coned
 pub mod Counting
 pub mod Covers
 pub mod Gathers
+pub mod Held
 pub mod Live
 pub mod Lows
 pub mod Marks

@@ -2,6 +2,7 @@ pub mod Asked
 pub mod Columns
 pub mod Cones
 pub mod Extra
+pub mod Holds
 pub mod Inside
 pub mod Laws
 pub mod Plans

@@ -4,7 +4,7 @@ use Rattle.pl_spec.specs.Limits.{most_extra_rows, most_terms}
 use Rattle.pl_spec.specs.Window.{before}
 use Rattle.pl_pipeline.specs.Term.{Graph, Node}
 use Rattle.pl_pipeline.specs.Graph.{Used, contains, mentions_at, live_terms, columns_at, bound}
-use Rattle.pl_pipeline.specs.Cones.{cone_depths}
+use Rattle.pl_pipeline.specs.Cones.{cone_depths, reads_of}
 use Rattle.pl_pipeline.specs.Lows.{IsLow, least_reach}
 use Rattle.pl_pipeline.specs.Table.{Pipeline}
 use Rattle.pl_laws.specs.LowLaws.{HasBar}
@@ -14,6 +14,7 @@ use Rattle.pl_planner.specs.declared.uses.Use.{Use}
 use Rattle.pl_planner.specs.declared.slots.TermSlots.{TermSlots}
 use Rattle.pl_planner.specs.declared.plans.PlanError.{PlanError}
 use Rattle.pl_planner.specs.declared.plans.PlanError.TheVariants.{TooEarly, TooDeep, Memory}
+use Rattle.pl_planner.specs.Holds.{live_terms_by}
 use Rattle.pl_planner.specs.Rows.{extra_at}
 use Rattle.pl_planner.specs.Uses.{use_at}
 use Rattle.pl_planner.specs.Slotting.{IsLowest, slots_at}
@@ -122,6 +123,14 @@ pub record AreSlots (p : Pipeline) (plan : Planned) : Type 0 where
   pub columns_room : (k i : ℕ) → is_used plan k ≡ true → i < columns_at p.graph k
       → column_slot plan k i < plan.bound
 
+-- Who is live with whom, and the last user, where by says what each term reads. So no two terms share a slot
+-- of which one is read while the other is.
+pub record AreKeptBy (by : ℕ → List ℕ) (p : Pipeline) (plan : Planned) : Type 0 where
+  pub live : (k t : ℕ) → k < length p.graph
+      → is_live plan k t ≡ contains (live_terms_by by p.graph (outputs p) k) t
+  pub apart : (k t u : ℕ) → is_used plan k ≡ true → contains (live_terms_by by p.graph (outputs p) k) t ≡ true
+      → contains (live_terms_by by p.graph (outputs p) k) u ≡ true → slot_of plan t ≡ slot_of plan u → t ≡ u
+
 -- what a plan says of a pipeline over the sessions of these days
 pub record IsPlanOf (days : List ℤ) (p : Pipeline) (plan : Planned) : Type 0 where
   pub order : plan.from ≤ plan.to
@@ -135,6 +144,7 @@ pub record IsPlanOf (days : List ℤ) (p : Pipeline) (plan : Planned) : Type 0 w
   pub live : (k t : ℕ) → k < length p.graph → is_live plan k t ≡ contains (live_terms p.graph (outputs p) k) t
   pub slots : AreSlots p plan
   pub cones : (t : ℕ) → t < length p.graph → cone plan t ≡ cone_depths p.graph t
+  pub kept : AreKeptBy (reads_of p.graph) p plan
 
 -- ---- why there is none
 

@@ -4,6 +4,7 @@
 
 mod columns;
 mod cones;
+mod holds;
 pub mod laws;
 mod names;
 mod pipeline;

@@ -5,6 +5,7 @@ ghost use Rattle.pl_planner.specs.Plans.{IsPlanFault, IsPlanOf};
 
 use crate::columns::bound_of;
 use crate::cones::gather_cones;
+use crate::holds::hold;
 use crate::pipeline::are_asked;
 use crate::plans::{Plan, PlanError};
 use crate::reach::reach_of;
@@ -36,7 +37,7 @@ pub fn plan(
     ensures fault { IfErr result (λ e. IsPlanFault sessions.now (pipeline_of checked.now) from to e) }
 {
     are_asked(checked, sessions);
-    let Ok(uses) = gather(alloc, checked, sessions, from, None) else {
+    let Ok(mut uses) = gather(alloc, checked, sessions, from, None) else {
         return Err(PlanError::Memory);
     };
     let reach = reach_of(checked, sessions, &uses, from);
@@ -50,11 +51,12 @@ pub fn plan(
     if rows > MOST_ROWS {
         return Err(PlanError::TooDeep { rows: rows as u64 });
     }
-    let bound = bound_of(checked, &uses);
-    let Ok(slots) = slot_terms(alloc, &uses) else {
+    let Ok(cones) = gather_cones(alloc, checked.graph()) else {
         return Err(PlanError::Memory);
     };
-    let Ok(cones) = gather_cones(alloc, checked.graph()) else {
+    hold(&mut uses, checked.graph(), &cones);
+    let bound = bound_of(checked, &uses);
+    let Ok(slots) = slot_terms(alloc, &uses) else {
         return Err(PlanError::Memory);
     };
     Ok(Plan {
