@@ -142,6 +142,9 @@ def test_values(store):
     assert frame.exchange.xs("CCC", level="asset").eq("OTC").all()
     why = explain(pipe, DAYS[3], "BBB", "code", store)
     assert why.value == 311 and verify(pipe, why, store)
+    for asset, told in (("AAA", ("103", "206")), ("BBB", ("missing", "311"))):
+        tree = explain(pipe, DAYS[3], asset, "given", store).tree(most=9)
+        assert re.findall(r'label\("sector_code"\)(?: on 2024-01-03)? = (\S+)\n', tree) == list(told), tree
 
 
 def test_a_label_that_is_no_number(tmp_path):
