@@ -8,5 +8,5 @@ pub returns-in_default : goal.returns-in_default
 returns-in_default c =
     c.sorted.ensures
     ∙ ap (λ (s : Bool). sorted c.args.row.sort s c.args.term.0)
-    (c.is_window_safe.ensures ∙ ap (λ a. c.args.row.is_safe || (c.args.row.is_safe_over && a)) c.all_safe.ensures)
+    (c.is_window_safe.ensures ∙ ap (λ a. c.args.row.is_safe || (c.args.row.is_safe_over && a)) c.all_safe-in_default.ensures)
     ∙ row-result c.args.operation (bounds_of c.args.bound.now) c.args.row c.args.term.0 c.requires c.in_default.not-Downsample
