@@ -22,6 +22,7 @@ pub mod Scales
 pub mod Origins
 pub mod Lines
 pub mod Fitted
+pub mod Varied
 pub mod Shares
 pub mod OneAsset
 pub mod WorkedPairs

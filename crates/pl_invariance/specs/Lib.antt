@@ -14,4 +14,5 @@ pub mod Scales
 pub mod Origins
 pub mod Lines
 pub mod Fitted
+pub mod Varied
 pub mod OneAsset
