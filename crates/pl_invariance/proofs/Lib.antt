@@ -31,6 +31,7 @@ pub mod Scales
 pub mod Origins
 pub mod Lines
 pub mod Fitted
+pub mod Varied
 pub mod Shares
 pub mod OneAsset
 pub mod WorkedPairs

@@ -88,34 +88,34 @@ pairs-have-no-order = record {
 
 -- ---- values by themselves
 
-abbrev twice : ℤ → ℤ × ℤ
+abbrev pub twice : ℤ → ℤ × ℤ
 twice x = (x, x)
 
 twice-by : (x : ℤ) (xs : List ℤ) (a : Bool) → is_missing x ≡ a → present_pairs xs xs ≡ map twice (present_values xs) → present_pairs (x ∷ xs) (x ∷ xs) ≡ map twice (present_values (x ∷ xs))
 twice-by x xs true e h = rw e h
 twice-by x xs false e h = rw e (ap (λ (l : List (ℤ × ℤ)). (x, x) ∷ l) h)
 
-own-pairs : (xs : List ℤ) → present_pairs xs xs ≡ map twice (present_values xs)
+pub own-pairs : (xs : List ℤ) → present_pairs xs xs ≡ map twice (present_values xs)
 own-pairs [] = refl
 own-pairs (x ∷ xs) = twice-by x xs _ refl (own-pairs xs)
 
-map-twice : (f g : ℤ → ℤ → ℤ) → ((x : ℤ) → f x x ≡ g x x) → (xs : List ℤ) → map (λ q. f q.0 q.1) (map twice xs) ≡ map (λ q. g q.0 q.1) (map twice xs)
+pub map-twice : (f g : ℤ → ℤ → ℤ) → ((x : ℤ) → f x x ≡ g x x) → (xs : List ℤ) → map (λ q. f q.0 q.1) (map twice xs) ≡ map (λ q. g q.0 q.1) (map twice xs)
 map-twice f g e [] = refl
 map-twice f g e (x ∷ xs) = ap₂ (λ (z : ℤ) (l : List ℤ). z ∷ l) (e x) (map-twice f g e xs)
 
-own-joint : (xs : List ℤ) → let s = sums_of_pairs (map twice xs) in joint_spread s ≡ spread_x s
+pub own-joint : (xs : List ℤ) → let s = sums_of_pairs (map twice xs) in joint_spread s ≡ spread_x s
 own-joint xs =
     let y = ap total (map-twice (λ x y. y) (λ x y. x) (λ x. refl) xs) in
     let xy = ap total (map-twice (λ x y. x *ℤ y) (λ x y. x *ℤ x) (λ x. refl) xs) in
     rw (y, xy) refl
 
-one : (n : ℕ) → to_cell (div_round (pos (suc n * MILLION)) (suc n)) ≡ pos MILLION
+pub one : (n : ℕ) → to_cell (div_round (pos (suc n * MILLION)) (suc n)) ≡ pos MILLION
 unfolding to_cell div_round
 one n =
     let e : (2 * (suc n * MILLION) + suc n) / (2 * suc n) ≡ MILLION = div-eq_of_lt-le (2 * suc n) (omega arith) (omega arith) in
     rw e refl
 
-turned-back : (n : ℕ) → neg_ℤ (neg_ℤ (pos n)) ≡ pos n
+pub turned-back : (n : ℕ) → neg_ℤ (neg_ℤ (pos n)) ≡ pos n
 turned-back zero = refl
 turned-back (suc n) = refl
 
@@ -134,7 +134,7 @@ own-slope xs =
     let e : joint_spread s ≡ spread_x s = rw (own-pairs xs) (own-joint (present_values xs)) in
     quot-one (spread_x s) (joint_spread s) e
 
-root-one : (m : ℕ) → root_quot (suc m * suc m * 10 ^ 12) (suc m * suc m) ≡ pos MILLION
+pub root-one : (m : ℕ) → root_quot (suc m * suc m * 10 ^ 12) (suc m * suc m) ≡ pos MILLION
 unfolding isqrt root_by to_cell
 root-one m =
     let d = suc m * suc m in

@@ -108,7 +108,7 @@ cancel m c a b h = elim (cases_lt (a * b) (c * c)) [
 ]
 
 -- the number of pairs times a spread is a sum of squares
-own-spread : (p : ℤ × ℤ) (ps : List (ℤ × ℤ)) → let s = sums_of_pairs (p ∷ ps) in
+pub own-spread : (p : ℤ × ℤ) (ps : List (ℤ × ℤ)) → let s = sums_of_pairs (p ∷ ps) in
     pos (suc (length ps)) *ℤ spread_x s ≡ pos (size (λ q. (pos (suc (length ps)) *ℤ q.0) -ℤ s.x) (p ∷ ps))
 own-spread p ps =
     let s = sums_of_pairs (p ∷ ps) in

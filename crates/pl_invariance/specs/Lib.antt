@@ -15,4 +15,5 @@ pub mod Scales
 pub mod Origins
 pub mod Lines
 pub mod Fitted
+pub mod Varied
 pub mod OneAsset

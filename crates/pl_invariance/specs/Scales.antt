@@ -22,8 +22,8 @@ pub record CorrelationsHaveNoScale : Type 0 where
   pub r_squared : (r : Fraction) (xs ys zs : List ℤ) → IsRatio r → AreExact r xs
       → formula WindowRSquared (map (scaled r) xs) ys zs ≡ formula WindowRSquared xs ys zs
 
--- A covariance and a slope are of the unit of y: they are multiplied by the ratio, where the quotient that each
--- rounds has no rest, and what it gives is not rounded by the ratio.
+-- A covariance and a slope are of the unit of y: they are multiplied by the ratio, where the quotient that
+-- each rounds has no rest, and what it gives is not rounded by the ratio.
 pub record RegressionsHaveUnits : Type 0 where
   pub covariance : (r : Fraction) (ys xs zs : List ℤ) → IsRatio r → AreExact r ys
       → let s = pair_sums xs ys in IsUnrounded r (joint_spread s) (s.number * s.number * MILLION)

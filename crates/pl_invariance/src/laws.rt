@@ -14,6 +14,7 @@ ghost use Rattle.pl_invariance.specs.Lines.{LinesGoThroughMeans, ScalesAddUp};
 ghost use Rattle.pl_invariance.specs.OneAsset.{OneAssetForAll};
 ghost use Rattle.pl_invariance.specs.Origins.{PairsHaveNoOrigin};
 ghost use Rattle.pl_invariance.specs.Scales.{CorrelationsHaveNoScale, RegressionsHaveUnits};
+ghost use Rattle.pl_invariance.specs.Varied.{VariedValuesExplainThemselves};
 ghost use Rattle.pl_invariance.specs.Units.{FormulasHaveUnits, IndicatorsHaveNoUnit};
 
 /// A number beside bars is the same whatever the bars, the adjustments and the labels are. It guards the way
@@ -78,6 +79,12 @@ pub fn pairs_have_no_order()
 /// guards the sign of the root, and which of the two inputs a regression divides by.
 pub fn values_explain_themselves()
     ensures { ValuesExplainThemselves }
+{}
+
+/// Both are present, so 1, where two of the present values differ. It guards what a correlation is missing
+/// for.
+pub fn varied_values_explain_themselves()
+    ensures { VariedValuesExplainThemselves }
 {}
 
 /// A correlation, one of ranks too, and the share of the variance that a line explains are the same where one
