@@ -9,7 +9,6 @@ few millionths, as floats are; else the status is 1. The folder keeps the world,
 time is the user's and the system's, memory the greatest of the rounds. It needs gcc, and numpy and pandas.
 """
 import argparse
-import csv
 import os
 import statistics
 import subprocess
@@ -52,17 +51,21 @@ def apart(one, other):
     """Of how many rows of two tables, and by how much at most numbers are apart; ranks and bins are left out, since a
     rounding that decides one moves all that come after it.
     """
-    count, most = 0, 0.0
-    with open(one, newline="") as mine, open(other, newline="") as theirs:
-        left, right = csv.DictReader(mine), csv.DictReader(theirs)
-        rows = ({(row["session"], row["sid"]): row for row in table} for table in (left, right))
-        mine, theirs = rows
-    for key in mine.keys() & theirs.keys():
-        count += 1
-        for name, text in mine[key].items():
-            if name not in ("session", "sid", "rank", "decile", "z") and text and theirs[key][name]:
-                most = max(most, abs(float(text) - float(theirs[key][name])) / max(1, abs(float(text))))
-    return len(mine) + len(theirs) - 2 * count, most
+    rows, most = 0, 0.0
+    with open(one) as mine, open(other) as theirs:
+        names = next(mine).rstrip().split(",")
+        left, right = next(theirs) and next(mine, ""), next(theirs, "")
+        while left or right:
+            cells, others = left.rstrip("\n").split(","), right.rstrip("\n").split(",")
+            first, second = ((row[0], int(row[1])) if len(row) > 1 else ("~", 0) for row in (cells, others))
+            if left != right and first != second:
+                rows += 1
+            elif left != right:
+                for name, cell, number in list(zip(names, cells, others))[2:]:
+                    if name not in ("rank", "decile", "z") and cell and number:
+                        most = max(most, abs(float(cell) - float(number)) / max(1, abs(float(cell))))
+            left, right = next(mine, "") if first <= second else left, next(theirs, "") if second <= first else right
+    return rows, most
 
 
 def seconds(figures):
