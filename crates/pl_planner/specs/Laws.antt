@@ -2,11 +2,14 @@
 use Rattle.std.specs.Prelude.{◌≡◌, ℕ, ◌<◌, ◌≤◌, true, ℤ, pos, ◌≤ℤ◌, ◌<ℤ◌, List, AllPairs, Some, slice_get}
 use Rattle.pl_spec.specs.Limits.{most_extra_rows}
 use Rattle.pl_spec.specs.Window.{before}
-use Rattle.pl_pipeline.specs.Cones.{HasDepth}
+use Rattle.pl_pipeline.specs.Cones.{Borders, HasDepth, reads_of}
+use Rattle.pl_pipeline.specs.Graph.{contains}
 use Rattle.pl_pipeline.specs.Term.{Node}
 use Rattle.pl_pipeline.specs.Lows.{Reads}
 use Rattle.pl_pipeline.specs.Table.{Pipeline}
 use Rattle.pl_terms.specs.Checked.{IsChecked}
+use Rattle.pl_terms.specs.Uses.{outputs}
+use Rattle.pl_planner.specs.Holds.{live_terms_by}
 use Rattle.pl_planner.specs.Plans.{Planned, IsAsked, IsPlanOf, is_used, low_at, cone, IsLive}
 
 -- What a used term k reads of a term t, for a session that it is computed on: t is used, has a lower number,
@@ -36,3 +39,17 @@ ConesAreCovered = (days : List ℤ) → AllPairs (λ a b. a <ℤ b) days
     → (p : Pipeline) → IsChecked p → (plan : Planned) → IsPlanOf days p plan
     → (k u m c : ℕ) (s : ℤ) → IsAsked plan k c → pos (low_at plan k c) ≤ℤ s
     → HasDepth u m (cone plan k) → IsCoveredAnew plan k u m c s
+
+-- What the cone of a term k reads of a term b beside the cone, on up to m sessions before session s: b is used,
+-- has a lower number, is kept until k is computed, and is computed from the first of these on.
+pub record IsCoveredBeside (p : Pipeline) (plan : Planned) (k b m c : ℕ) (s : ℤ) : Type 0 where
+  pub used : is_used plan b ≡ true
+  pub lower : b < k
+  pub kept : contains (live_terms_by (reads_of p.graph) p.graph (outputs p) k) b ≡ true
+  pub computed : pos (low_at plan b c) ≤ℤ before s m
+
+abbrev pub BordersAreCovered : Type 0
+BordersAreCovered = (days : List ℤ) → AllPairs (λ a b. a <ℤ b) days
+    → (p : Pipeline) → IsChecked p → (plan : Planned) → IsPlanOf days p plan
+    → (k b m c : ℕ) (s : ℤ) → IsAsked plan k c → pos (low_at plan k c) ≤ℤ s
+    → Borders p.graph k b m → IsCoveredBeside p plan k b m c s

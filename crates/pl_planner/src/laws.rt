@@ -1,5 +1,5 @@
 //! The laws of plans.
-ghost use Rattle.pl_planner.specs.Laws.{ConesAreCovered, ReadsAreCovered};
+ghost use Rattle.pl_planner.specs.Laws.{BordersAreCovered, ConesAreCovered, ReadsAreCovered};
 
 /// What a term's window, mask and group read is computed, and kept until it is read.
 pub fn reads_are_covered()
@@ -10,4 +10,9 @@ pub fn reads_are_covered()
 /// are at most 4,096 before the term's own.
 pub fn cones_are_covered()
     ensures { ConesAreCovered }
+{}
+
+/// What a cone reads beside its terms is computed on these sessions, and kept until the term of the cone is.
+pub fn borders_are_covered()
+    ensures { BordersAreCovered }
 {}
