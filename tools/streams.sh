@@ -51,6 +51,8 @@ table=(run p.pl sessions.csv assets.csv bars.csv 2022-07-05 2023-12-29)
 # a short text is gathered, and fails as the program ends; a table of 7,120 rows fails in the run
 fails 9 write fmt p.pl
 fails 9 write "${table[@]}"
+# so does a short table at its end, and then no numbers are told
+fails 9 write run p.pl sessions.csv assets.csv bars.csv 2022-07-05 2022-07-05 --stats
 # a pipeline file of 262,144 bytes is read whole, and one byte more is past the limit
 printf '%s%*s' "$(cat p.pl)" $((262145 - $(wc -c < p.pl))) '' > longest.pl
 { cat longest.pl; echo; } > longer.pl
@@ -69,6 +71,16 @@ cp p.pl wanted
 left 0 held /dev/full fmt p.pl
 "$program" "${table[@]}" > wanted
 left 0 held /dev/full "${table[@]}" --stats
+# where both outputs are one file, the numbers stand after the last row
+"$program" "${table[@]}" --stats 2>> wanted > /dev/null
+"$program" "${table[@]}" --stats > held 2>&1
+if cmp -s held wanted; then
+    passed=$((passed + 1))
+    echo "passed: the numbers stand after the table"
+else
+    failed=$((failed + 1))
+    echo "failed: the numbers do not stand after the table: $(diff wanted held | head -c 200)"
+fi
 
 # A database that SQLite has left with its commits in the log alone: a split 1/2 on 2024-01-04 makes the 102 that
 # is seen on that day 51, and changes no other day. It is read from a copy, since a reader may fold the log in.

@@ -17,7 +17,7 @@ use Rattle.pl_spec.specs.World.{World}
 use Rattle.pl_pipeline.specs.Table.{Pipeline}
 use Rattle.pl_terms.specs.Checked.{pipeline_of}
 use Rattle.pl_words.specs.declared.request.WorldPart.{WorldPart}
-use Rattle.pl_words.specs.Request.{Cut, CutRequest}
+use Rattle.pl_words.specs.Request.{Cut, CutRequest, Run}
 use Rattle.pl_load.specs.declared.fault.Fault.{Fault}
 use Rattle.pl_load.specs.Contents.{Contents}
 use Rattle.pl_load.specs.Held.{pipeline_held, days_held}
@@ -28,6 +28,7 @@ use Rattle.pl_load.specs.Views.{ShelfView, KeeperView, Change}
 use Rattle.pl_load.specs.declared.loading.Loaded.{Loaded}
 use Rattle.pl_load.specs.Loads.{IsLoadOf, IsLoad, IsLoaded}
 use Rattle.pl_world.specs.Worlds.{owned_world}
+use Rattle.pl_cli.proofs.Asked.{given-by}
 use Rattle.pl_cli.specs.Texts.{text_of, part_text, text_of_part, span_for}
 use Rattle.pl_cli.specs.Commands.{loaded_part}
 
@@ -35,7 +36,7 @@ use Rattle.pl_cli.specs.Commands.{loaded_part}
 pub cut-load : {shelf : Change ShelfView} {keeper : Change KeeperView} {r : Result Loaded Fault} (q : CutRequest) → IsLoad shelf keeper q.table r
     → IsLoadOf shelf keeper (Some (Cut q)) (λ held. work held (Some (Cut q))) (λ held l. IsLoaded held q.table l) r
 unfolding work
-cut-load q h =
+cut-load {r = r} q h =
     record {
       held = h.held;
       are_held = record { files_held = h.are_held.files_held; rows_held = h.are_held.rows_held };
@@ -45,6 +46,7 @@ cut-load q h =
       has_read = h.has_read;
       begun = h.begun;
       calls = h.calls;
+      given = given-by (Some (Run q.table)) (Some (Cut q)) (λ f. refl) refl r h.given;
       risen = h.risen;
       shelf_left = h.shelf_left;
       keeper_left = h.keeper_left;

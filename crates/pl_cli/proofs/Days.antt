@@ -4,7 +4,7 @@ use Rattle.pl_spec.specs.World.{World}
 use Rattle.pl_pipeline.specs.Table.{Pipeline}
 use Rattle.pl_terms.specs.Checked.{pipeline_of}
 use Rattle.pl_runner.specs.Feeds.{daily_steps}
-use Rattle.pl_words.specs.Request.{Daily, RunRequest}
+use Rattle.pl_words.specs.Request.{Daily, Run, RunRequest}
 use Rattle.pl_load.specs.declared.fault.Fault.{Fault}
 use Rattle.pl_load.specs.Contents.{Contents}
 use Rattle.pl_load.specs.Held.{pipeline_held, days_held}
@@ -17,13 +17,14 @@ use Rattle.pl_load.specs.Loads.{IsLoadOf, IsLoad, IsLoaded}
 use Rattle.pl_world.specs.Worlds.{owned_world}
 use Rattle.pl_cli.specs.Texts.{text_of, TakesSteps}
 use Rattle.pl_cli.specs.Commands.{loaded_text, loaded_days}
+use Rattle.pl_cli.proofs.Asked.{given-by}
 use Rattle.pl_cli.proofs.Loaded.{loaded-text}
 
 -- it asks for the files and tables of its run
 pub days-load : {shelf : Change ShelfView} {keeper : Change KeeperView} {r : Result Loaded Fault} (q : RunRequest) → IsLoad shelf keeper q r
     → IsLoadOf shelf keeper (Some (Daily q)) (λ held. work held (Some (Daily q))) (λ held l. IsLoaded held q l) r
 unfolding work
-days-load q h =
+days-load {r = r} q h =
     record {
       held = h.held;
       are_held = record { files_held = h.are_held.files_held; rows_held = h.are_held.rows_held };
@@ -33,6 +34,7 @@ days-load q h =
       has_read = h.has_read;
       begun = h.begun;
       calls = h.calls;
+      given = given-by (Some (Run q)) (Some (Daily q)) (λ f. refl) refl r h.given;
       risen = h.risen;
       shelf_left = h.shelf_left;
       keeper_left = h.keeper_left;

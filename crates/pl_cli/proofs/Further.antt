@@ -16,7 +16,8 @@ use Rattle.pl_load.specs.PaidOut.{ArePayoutsHeld}
 use Rattle.pl_load.proofs.Joined.{judged}
 use Rattle.pl_cli.specs.declared.commands.Stats.{Stats}
 use Rattle.pl_cli.specs.Texts.{text_of}
-use Rattle.pl_cli.specs.Commands.{IsAnswered, SinkView}
+use Rattle.pl_cli.specs.Commands.{IsAnswered}
+use Rattle.pl_cli.specs.Views.{SinkView}
 use Rattle.pl_cli.proofs.Ended.{SinkWrites, quiet, written-or}
 
 at-most : (number chunk before now : ℕ) → TakesBenchSteps number chunk (λ n. now ≡ before + n) → TakesBenchSteps number chunk (λ n. now ≤ before + n)

@@ -1,5 +1,5 @@
 -- The keeper is read only where adjustments are asked for.
-use Rattle.std.proofs.Common.{◌≡◌, inl, inr, ℤ, ℕ, Bool, true, false, List, [], ◌∷◌, ◌++◌, IsSome, Option, Some, None, refl, sym, ap, ◌∙◌}
+use Rattle.std.proofs.Common.{◌≡◌, inl, inr, ℤ, ℕ, Bool, true, false, List, [], ◌∷◌, ◌++◌, IsSome, Option, Some, None, option_map, refl, sym, ◌∙◌}
 use Rattle.std.specs.List.{list_all}
 use Rattle.std.proofs.lemmas.Bool.{true≢false, and_from, and_parts}
 use Rattle.std.proofs.lemmas.List.Folds.{list_all-append}
@@ -10,15 +10,21 @@ use Rattle.pl_words.specs.Request.{Request, Run, Explain, Verify, Daily, Cut, Wi
 use Rattle.pl_load.specs.Cells.{cell_steps, lines_step}
 use Rattle.pl_load.specs.Contents.{Contents}
 use Rattle.pl_load.specs.Held.{assets_held, days_held, pipeline_held, world_held}
-use Rattle.pl_load.specs.Steps.{Source, WorkStep, ReachesRead}
+use Rattle.pl_load.specs.Steps.{Reading, WorkStep, ReachesRead, source_of}
 use Rattle.pl_load.specs.Steps.Source.{Load}
+use Rattle.pl_load.specs.Steps.Reading.{Bytes, Rows}
 use Rattle.pl_load.specs.Range.{dates_steps, first_window_steps, plan_steps, range_steps, windows_steps}
 use Rattle.pl_load.specs.Work.{labels_steps, numbers_steps, revisions_steps, data_steps, derivation_step, work}
 
 -- whether no step loads a table, whatever the faults are
-abbrev is_no_load : Option Source → Bool
-is_no_load (Some (Load table)) = false
-is_no_load source = true
+abbrev is_no_load : Option Reading → Bool
+is_no_load (Some (Rows table rows)) = false
+is_no_load reading = true
+
+is-load : (o : Option Reading) (table : Table) → option_map source_of o ≡ Some (Load table) → is_no_load o ≡ false
+is-load None table e = absurd (cc)
+is-load (Some (Bytes file bytes)) table e = absurd (cc)
+is-load (Some (Rows t rows)) table e = refl
 
 abbrev loads_none : List WorkStep → Bool
 loads_none steps = list_all (λ (s : WorkStep). is_no_load s.reads) steps
@@ -27,7 +33,7 @@ no-table : (ss : List WorkStep) (table : Table) → loads_none ss ≡ true → R
 no-table [] table e h = h
 no-table (s ∷ ss) table e h =
     let r = and_parts (is_no_load s.reads) (loads_none ss) e in
-    elim h [ inl p ↦ true≢false (sym r.0 ∙ ap is_no_load p) | inr q ↦ no-table ss table r.1 q.1 ]
+    elim h [ inl p ↦ true≢false (sym r.0 ∙ is-load s.reads table p) | inr q ↦ no-table ss table r.1 q.1 ]
 
 both-none : (ss ts : List WorkStep) → loads_none ss ≡ true → loads_none ts ≡ true → loads_none (ss ++ ts) ≡ true
 both-none ss ts e f = list_all-append (λ (s : WorkStep). is_no_load s.reads) ss ts ∙ and_from (loads_none ss) (loads_none ts) e f

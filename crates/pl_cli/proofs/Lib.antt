@@ -2,6 +2,7 @@ pub mod Keepers
 pub mod Counts
 pub mod PlanTexts
 pub mod Written
+pub mod Asked
 pub mod Ended
 pub mod Loaded
 pub mod Finished

@@ -12,7 +12,8 @@ ghost use Rattle.pl_words.specs.Request.{Explain, ExplainRequest as Asked};
 ghost use Rattle.pl_words.specs.Views.{explain_of};
 ghost use Rattle.pl_load.specs.Views.{ShelfView, KeeperView, Change, unchanged, shelf_change, keeper_change};
 ghost use Rattle.pl_load.specs.Celled.{IsCellLoad, IsExplainable};
-ghost use Rattle.pl_cli.specs.Commands.{IsAnswered, sink_change};
+ghost use Rattle.pl_cli.specs.Commands.{IsAnswered};
+ghost use Rattle.pl_cli.specs.Views.{sink_change};
 
 use crate::commands::{Stats, write_text};
 use pl_explain::{Derivation, ExplainError, explain_cell, print_lines};
@@ -36,9 +37,9 @@ pub fn explain_command<S: Shelf, K: AdjustKeeper, O: Sink>(
 ) -> Result<Option<Stats>, Fault>
     // however many steps were counted
     ensures { (steps : ℕ)
-        → IsAnswered (shelf_change S.holds S.begun S.sound S.faults shelf.old shelf.new)
-        (keeper_change K.lists K.sound K.faults K.calls keeper.old keeper.new)
-        (sink_change O.taken O.sound O.faults O.room out.old out.new) (unchanged steps)
+        → IsAnswered (shelf_change S.Shelf shelf.old shelf.new)
+        (keeper_change K.AdjustKeeper keeper.old keeper.new)
+        (sink_change O.Sink out.old out.new) (unchanged steps)
         (Some (Explain (explain_of request.now))) result }
 {
     let loaded = load_cell(alloc, request, shelf, keeper)?;
@@ -55,7 +56,7 @@ fn write_cell<O: Sink>(
     // for whatever request, and from whatever parts, the cell was loaded
     ensures { (shelf : Change ShelfView) (keeper : Change KeeperView) (q : Asked) (steps : ℕ)
         → IsCellLoad shelf keeper q (Ok loaded.now)
-        → IsAnswered shelf keeper (sink_change O.taken O.sound O.faults O.room out.old out.new)
+        → IsAnswered shelf keeper (sink_change O.Sink out.old out.new)
         (unchanged steps) (Some (Explain q)) result }
 {
     let lines = lines_of::<Brand>(alloc, loaded, Blank::new(1))?;

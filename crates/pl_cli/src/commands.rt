@@ -9,7 +9,8 @@ ghost use Rattle.pl_load.specs.Loads.{IsReadyRun};
 ghost use Rattle.pl_terms.specs.Checked.{pipeline_of};
 ghost use Rattle.pl_table.specs.Numbers.{stats_line};
 ghost use Rattle.pl_cli.specs.Texts.{check_text};
-ghost use Rattle.pl_cli.specs.Commands.{IsAnswered, sink_change, loaded_text, loaded_present, loaded_steps, loaded_stats, line_of_stats};
+ghost use Rattle.pl_cli.specs.Commands.{IsAnswered, loaded_text, loaded_present, loaded_steps, loaded_stats, line_of_stats};
+ghost use Rattle.pl_cli.specs.Views.{sink_change};
 
 use crate::present::present_of;
 use itoa::Buffer;
@@ -46,9 +47,9 @@ pub fn run_command<S: Shelf, K: AdjustKeeper, O: Sink, L: Ledger>(
     steps: &mut Steps<L>,
 ) -> Result<Option<Stats>, Fault>
     requires chunk { IsChunk (run_of request.now).options.chunk }
-    ensures { IsAnswered (shelf_change S.holds S.begun S.sound S.faults shelf.old shelf.new)
-        (keeper_change K.lists K.sound K.faults K.calls keeper.old keeper.new)
-        (sink_change O.taken O.sound O.faults O.room out.old out.new)
+    ensures { IsAnswered (shelf_change S.Shelf shelf.old shelf.new)
+        (keeper_change K.AdjustKeeper keeper.old keeper.new)
+        (sink_change O.Sink out.old out.new)
         (change steps.old steps.new) (Some (Run (run_of request.now))) result }
 {
     let loaded = load(alloc, request, shelf, keeper)?;
@@ -125,8 +126,8 @@ pub fn fmt_command<S: Shelf, O: Sink>(
 ) -> Result<Option<Stats>, Fault>
     // whatever a keeper tells, and however many steps were counted
     ensures { (keeper : KeeperView) (steps : ℕ)
-        → IsAnswered (shelf_change S.holds S.begun S.sound S.faults shelf.old shelf.new)
-        (unchanged keeper) (sink_change O.taken O.sound O.faults O.room out.old out.new)
+        → IsAnswered (shelf_change S.Shelf shelf.old shelf.new)
+        (unchanged keeper) (sink_change O.Sink out.old out.new)
         (unchanged steps) (Some (Fmt name.now)) result }
 {
     let script = read_script(alloc, shelf, name)?;
@@ -144,8 +145,8 @@ pub fn check_command<S: Shelf, O: Sink>(
 ) -> Result<Option<Stats>, Fault>
     // whatever a keeper tells, and however many steps were counted
     ensures { (keeper : KeeperView) (steps : ℕ)
-        → IsAnswered (shelf_change S.holds S.begun S.sound S.faults shelf.old shelf.new)
-        (unchanged keeper) (sink_change O.taken O.sound O.faults O.room out.old out.new)
+        → IsAnswered (shelf_change S.Shelf shelf.old shelf.new)
+        (unchanged keeper) (sink_change O.Sink out.old out.new)
         (unchanged steps) (Some (Check name.now)) result }
 {
     let checked = read_checked(alloc, shelf, name)?;
@@ -162,8 +163,8 @@ pub fn plan_command<S: Shelf, O: Sink>(
 ) -> Result<Option<Stats>, Fault>
     // whatever a keeper tells, and however many steps were counted
     ensures { (keeper : KeeperView) (steps : ℕ)
-        → IsAnswered (shelf_change S.holds S.begun S.sound S.faults shelf.old shelf.new)
-        (unchanged keeper) (sink_change O.taken O.sound O.faults O.room out.old out.new)
+        → IsAnswered (shelf_change S.Shelf shelf.old shelf.new)
+        (unchanged keeper) (sink_change O.Sink out.old out.new)
         (unchanged steps) (Some (Plan (plan_of request.now))) result }
 {
     let planned = load_plan(alloc, request, shelf)?;

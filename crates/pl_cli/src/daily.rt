@@ -6,7 +6,8 @@ ghost use Rattle.pl_words.specs.Request.{Daily};
 ghost use Rattle.pl_words.specs.Views.{run_of};
 ghost use Rattle.pl_load.specs.Views.{change, shelf_change, keeper_change};
 ghost use Rattle.pl_load.specs.Loads.{IsReadyRun};
-ghost use Rattle.pl_cli.specs.Commands.{IsAnswered, sink_change, loaded_text, loaded_days};
+ghost use Rattle.pl_cli.specs.Commands.{IsAnswered, loaded_text, loaded_days};
+ghost use Rattle.pl_cli.specs.Views.{sink_change};
 
 use crate::commands::Stats;
 use pl_fixed::Steps;
@@ -29,9 +30,9 @@ pub fn daily_command<S: Shelf, K: AdjustKeeper, O: Sink, L: Ledger>(
     out: &mut O,
     steps: &mut Steps<L>,
 ) -> Result<Option<Stats>, Fault>
-    ensures { IsAnswered (shelf_change S.holds S.begun S.sound S.faults shelf.old shelf.new)
-        (keeper_change K.lists K.sound K.faults K.calls keeper.old keeper.new)
-        (sink_change O.taken O.sound O.faults O.room out.old out.new)
+    ensures { IsAnswered (shelf_change S.Shelf shelf.old shelf.new)
+        (keeper_change K.AdjustKeeper keeper.old keeper.new)
+        (sink_change O.Sink out.old out.new)
         (change steps.old steps.new) (Some (Daily (run_of request.now))) result }
 {
     let loaded = load(alloc, request, shelf, keeper)?;

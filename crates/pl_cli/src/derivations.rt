@@ -10,7 +10,8 @@ ghost use Rattle.pl_words.specs.Views.{verify_of};
 ghost use Rattle.pl_load.specs.Views.{ShelfView, KeeperView, Change, unchanged, shelf_change, keeper_change};
 ghost use Rattle.pl_load.specs.Derived.{IsDerivationLoad};
 ghost use Rattle.pl_cli.specs.Texts.{verdict_text};
-ghost use Rattle.pl_cli.specs.Commands.{IsAnswered, sink_change};
+ghost use Rattle.pl_cli.specs.Commands.{IsAnswered};
+ghost use Rattle.pl_cli.specs.Views.{sink_change};
 
 use crate::commands::{Stats, write_in_pieces, write_text};
 use itoa::Buffer;
@@ -35,9 +36,9 @@ pub fn verify_command<S: Shelf, K: AdjustKeeper, O: Sink>(
 ) -> Result<Option<Stats>, Fault>
     // however many steps were counted
     ensures { (steps : ℕ)
-        → IsAnswered (shelf_change S.holds S.begun S.sound S.faults shelf.old shelf.new)
-        (keeper_change K.lists K.sound K.faults K.calls keeper.old keeper.new)
-        (sink_change O.taken O.sound O.faults O.room out.old out.new) (unchanged steps)
+        → IsAnswered (shelf_change S.Shelf shelf.old shelf.new)
+        (keeper_change K.AdjustKeeper keeper.old keeper.new)
+        (sink_change O.Sink out.old out.new) (unchanged steps)
         (Some (Verify (verify_of request.now))) result }
 {
     let loaded = load_derivation(alloc, request, shelf, keeper)?;
@@ -54,7 +55,7 @@ fn write_judged<O: Sink>(
     // for whatever request, and from whatever parts, the derivation was loaded
     ensures { (shelf : Change ShelfView) (keeper : Change KeeperView) (q : Asked) (steps : ℕ)
         → IsDerivationLoad shelf keeper q (Ok loaded.now)
-        → IsAnswered shelf keeper (sink_change O.taken O.sound O.faults O.room out.old out.new)
+        → IsAnswered shelf keeper (sink_change O.Sink out.old out.new)
         (unchanged steps) (Some (Verify q)) result }
 {
     let wrong = wrong_line::<Brand>(alloc, loaded, Blank::new(1))?;

@@ -16,4 +16,4 @@ mod stated;
 mod top;
 mod windows;
 
-pub use top::run_program;
+pub use top::{Outcome, run_program, work_on};

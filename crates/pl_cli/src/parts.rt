@@ -11,7 +11,8 @@ ghost use Rattle.pl_cut.specs.Cuts.{cut};
 ghost use Rattle.pl_world.specs.Worlds.{owned_world};
 ghost use Rattle.pl_parts.specs.Parts.{world_of, IsMade};
 ghost use Rattle.pl_cli.specs.Texts.{span_for, text_of_part};
-ghost use Rattle.pl_cli.specs.Commands.{IsAnswered, sink_change, loaded_part};
+ghost use Rattle.pl_cli.specs.Commands.{IsAnswered, loaded_part};
+ghost use Rattle.pl_cli.specs.Views.{sink_change};
 
 use crate::commands::{Stats, write_text};
 use pl_fixed::Memory;
@@ -37,9 +38,9 @@ pub fn cut_command<S: Shelf, K: AdjustKeeper, O: Sink>(
 ) -> Result<Option<Stats>, Fault>
     // however many steps were counted
     ensures { (steps : ℕ)
-        → IsAnswered (shelf_change S.holds S.begun S.sound S.faults shelf.old shelf.new)
-        (keeper_change K.lists K.sound K.faults K.calls keeper.old keeper.new)
-        (sink_change O.taken O.sound O.faults O.room out.old out.new) (unchanged steps)
+        → IsAnswered (shelf_change S.Shelf shelf.old shelf.new)
+        (keeper_change K.AdjustKeeper keeper.old keeper.new)
+        (sink_change O.Sink out.old out.new) (unchanged steps)
         (Some (Cut (cut_of request.now))) result }
 {
     let loaded = load(alloc, &request.table, shelf, keeper)?;

@@ -7,7 +7,8 @@ ghost use Rattle.pl_words.specs.Views.{payouts_of};
 ghost use Rattle.pl_payouts.specs.Texts.{payouts_text};
 ghost use Rattle.pl_load.specs.Views.{KeeperView, unchanged, shelf_change};
 ghost use Rattle.pl_load.specs.PaidOut.{IsPayable};
-ghost use Rattle.pl_cli.specs.Commands.{IsAnswered, sink_change};
+ghost use Rattle.pl_cli.specs.Commands.{IsAnswered};
+ghost use Rattle.pl_cli.specs.Views.{sink_change};
 
 use crate::commands::Stats;
 use pl_load::{Fault, LoadedPayouts, load_payouts};
@@ -27,8 +28,8 @@ pub fn payouts_command<S: Shelf, O: Sink>(
 ) -> Result<Option<Stats>, Fault>
     // whatever a keeper tells, and however many steps were counted
     ensures { (keeper : KeeperView) (steps : ℕ)
-        → IsAnswered (shelf_change S.holds S.begun S.sound S.faults shelf.old shelf.new)
-        (unchanged keeper) (sink_change O.taken O.sound O.faults O.room out.old out.new)
+        → IsAnswered (shelf_change S.Shelf shelf.old shelf.new)
+        (unchanged keeper) (sink_change O.Sink out.old out.new)
         (unchanged steps) (Some (Payouts (payouts_of request.now))) result }
 {
     let loaded = load_payouts(alloc, request, shelf)?;

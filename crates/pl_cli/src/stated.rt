@@ -6,7 +6,8 @@ ghost use Rattle.pl_words.specs.Request.{Bench, IsChunk};
 ghost use Rattle.pl_words.specs.Views.{bench_of};
 ghost use Rattle.pl_bench.specs.Numbers.{TakesSteps, bench_line};
 ghost use Rattle.pl_load.specs.Views.{ShelfView, KeeperView, change, unchanged};
-ghost use Rattle.pl_cli.specs.Commands.{IsAnswered, sink_change};
+ghost use Rattle.pl_cli.specs.Commands.{IsAnswered};
+ghost use Rattle.pl_cli.specs.Views.{sink_change};
 
 use crate::commands::Stats;
 use pl_bench::bench;
@@ -30,7 +31,7 @@ pub fn bench_command<O: Sink, L: Ledger>(
     // whatever a shelf and a keeper tell
     ensures { (shelf : ShelfView) (keeper : KeeperView)
         → IsAnswered (unchanged shelf) (unchanged keeper)
-        (sink_change O.taken O.sound O.faults O.room out.old out.new)
+        (sink_change O.Sink out.old out.new)
         (change steps.old steps.new) (Some (Bench (bench_of request.now))) result }
 {
     write_bench(alloc, request, out, steps)

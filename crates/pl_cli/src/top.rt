@@ -6,10 +6,11 @@ ghost use Rattle.pl_outside.specs.Left.{Leaves, LeavesSink, IsUntouched};
 ghost use Rattle.pl_outside.specs.Taken.{IsTold};
 ghost use Rattle.pl_words.specs.Request.{HasChunk, request, adjustments_of};
 ghost use Rattle.pl_words.specs.Views.{request_of};
-ghost use Rattle.pl_load.specs.Faults.{judged_status, judged_line};
-ghost use Rattle.pl_cli.specs.Runs.{observed, IsRun};
+ghost use Rattle.pl_cli.specs.Runs.{IsRun};
 ghost use Rattle.pl_load.specs.Views.{change, shelf_change, keeper_change};
-ghost use Rattle.pl_cli.specs.Commands.{IsAnswered, sink_change, fault_of, line_of_numbers};
+ghost use Rattle.pl_cli.specs.Commands.{IsAnswered, outcome_line, outcome_numbers, outcome_status, fault_of, line_of_numbers};
+ghost use Rattle.pl_load.specs.Faults.{judged_line};
+ghost use Rattle.pl_cli.specs.Views.{outside, sink_change};
 
 use crate::cells::explain_command;
 use crate::commands::{Stats, check_command, fmt_command, plan_command, run_command};
@@ -81,13 +82,13 @@ pub fn run_program<S: Shelf, K: AdjustKeeper, O: Sink, E: Sink, L: Ledger>(
     err: &mut E,
     steps: &mut Steps<L>,
 ) -> u8
-    // Whatever the parts tell, there are contents of the files and tables over which the run ended as the
-    // definitions say.
+    // Whatever the parts are, the run ended as the definitions say over exactly what was given of the files
+    // and loaded of the tables in this call.
     ensures run { let asked = request (map (λ s. string_bytes s) words.now) in
         (line : List ℕ) × (numbers : List ℕ)
-        × IsRun (observed S.holds S.begun S.sound K.lists K.calls K.sound O.taken O.sound O.room
-        shelf.old shelf.new keeper.old keeper.new out.old out.new steps.old steps.new)
-        asked result line numbers
+        × IsRun (outside (shelf_change S.Shelf shelf.old shelf.new)
+        (keeper_change K.AdjustKeeper keeper.old keeper.new) (sink_change O.Sink out.old out.new)
+        (change steps.old steps.new)) asked result line numbers
         × IsTold E.taken E.faults E.sound E.room err.old err.new (line ++ numbers) }
 
     // The words decide of status 2, unless memory runs out as they are read, and a part that failed has
@@ -110,12 +111,78 @@ pub fn run_program<S: Shelf, K: AdjustKeeper, O: Sink, E: Sink, L: Ledger>(
     ensures out { LeavesSink O.sound O.faults out.old out.new }
     ensures err { LeavesSink E.sound E.faults err.old err.new }
 {
+    let outcome = work_on(alloc, words, shelf, keeper, out, steps);
+    let status = outcome.status();
+    outcome.tell(err);
+    status
+}
+
+/// How the work on the words ended: what they ask for, and the numbers or the fault. It is told by `tell`,
+/// once the caller has written what it gathered of the text.
+#[derive(Drop)]
+pub struct Outcome<'a> {
+    pub asked: Option<Request<'a>>,
+    pub ended: Result<Option<Stats>, Fault>,
+}
+
+impl Outcome<'_> {
+    /// 0, or the status of the fault.
+    pub fn status(&self) -> u8
+        ensures { result ≡ outcome_status self.now }
+    {
+        match self.ended {
+            Ok(_) => 0,
+            Err(fault) => fault.status(),
+        }
+    }
+
+    /// Writes the line of the fault to `err`, or the numbers where they are asked for. What becomes of that
+    /// changes nothing.
+    pub fn tell<E: Sink>(&self, err: &mut E)
+        ensures told { IsTold E.taken E.faults E.sound E.room err.old err.new
+            (outcome_line self.now ++ outcome_numbers self.now) }
+        ensures err { LeavesSink E.sound E.faults err.old err.new }
+    {
+        tell_ended(self.ended, self.asked.as_ref(), err);
+    }
+}
+
+/// Does what `run_program` does, up to what is told of it on `err`.
+pub fn work_on<'a, S: Shelf, K: AdjustKeeper, O: Sink, L: Ledger>(
+    alloc: Global,
+    words: &'a [String],
+    shelf: &mut S,
+    keeper: &mut K,
+    out: &mut O,
+    steps: &mut Steps<L>,
+) -> Outcome<'a>
+    ensures run { IsRun (outside (shelf_change S.Shelf shelf.old shelf.new)
+        (keeper_change K.AdjustKeeper keeper.old keeper.new) (sink_change O.Sink out.old out.new)
+        (change steps.old steps.new)) (request (map (λ s. string_bytes s) words.now))
+        (outcome_status result) (outcome_line result) (outcome_numbers result) }
+    ensures usage { outcome_status result ≡ 2 → request (map (λ s. string_bytes s) words.now) ≡ None }
+    ensures refused { request (map (λ s. string_bytes s) words.now) ≡ None
+        → ¬ (outcome_status result ≡ 10) → outcome_status result ≡ 2 }
+    ensures read { outcome_status result ≡ 7 → Rose (S.faults shelf.old) (S.faults shelf.new) }
+    ensures store { outcome_status result ≡ 8 → Rose (K.faults keeper.old) (K.faults keeper.new) }
+    ensures write { outcome_status result ≡ 9 → Rose (O.faults out.old) (O.faults out.new) }
+    ensures kept { ¬ (outcome_status result ≡ 0) → ¬ (outcome_status result ≡ 9)
+        → (O.taken out.new ≡ O.taken out.old) × (O.room out.new ≡ O.room out.old) × (steps.new ≡ steps.old) }
+    ensures alone { adjustments_of (request (map (λ s. string_bytes s) words.now)) ≡ None
+        → IsUntouched K.faults K.calls keeper.old keeper.new }
+    ensures shelf { Leaves S.holds S.sound S.faults shelf.old shelf.new }
+    ensures keeper { Leaves K.lists K.sound K.faults keeper.old keeper.new }
+    ensures out { LeavesSink O.sound O.faults out.old out.new }
+{
     match read_words(alloc, words) {
         Ok(asked) => {
             let ended = answer(alloc, asked.as_ref(), shelf, keeper, out, steps);
-            finish(ended, asked.as_ref(), err)
+            Outcome { asked, ended }
         }
-        Err(_) => finish(Err(Fault::Memory), None, err),
+        Err(_) => Outcome {
+            asked: None,
+            ended: Err(Fault::Memory),
+        },
     }
 }
 
@@ -129,9 +196,9 @@ fn answer<S: Shelf, K: AdjustKeeper, O: Sink, L: Ledger>(
     steps: &mut Steps<L>,
 ) -> Result<Option<Stats>, Fault>
     requires chunk { IfSome (option_map (λ q. request_of q.now) asked) HasChunk }
-    ensures { IsAnswered (shelf_change S.holds S.begun S.sound S.faults shelf.old shelf.new)
-        (keeper_change K.lists K.sound K.faults K.calls keeper.old keeper.new)
-        (sink_change O.taken O.sound O.faults O.room out.old out.new)
+    ensures { IsAnswered (shelf_change S.Shelf shelf.old shelf.new)
+        (keeper_change K.AdjustKeeper keeper.old keeper.new)
+        (sink_change O.Sink out.old out.new)
         (change steps.old steps.new) (option_map (λ q. request_of q.now) asked.entry) result }
 {
     match asked {
@@ -150,27 +217,24 @@ fn answer<S: Shelf, K: AdjustKeeper, O: Sink, L: Ledger>(
     }
 }
 
-// Tells how the work ended, and answers its status. What becomes of the line changes nothing.
-fn finish<E: Sink>(
+// Tells the fault or the numbers.
+fn tell_ended<E: Sink>(
     ended: Result<Option<Stats>, Fault>,
     asked: Option<&Request<'_>>,
     err: &mut E,
-) -> u8
-    ensures status { result ≡ judged_status (fault_of ended) }
+)
     ensures told { IsTold E.taken E.faults E.sound E.room err.old err.new
         (judged_line (option_map (λ q. request_of q.now) asked.entry) (fault_of ended)
         ++ line_of_numbers ended) }
     ensures err { LeavesSink E.sound E.faults err.old err.new }
 {
     match ended {
-        Ok(None) => 0,
+        Ok(None) => {}
         Ok(Some(stats)) => {
             let _ = write_stats(err, stats.numbers, stats.applied, stats.present);
-            0
         }
         Err(fault) => {
             let _ = write_line(err, asked, fault);
-            fault.status()
         }
     }
 }

@@ -6,7 +6,8 @@ ghost use Rattle.pl_words.specs.Request.{IsWindow, Windows};
 ghost use Rattle.pl_words.specs.Views.{windows_of};
 ghost use Rattle.pl_load.specs.Views.{unchanged, shelf_change, keeper_change};
 ghost use Rattle.pl_load.specs.Windowed.{HasWindows};
-ghost use Rattle.pl_cli.specs.Commands.{IsAnswered, sink_change, loaded_windows};
+ghost use Rattle.pl_cli.specs.Commands.{IsAnswered, loaded_windows};
+ghost use Rattle.pl_cli.specs.Views.{sink_change};
 
 use crate::commands::Stats;
 use pl_fixed::{Column, Steps};
@@ -31,9 +32,9 @@ pub fn windows_command<S: Shelf, K: AdjustKeeper, O: Sink>(
     requires window { IsWindow (windows_of request.now).window }
     // however many steps were counted
     ensures { (steps : ℕ)
-        → IsAnswered (shelf_change S.holds S.begun S.sound S.faults shelf.old shelf.new)
-        (keeper_change K.lists K.sound K.faults K.calls keeper.old keeper.new)
-        (sink_change O.taken O.sound O.faults O.room out.old out.new) (unchanged steps)
+        → IsAnswered (shelf_change S.Shelf shelf.old shelf.new)
+        (keeper_change K.AdjustKeeper keeper.old keeper.new)
+        (sink_change O.Sink out.old out.new) (unchanged steps)
         (Some (Windows (windows_of request.now))) result }
 {
     let loaded = load_windows(alloc, request, shelf, keeper)?;

@@ -1,6 +1,6 @@
 //! How the program ends.
 
-ghost use Rattle.std.specs.Prelude.{◌≡◌, [], codes};
+ghost use Rattle.std.specs.Prelude.{◌≡◌, []};
 ghost use Rattle.std.specs.Process.{exit_status};
 ghost use Rattle.std.specs.Io.Buffered.{writer_buffer, writer_contents};
 ghost use Rattle.std.specs.Io.KnownBytes.{Keeps};
@@ -26,12 +26,8 @@ pub fn ended<E: Sink>(err: &mut E, why: StartError) -> ExitCode
 }
 
 /// The status after what was gathered for standard output is written, too. A failure of that changes status 0
-/// alone, to 9, and then the line `write` is written to `err`.
-pub fn flushed<W: Write + Drop, E: Sink>(
-    out: &mut Stream<BufWriter<W>>,
-    err: &mut E,
-    status: u8,
-) -> u8
+/// alone, to 9.
+pub fn flushed<W: Write + Drop>(out: &mut Stream<BufWriter<W>>, status: u8) -> u8
     ensures kept { ¬ (status ≡ 0) → result ≡ status }
     ensures well { result ≡ 0 → out.new.faults ≡ out.old.faults }
     ensures failed { ¬ (result ≡ status) → (result ≡ 9) × Rose out.old.faults out.new.faults }
@@ -41,15 +37,8 @@ pub fn flushed<W: Write + Drop, E: Sink>(
     ensures tried { ¬ (Rose out.old.faults out.new.faults) → writer_buffer out.new.to ≡ [] }
     ensures bytes { Keeps (writer_contents W.contents out.old.to) (writer_contents W.contents out.new.to) }
     ensures log { out.new.log.bytes ≡ out.old.log.bytes }
-
-    // A line is written exactly where the status changed.
-    ensures told { ¬ (result ≡ status)
-        → IsTold E.taken E.faults E.sound E.room err.old err.new (codes "write\n") }
-    ensures quiet { result ≡ status → err.new ≡ err.old }
-    ensures err { LeavesSink E.sound E.faults err.old err.new }
 {
     if out.flush().is_err() && status == 0 {
-        let _ = write_bytes(err, b"write\n");
         return 9;
     }
     status

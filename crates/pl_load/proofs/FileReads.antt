@@ -17,6 +17,11 @@ use Rattle.pl_load.specs.Steps.{WorkStep, first_fault}
 use Rattle.pl_load.specs.Work.{cap_of, limit_of, read_step, file_fault, fault_in}
 use Rattle.pl_load.specs.Stages.{IsStop, IsRisen, StopsOutside}
 use Rattle.pl_load.proofs.Steps.{risen-inside}
+use Rattle.pl_outside.specs.Logs as logs
+use Rattle.pl_outside.specs.Reads.{IsGiven}
+use Rattle.pl_outside.specs.declared.reading.ReadError.{ReadError}
+use Rattle.pl_load.specs.Given.{IsCutBy, IsFileCut, IsFileGiven, given_file}
+use Rattle.pl_load.proofs.Given.{file-whole, file-fails, file-cut, cut-long}
 use Rattle.pl_load.specs.Reads.{IsRead, no_rule}
 use Rattle.pl_load.specs.Views.{ShelfView, Change, change, ShelfLeft}
 use Rattle.pl_load.proofs.Calls.{shelf-same, begins-none}
@@ -32,15 +37,15 @@ held-told tells name = λ n is files f. rw (is, f) refl
 -- a stage that fails over a file
 fails-over : {T : Type 0} {c : Change ShelfView} {name : Option (List ℕ)} {steps : Option (List ℕ) → List WorkStep} {Means : Option (List ℕ) → T → Type 0} {fault : Fault} (file : Option (List ℕ))
     → ForSome name (λ n. ForSome c.before.holds (λ files. file ≡ files n)) → IsStop c.before.sound true (steps file) fault
-    → BeginsAll c.before.begun c.after.begun (option_to_list name) → IsRisen (Rose c.before.faults c.after.faults) ⊥ fault → ShelfLeft c → IsRead c name steps Means (Err fault)
-fails-over file told stops begun risen kept =
-    record { file = file; is_told = told; ends = record { passed = tt; stopped = stops }; means = tt; begun = begun; risen = risen; left = kept }
+    → BeginsAll c.before.begun c.after.begun (option_to_list name) → IsFileGiven {T = T} name file c.before.gave c.after.gave (Err fault) → IsRisen (Rose c.before.faults c.after.faults) ⊥ fault → ShelfLeft c → IsRead c name steps Means (Err fault)
+fails-over file told stops begun given risen kept =
+    record { file = file; is_told = told; ends = record { passed = tt; stopped = stops }; means = tt; begun = begun; given = given; risen = risen; left = kept }
 
 module _ {c : Change ShelfView} where
   -- memory may be wanted at any place
   pub wanting : {T : Type 0} (name : List ℕ) (steps : Option (List ℕ) → List WorkStep) (Means : Option (List ℕ) → T → Type 0)
-      → BeginsAll c.before.begun c.after.begun (name ∷ []) → ShelfLeft c → IsRead c (Some name) steps Means (Err Memory)
-  wanting name steps Means begun kept = fails-over {steps = steps} (held_under c.before.holds (Some name)) (held-told c.before.holds (Some name)) (inr tt) begun tt kept
+      → BeginsAll c.before.begun c.after.begun (name ∷ []) → IsFileCut (Some name) c.before.gave c.after.gave Memory → ShelfLeft c → IsRead c (Some name) steps Means (Err Memory)
+  wanting name steps Means begun cut kept = fails-over {steps = steps} (held_under c.before.holds (Some name)) (held-told c.before.holds (Some name)) (inr tt) begun (file-cut cut) tt kept
 
 -- the file isn't there, or a shelf that isn't sound failed
 held-none : (tells : Option Files) (name : List ℕ) → ForSome tells (λ files. files name ≡ None) → held_under tells (Some name) ≡ None
@@ -53,11 +58,30 @@ stop-unread f (Some bytes) sound h = inr (inl refl, λ s. absurd (let e = h s in
 
 pub is-unread : {T : Type 0} {c : Change ShelfView} (f : InputFile) (name : List ℕ) (Means : Option (List ℕ) → T → Type 0)
     → (IsTrue c.before.sound → ForSome c.before.holds (λ files. files name ≡ None))
-    → BeginsAll c.before.begun c.after.begun (name ∷ []) → Rose c.before.faults c.after.faults → ShelfLeft c
+    → BeginsAll c.before.begun c.after.begun (name ∷ []) → IsFileCut (Some name) c.before.gave c.after.gave (Unread f) → Rose c.before.faults c.after.faults → ShelfLeft c
     → IsRead c (Some name) (λ held. read_step f no_rule held ∷ []) Means (Err (Unread f))
-is-unread {c = c} f name Means h begun risen kept =
+is-unread {c = c} f name Means h begun cut risen kept =
     fails-over {steps = λ held. read_step f no_rule held ∷ []} (held_under c.before.holds (Some name)) (held-told c.before.holds (Some name))
-    (stop-unread f (held_under c.before.holds (Some name)) c.before.sound (λ s. held-none c.before.holds name (h s))) begun risen kept
+    (stop-unread f (held_under c.before.holds (Some name)) c.before.sound (λ s. held-none c.before.holds name (h s))) begun (file-cut cut) risen kept
+
+-- ---- what was given of a file
+
+-- all of it
+pub all-given : {old new : List logs.Given} {cap : ℕ} {name : List ℕ} {bytes : Vec ℕ Global} → IsGiven cap old new name (Ok bytes) → new ≡ given_file (Some name) (Some bytes.items) old
+all-given {old = old} {name = name} {bytes = bytes} h = h.added ∙ ap (λ g. g ∷ old) (same h.file.name h.file.bytes h.file.ended h.named h.bytes h.ended)
+  where
+    same : (n bs : List ℕ) (b : Bool) → n ≡ name → bs ≡ bytes.items → b ≡ true
+        → (let one : logs.Given = record { name = n; bytes = bs; ended = b } in let other : logs.Given = record { name = name; bytes = bytes.items; ended = true } in one ≡ other)
+    same n bs b e f g = rw (e, f, g) refl
+
+-- a front of it
+pub front-given : {old new : List logs.Given} {cap : ℕ} {name : List ℕ} {e : ReadError} {fault : Fault} (h : IsGiven cap old new name (Err e)) → IsCutBy fault h.file → IsFileCut (Some name) old new fault
+front-given h cause = record { given = h.file; added = h.added; named = ap (λ n. Some n) (sym h.named); ended = h.ended; cause = cause }
+
+-- one byte more than may be
+pub long-given : {old new : List logs.Given} {name : List ℕ} {e : ReadError} (f : InputFile) (h : IsGiven (cap_of f) old new name (Err e)) → length h.file.bytes ≡ cap_of f + 1
+    → IsFileCut (Some name) old new (Passed (limit_of f))
+long-given f h long = front-given h (cut-long f h.file long)
 
 -- ---- a file that is too long
 
@@ -86,13 +110,13 @@ inside-limit s k limit = tt
 
 pub is-too-long : {T : Type 0} {c : Change ShelfView} (f : InputFile) (name : List ℕ) (Means : Option (List ℕ) → T → Type 0)
     → ForSome c.before.holds (λ files. IsSomeAnd (files name) (λ bytes. cap_of f < length bytes))
-    → BeginsAll c.before.begun c.after.begun (name ∷ []) → ShelfLeft c
+    → BeginsAll c.before.begun c.after.begun (name ∷ []) → IsFileCut (Some name) c.before.gave c.after.gave (Passed (limit_of f)) → ShelfLeft c
     → IsRead c (Some name) (λ held. read_step f no_rule held ∷ []) Means (Err (Passed (limit_of f)))
-is-too-long {c = c} f name Means h begun kept =
+is-too-long {c = c} f name Means h begun cut kept =
     let tells = c.before.holds in
     let long = long-is-one tells name (cap_of f) (omega (arith, length-replicate {A = ℕ} (cap_of f + 1) 0)) h in
     fails-over {steps = λ held. read_step f no_rule held ∷ []} (long_under tells name (cap_of f)) (long-told tells name (cap_of f))
-    (inl (alone _ _ (too-long f (long_under tells name (cap_of f)) long))) begun (inside-limit (Rose c.before.faults c.after.faults) ⊥ (limit_of f)) kept
+    (inl (alone _ _ (too-long f (long_under tells name (cap_of f)) long))) begun (file-cut cut) (inside-limit (Rose c.before.faults c.after.faults) ⊥ (limit_of f)) kept
 
 -- ---- what was read, and its rule
 
@@ -104,15 +128,16 @@ ruled f rule file bytes e h = let t : nat_lt (cap_of f) (length bytes) ≡ false
 
 -- the whole bytes of a file
 pub is-read : {c : Change ShelfView} (f : InputFile) (name : List ℕ) (bytes : Vec ℕ Global) → ForSome c.before.holds (λ files. files name ≡ Some bytes.items)
-    → length bytes.items ≤ cap_of f → BeginsAll c.before.begun c.after.begun (name ∷ []) → ShelfLeft c
+    → length bytes.items ≤ cap_of f → BeginsAll c.before.begun c.after.begun (name ∷ []) → c.after.gave ≡ given_file (Some name) (Some bytes.items) c.before.gave → ShelfLeft c
     → IsRead c (Some name) (λ held. read_step f no_rule held ∷ []) (λ held (b : Vec ℕ Global). held ≡ Some b.items) (Ok bytes)
-is-read {c = c} f name bytes h few begun kept =
+is-read {c = c} f name bytes h few begun given kept =
     record {
       file = Some bytes.items;
       is_told = λ n is files f. let name' : name ≡ n = cc in rw (← name') (sym (h files f));
       ends = record { passed = none-alone _ (ruled f no_rule (Some bytes.items) bytes.items refl few); stopped = tt };
       means = refl;
       begun = begun;
+      given = record { whole = given; up_to = tt };
       risen = tt;
       left = kept;
     }
@@ -129,6 +154,7 @@ read-passes {bytes = bytes} f rule Means x h few passes means =
       ends = record { passed = none-alone _ (ruled f rule h.file bytes.items h.means few ∙ passes); stopped = tt };
       means = rw h.means means;
       begun = h.begun;
+      given = file-whole (Ok x) h.given;
       risen = tt;
       left = h.left;
     }
@@ -140,7 +166,7 @@ pub read-stops : {T : Type 0} {c : Change ShelfView} {name : Option (List ℕ)} 
     → IsRead c name (λ held. read_step f rule held ∷ []) Means (Err fault)
 read-stops {bytes = bytes} f rule Means fault h few stops inside =
     fails-over {steps = λ held. read_step f rule held ∷ []} h.file h.is_told
-    (elim stops [ inl q ↦ inl (alone _ _ (ruled f rule h.file bytes.items h.means few ∙ q)) | inr q ↦ rw q (inr tt) ]) h.begun (risen-inside _ _ fault inside) h.left
+    (elim stops [ inl q ↦ inl (alone _ _ (ruled f rule h.file bytes.items h.means few ∙ q)) | inr q ↦ rw q (inr tt) ]) h.begun (file-whole (Err fault) h.given) (risen-inside _ _ fault inside) h.left
 
 -- no name is given, and no file is read
 pub not-asked : {T : Type 0} {a : ShelfView} {steps : Option (List ℕ) → List WorkStep} {Means : Option (List ℕ) → T → Type 0} {x : T} → steps None ≡ [] → Means None x
@@ -152,6 +178,7 @@ not-asked {a = a} none means =
       ends = record { passed = ap first_fault none; stopped = tt };
       means = means;
       begun = begins-none a.begun;
+      given = record { whole = refl; up_to = tt };
       risen = tt;
       left = shelf-same a;
     }
@@ -182,7 +209,7 @@ pub read-fails : {T : Type 0} {c : Change ShelfView} {name : Option (List ℕ)} 
     → IsRead c name (λ held. read_step f rule held ∷ []) Means (Err fault)
 read-fails {c = c} f rule Means fault h =
     fails-over {steps = λ held. read_step f rule held ∷ []} h.file h.is_told
-    (elim h.ends.stopped [ inl p ↦ inl (other-file f rule h.file fault p) | inr q ↦ inr (outside f rule c.before.sound h.file fault q) ]) h.begun h.risen h.left
+    (elim h.ends.stopped [ inl p ↦ inl (other-file f rule h.file fault p) | inr q ↦ inr (outside f rule c.before.sound h.file fault q) ]) h.begun (file-fails h.given) h.risen h.left
 
 -- the fault that an error of a reader tells
 pub reader-tells : {A R : Type 0} (says : ℕ → R → Fault) (read : Result A (reading.Fault R)) (o : Option (reading.Fault R)) (fault : Fault)

@@ -1,11 +1,12 @@
 -- How the work of a command is put together from its parts.
-use Rattle.std.proofs.Common.{◌≡◌, inr, ℕ, ℤ, Bool, true, false, cond, List, [], ◌∷◌, ◌++◌, Option, Some, None, option_to_list, option_map, Result, Ok, Err, IfOk, IfErr, refl, sym, ap, subst, ◌∙◌}
+use Rattle.std.proofs.Common.{◌≡◌, inl, inr, ℕ, ℤ, Bool, true, false, cond, List, [], ◌∷◌, ◌++◌, Option, Some, None, option_to_list, option_map, Result, Ok, Err, IfOk, IfErr, refl, sym, ap, subst, ◌∙◌}
 use Rattle.std.specs.Option.{ForSome}
 use Rattle.pl_spec.specs.declared.AssetRow.{AssetRow}
 use Rattle.pl_spec.specs.declared.RawAdjust.{RawAdjust}
 use Rattle.pl_outside.specs.Counts.{count_plus}
 use Rattle.pl_outside.specs.Files.{Files, BeginsAll}
 use Rattle.pl_outside.specs.Lists.{Lists}
+use Rattle.pl_outside.specs.Logs as logs
 use Rattle.pl_outside.specs.declared.keeper.Table.{Table}
 use Rattle.pl_words.specs.declared.request.InputFile.{InputFile}
 use Rattle.pl_words.specs.declared.request.InputFile.TheVariants.{Pipeline, Sessions, Assets, Labels, Numbers, Bars, Revisions, Payouts, Derivation}
@@ -13,15 +14,17 @@ use Rattle.pl_words.specs.Request.{Request, name_asked, adjustments_of}
 use Rattle.pl_load.specs.declared.fault.Fault.{Fault}
 use Rattle.pl_load.specs.declared.fault.Fault.TheVariants.{Memory}
 use Rattle.pl_load.specs.Contents.{Contents, AreHeld}
-use Rattle.pl_load.specs.Steps.{Source, WorkStep, reads_in, names_read, tables_read, rule}
-use Rattle.pl_load.specs.Steps.Source.{Input}
-use Rattle.pl_load.specs.Stages.{StageEnds, IsRisen}
+use Rattle.pl_load.specs.Steps.{Reading, WorkStep, reads_in, names_read, tables_read, rule}
+use Rattle.pl_load.specs.Steps.Reading.{Bytes}
+use Rattle.pl_load.specs.Stages.{StageEnds, HasRead, IsRisen}
 use Rattle.pl_load.specs.Held.{script_in}
 use Rattle.pl_load.specs.Work.{read_step, script_rule, syntax_step, pipeline_steps, evaluated_steps, numbers_step, labels_steps, numbers_steps, revisions_steps}
 use Rattle.pl_load.proofs.Steps.{stage-stops, stage-goes_on, stage-done, stage-weaker, stage-over, always}
 use Rattle.pl_load.proofs.StepsRead.{read-stops, read-goes_on, read-all, read-over, front-none, one-read, names-append, tables-append}
 use Rattle.pl_load.specs.Reads.{IsRead, AreLoaded}
-use Rattle.pl_load.specs.Views.{ShelfView, KeeperView, Change, change}
+use Rattle.pl_load.specs.Given.{IsFileGiven, AreGiven, Log}
+use Rattle.pl_load.proofs.Given.{given-whole, given-fails, given-none, given-on, one-given}
+use Rattle.pl_load.specs.Views.{ShelfView, KeeperView, Change, change, log_of}
 use Rattle.pl_load.specs.Loads.{IsLoadOf}
 use Rattle.pl_load.proofs.Calls.{shelf-same, keeper-same, alone-same, begins-none, plus-none, leaves-on, alone-on, begins-on, calls-on, risen-on, risen-by}
 use Rattle.pl_load.proofs.FileReads.{held_under, held-told}
@@ -108,6 +111,7 @@ module _ {a b : ShelfView} {k l : KeeperView} {asked : Option Request} where
         has_read = read-over (sym (same h.held)) (read-stops (more h.held) h.ends h.has_read);
         begun = h.begun;
         calls = h.calls;
+        given = given-fails h.given;
         risen = h.risen;
         shelf_left = h.shelf_left;
         keeper_left = h.keeper_left;
@@ -137,6 +141,7 @@ module _ {a b c : ShelfView} {k l m : KeeperView} {asked : Option Request} where
         has_read = read-over (sym (same h.held r.held h.loaded)) (read-goes_on h.ends h.has_read (record { whole = tt; up_to = r.has_read.up_to }));
         begun = subst (λ xs. BeginsAll a.begun c.begun xs) (sym (names-append (λ file. name_asked asked file) h.reads r.reads)) (begins-on a.begun b.begun c.begun _ _ h.begun r.begun);
         calls = calls-on k.calls l.calls m.calls _ _ h.calls r.calls ∙ ap (count_plus k.calls) (sym (tables-append h.reads r.reads));
+        given = given-on asked h.reads r.reads (log_of a k) (log_of b l) (log_of c m) h.given.whole (Err fault) (given-fails r.given);
         risen = risen-on a.faults b.faults c.faults k.faults l.faults m.faults fault h.shelf_left.later h.keeper_left.later r.risen;
         shelf_left = leaves-on _ _ _ a b c h.shelf_left r.shelf_left;
         keeper_left = leaves-on _ _ _ k l m h.keeper_left r.keeper_left;
@@ -150,7 +155,7 @@ module _ {a b c : ShelfView} {k l m : KeeperView} {asked : Option Request} where
       → (picked : InputFile → Bool) (tables : Bool) → ((f r : Contents) → First f x → steps (joint picked tables f r) ≡ first f ++ rest r)
       → ((f r : Contents) → First f x → Rest r y → Means (joint picked tables f r) z)
       → IsLoadOf (change a c) (change k m) asked steps Means (Ok z)
-  both-done h r picked tables same means =
+  both-done {z = z} h r picked tables same means =
       record {
         held = joint picked tables h.held r.held;
         are_held = are-joint a.holds k.lists asked picked tables h.held r.held h.are_held (held-back h.shelf_left.keeps h.keeper_left.keeps r.are_held);
@@ -160,6 +165,7 @@ module _ {a b c : ShelfView} {k l m : KeeperView} {asked : Option Request} where
         has_read = read-over (sym (same h.held r.held h.loaded)) (read-goes_on h.ends h.has_read (record { whole = r.has_read.whole; up_to = tt }));
         begun = subst (λ xs. BeginsAll a.begun c.begun xs) (sym (names-append (λ file. name_asked asked file) h.reads r.reads)) (begins-on a.begun b.begun c.begun _ _ h.begun r.begun);
         calls = calls-on k.calls l.calls m.calls _ _ h.calls r.calls ∙ ap (count_plus k.calls) (sym (tables-append h.reads r.reads));
+        given = given-on asked h.reads r.reads (log_of a k) (log_of b l) (log_of c m) h.given.whole (Ok z) (given-whole (Ok z) r.given);
         risen = tt;
         shelf_left = leaves-on _ _ _ a b c h.shelf_left r.shelf_left;
         keeper_left = leaves-on _ _ _ k l m h.keeper_left r.keeper_left;
@@ -212,6 +218,7 @@ module _ (a : ShelfView) (k : KeeperView) (asked : Option Request) where
         has_read = read-all r quiet;
         begun = begins-none a.begun;
         calls = plus-none k.calls;
+        given = given-none asked (log_of a k) r;
         risen = risen-by _ _ _ _ r (λ n. absurd n) (λ n. absurd n) risen;
         shelf_left = shelf-same a;
         keeper_left = keeper-same k;
@@ -238,6 +245,7 @@ module _ (a : ShelfView) (k : KeeperView) (asked : Option Request) where
         has_read = record { whole = tt; up_to = front-none _ };
         begun = begins-none a.begun;
         calls = plus-none k.calls;
+        given = given-none asked (log_of a k) (Err Memory);
         risen = tt;
         shelf_left = shelf-same a;
         keeper_left = keeper-same k;
@@ -245,16 +253,29 @@ module _ (a : ShelfView) (k : KeeperView) (asked : Option Request) where
       }
 
 -- what a stage reads that reads a file where it has a name
-abbrev pub inputs : InputFile → Option (List ℕ) → List Source
-inputs f name = option_to_list (option_map (λ n. Input f) name)
+abbrev pub inputs : InputFile → Option (List ℕ) → Option (List ℕ) → List Reading
+inputs f name file = option_to_list (option_map (λ n. Bytes f file) name)
 
-inputs-named : (names : InputFile → Option (List ℕ)) (f : InputFile) (name : Option (List ℕ)) → names f ≡ name → names_read names (inputs f name) ≡ option_to_list name
-inputs-named names f None e = refl
-inputs-named names f (Some n) e = rw e refl
+inputs-named : (names : InputFile → Option (List ℕ)) (f : InputFile) (name file : Option (List ℕ)) → names f ≡ name → names_read names (inputs f name file) ≡ option_to_list name
+inputs-named names f None file e = refl
+inputs-named names f (Some n) file e = rw e refl
 
-no-tables : (f : InputFile) (name : Option (List ℕ)) → tables_read (inputs f name) ≡ 0
-no-tables f None = refl
-no-tables f (Some n) = refl
+no-tables : (f : InputFile) (name file : Option (List ℕ)) → tables_read (inputs f name file) ≡ 0
+no-tables f None file = refl
+no-tables f (Some n) file = refl
+
+same-log : (old new : Log) → new.files ≡ old.files → new.tables ≡ old.tables → new ≡ old
+same-log old new e f = both new.files new.tables e f
+  where
+    both : (files : List logs.Given) (tables : List logs.Loaded) → files ≡ old.files → tables ≡ old.tables → (let log : Log = record { files = files; tables = tables } in log ≡ old)
+    both files tables d t = rw (d, t) refl
+
+inputs-given : {T : Type 0} (asked : Option Request) (f : InputFile) (name file : Option (List ℕ)) (named : name_asked asked f ≡ name) (old new : Log) → new.tables ≡ old.tables
+    → (r : Result T Fault) → IsFileGiven name file old.files new.files r → AreGiven asked (inputs f name file) old new r
+inputs-given asked f (Some n) file named old new same r h = one-given asked f file (Some n) named old new same r h
+inputs-given asked f None file named old new same (Ok x) h = record { whole = same-log old new h.whole same; up_to = tt }
+inputs-given asked f None file named old new same (Err fault) h =
+    record { whole = tt; up_to = elim h.up_to [ inl p ↦ inl (same-log old new p same) | inr q ↦ absurd (let e = q.named in cc) ] }
 
 of-shelf : {T : Type 0} (s k : Bool) (ss : List WorkStep) (r : Result T Fault) → StageEnds s true ss r → StageEnds s k ss r
 of-shelf s k ss (Ok x) h = stage-done h
@@ -266,7 +287,7 @@ of-keeper s k ss (Err f) h = stage-weaker always (λ t. t) h
 
 -- a file was read, or wasn't
 pub file-read : {T : Type 0} {c : Change ShelfView} {steps : Option (List ℕ) → List WorkStep} {Means : Option (List ℕ) → T → Type 0} {name : Option (List ℕ)} {r : Result T Fault}
-    (k : KeeperView) (asked : Option Request) (f : InputFile) → name_asked asked f ≡ name → ((x : Option (List ℕ)) → reads_in (steps x) ≡ inputs f name)
+    (k : KeeperView) (asked : Option Request) (f : InputFile) → name_asked asked f ≡ name → ((x : Option (List ℕ)) → reads_in (steps x) ≡ inputs f name x)
     → IsRead c name steps Means r → IsLoadOf c (change k k) asked (λ held. steps (held.file f)) (λ held. Means (held.file f)) r
 file-read {c = c} {steps = steps} {Means = Means} {name = name} {r = r} k asked f named one h =
     let own : cond (is_file f f) h.file (held_under c.before.holds (name_asked asked f)) ≡ h.file = ap (λ b. cond b h.file (held_under c.before.holds (name_asked asked f))) (itself f) in
@@ -279,10 +300,11 @@ file-read {c = c} {steps = steps} {Means = Means} {name = name} {r = r} k asked 
       };
       ends = subst (λ x. StageEnds c.before.sound k.sound (steps x) r) (sym own) (of-shelf c.before.sound k.sound (steps h.file) r h.ends);
       loaded = subst (λ x. IfOk r (Means x)) (sym own) h.means;
-      reads = inputs f name;
-      has_read = read-all r (one _);
-      begun = subst (λ xs. BeginsAll c.before.begun c.after.begun xs) (sym (inputs-named (λ g. name_asked asked g) f name named)) h.begun;
-      calls = plus-none k.calls ∙ ap (count_plus k.calls) (sym (no-tables f name));
+      reads = inputs f name h.file;
+      has_read = subst (λ x. HasRead (steps x) (inputs f name h.file) r) (sym own) (read-all r (one h.file));
+      begun = subst (λ xs. BeginsAll c.before.begun c.after.begun xs) (sym (inputs-named (λ g. name_asked asked g) f name h.file named)) h.begun;
+      calls = plus-none k.calls ∙ ap (count_plus k.calls) (sym (no-tables f name h.file));
+      given = inputs-given asked f name h.file named (log_of c.before k) (log_of c.after k) refl r h.given;
       risen = risen-by _ _ _ _ r (λ s. s) (λ n. absurd n) h.risen;
       shelf_left = h.left;
       keeper_left = keeper-same k;
@@ -303,6 +325,7 @@ tables-loaded {c = c} {steps = steps} {name = name} {r = r} a asked named h =
       has_read = h.has_read;
       begun = subst (λ xs. BeginsAll a.begun a.begun xs) (sym (h.no_files (λ f. name_asked asked f))) (begins-none a.begun);
       calls = h.calls;
+      given = h.given asked named a.gave;
       risen = risen-by _ _ _ _ r (λ n. absurd n) (λ s. s) h.risen;
       shelf_left = shelf-same a;
       keeper_left = h.left;
@@ -311,24 +334,24 @@ tables-loaded {c = c} {steps = steps} {name = name} {r = r} a asked named h =
 
 -- ---- what single stages read
 
-pub file-one : (f : InputFile) (rule : List ℕ → Option Fault) (x : Option (List ℕ)) → reads_in (read_step f rule x ∷ []) ≡ Input f ∷ []
-file-one f rule x = one-read (read_step f rule x) (Input f) [] refl tt
+pub file-one : (f : InputFile) (rule : List ℕ → Option Fault) (x : Option (List ℕ)) → reads_in (read_step f rule x ∷ []) ≡ Bytes f x ∷ []
+file-one f rule x = one-read (read_step f rule x) (Bytes f x) [] refl tt
 
-pub pipeline-one : (x : Option (List ℕ)) → reads_in (pipeline_steps x) ≡ Input Pipeline ∷ []
-pipeline-one x = one-read (syntax_step x) (Input Pipeline) (rule (script_rule (script_in x)) ∷ []) refl (refl, tt)
+pub pipeline-one : (x : Option (List ℕ)) → reads_in (pipeline_steps x) ≡ Bytes Pipeline x ∷ []
+pipeline-one x = one-read (syntax_step x) (Bytes Pipeline x) (rule (script_rule (script_in x)) ∷ []) refl (refl, tt)
 
-pub evaluated-one : (numbers : Option (List ℕ)) (x : Option (List ℕ)) → reads_in (evaluated_steps x numbers) ≡ Input Pipeline ∷ []
+pub evaluated-one : (numbers : Option (List ℕ)) (x : Option (List ℕ)) → reads_in (evaluated_steps x numbers) ≡ Bytes Pipeline x ∷ []
 evaluated-one numbers x =
-    one-read (syntax_step x) (Input Pipeline) (rule (script_rule (script_in x)) ∷ numbers_step (script_in x) numbers ∷ []) refl (refl, (refl, tt))
+    one-read (syntax_step x) (Bytes Pipeline x) (rule (script_rule (script_in x)) ∷ numbers_step (script_in x) numbers ∷ []) refl (refl, (refl, tt))
 
-pub labels-one : (assets : List AssetRow) (name x : Option (List ℕ)) → reads_in (labels_steps assets name x) ≡ inputs Labels name
+pub labels-one : (assets : List AssetRow) (name x : Option (List ℕ)) → reads_in (labels_steps assets name x) ≡ inputs Labels name x
 labels-one assets None x = refl
 labels-one assets (Some n) x = file-one Labels _ x
 
-pub numbers-one : (assets : List AssetRow) (name x : Option (List ℕ)) → reads_in (numbers_steps assets name x) ≡ inputs Numbers name
+pub numbers-one : (assets : List AssetRow) (name x : Option (List ℕ)) → reads_in (numbers_steps assets name x) ≡ inputs Numbers name x
 numbers-one assets None x = refl
 numbers-one assets (Some n) x = file-one Numbers _ x
 
-pub revisions-one : (days : List ℤ) (assets : List AssetRow) (name x : Option (List ℕ)) → reads_in (revisions_steps days assets name x) ≡ inputs Revisions name
+pub revisions-one : (days : List ℤ) (assets : List AssetRow) (name x : Option (List ℕ)) → reads_in (revisions_steps days assets name x) ≡ inputs Revisions name x
 revisions-one days assets None x = refl
 revisions-one days assets (Some n) x = file-one Revisions _ x

@@ -1,4 +1,5 @@
 pub mod Calls
+pub mod Given
 pub mod FileReads
 pub mod ScriptReads
 pub mod TableReads

@@ -21,6 +21,7 @@ use Rattle.pl_load.specs.Steps.{WorkStep, rule}
 use Rattle.pl_load.specs.Stages.{StageEnds, IsRisen}
 use Rattle.pl_load.proofs.Steps.{always, stage-done, stage-goes_on, stage-over, stage-stops, stage-weaker, risen-inside}
 use Rattle.pl_load.specs.Reads.{IsRead}
+use Rattle.pl_load.proofs.Given.{file-whole, file-fails}
 use Rattle.pl_load.specs.Views.{ShelfView, Change}
 
 -- an error of the parser tells what the text says
@@ -64,6 +65,7 @@ pipeline-read {script = script} said means x h e =
       ends = stage-goes_on h.ends (rules-pass (script_in h.file) (said script) (means x) x h.means e);
       means = pipeline-in h.file (said script) (means x) h.means e;
       begun = h.begun;
+      given = file-whole (Ok x) h.given;
       risen = tt;
       left = h.left;
     }
@@ -80,6 +82,7 @@ no-pipeline {script = script} said Means e fault h fails is inside =
       ends = stage-goes_on h.ends (check-stops (script_in h.file) (said script) e h.means fails);
       means = tt;
       begun = h.begun;
+      given = file-whole (Err (check_error e)) h.given;
       risen = risen-inside _ _ (check_error e) risen;
       left = h.left;
     })
@@ -95,6 +98,7 @@ stopped-before h more same =
       ends = stage-over (sym (same h.file)) (stage-stops (more h.file) h.ends);
       means = tt;
       begun = h.begun;
+      given = file-fails h.given;
       risen = h.risen;
       left = h.left;
     }
@@ -117,6 +121,7 @@ evaluated-read {c = c} {script = script} said means asked x h e judged =
           (stage-done {y = x} (numbers-over (script_in h.file) (said script) asked h.means judged));
       means = pipeline-in h.file (said script) (means x) h.means e;
       begun = h.begun;
+      given = file-whole (Ok x) h.given;
       risen = tt;
       left = h.left;
     }
@@ -134,6 +139,7 @@ no-numbers {c = c} {script = script} said means Means asked x fault h e judged i
           (stage-weaker always (λ t. t) (numbers-over (script_in h.file) (said script) asked h.means judged));
       means = tt;
       begun = h.begun;
+      given = file-whole (Err fault) h.given;
       risen = risen-inside _ _ fault inside;
       left = h.left;
     }

@@ -10,6 +10,7 @@ pub mod Cells
 pub mod Work
 pub mod Range
 pub mod Ends
+pub mod Given
 pub mod Stages
 pub mod Known
 pub mod Views

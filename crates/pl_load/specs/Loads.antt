@@ -15,28 +15,31 @@ use Rattle.pl_load.specs.declared.fault.Fault.{Fault}
 use Rattle.pl_load.specs.Contents.{Contents, AreHeld}
 use Rattle.pl_load.specs.Held.{pipeline_held, days_held, world_held}
 use Rattle.pl_load.specs.Known.{world_known}
-use Rattle.pl_load.specs.Steps.{Source, WorkStep, names_read, tables_read}
+use Rattle.pl_load.specs.Steps.{Reading, WorkStep, names_read, tables_read}
 use Rattle.pl_load.specs.Work.{data_steps, run_work, plan_work}
 use Rattle.pl_load.specs.Planning.{HasRows}
 use Rattle.pl_load.specs.Range.{index_of}
+use Rattle.pl_load.specs.Given.{AreGiven}
 use Rattle.pl_load.specs.Stages.{StageEnds, HasRead, IsRisen}
 use Rattle.pl_load.specs.declared.loading.Loaded.{Loaded}
 use Rattle.pl_load.specs.declared.planning.PlannedPipeline.{PlannedPipeline}
-use Rattle.pl_load.specs.Views.{ShelfView, KeeperView, Change, ShelfLeft, KeeperLeft, KeeperAlone}
+use Rattle.pl_load.specs.Views.{ShelfView, KeeperView, Change, log_of, ShelfLeft, KeeperLeft, KeeperAlone}
 
--- Some part of the work of a command was done. There are contents, those which the parts hold under its names
--- where they tell, over which the steps of that part end so, and of which the value is. What was read is what
--- these steps read, each file and each table once and in their order. The parts are left as parts.
+-- Some part of the work of a command was done. Over these contents the steps of that part end so, and of them
+-- the value is. What was read is what these steps read, each file and each table once and in their order, and
+-- its contents are what was given of the files and loaded of the tables in this call. They are what the parts
+-- hold under the names of the command, where they tell. The parts are left as parts.
 pub record IsLoadOf {T : Type 0} (shelf : Change ShelfView) (keeper : Change KeeperView) (asked : Option Request)
     (steps : Contents → List WorkStep) (Means : Contents → T → Type 0) (result : Result T Fault) : Type 0 where
   pub held : Contents
   pub are_held : AreHeld shelf.before.holds keeper.before.lists asked held
   pub ends : StageEnds shelf.before.sound keeper.before.sound (steps held) result
   pub loaded : IfOk result (Means held)
-  pub reads : List Source
+  pub reads : List Reading
   pub has_read : HasRead (steps held) reads result
   pub begun : BeginsAll shelf.before.begun shelf.after.begun (names_read (λ file. name_asked asked file) reads)
   pub calls : keeper.after.calls ≡ count_plus keeper.before.calls (tables_read reads)
+  pub given : AreGiven asked reads (log_of shelf.before keeper.before) (log_of shelf.after keeper.after) result
   pub risen : IfErr result (IsRisen (Rose shelf.before.faults shelf.after.faults)
       (Rose keeper.before.faults keeper.after.faults))
   pub shelf_left : ShelfLeft shelf

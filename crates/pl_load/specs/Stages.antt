@@ -2,7 +2,7 @@
 use Rattle.std.specs.Prelude.{◌≡◌, ◌⊎◌, Bool, IsTrue, List, ◌++◌, Some, None, Result, OnOk, IfErr, ⊤}
 use Rattle.pl_load.specs.declared.fault.Fault.{Fault}
 use Rattle.pl_load.specs.declared.fault.Fault.TheVariants.{Usage, Unread, Unloaded, Unwritten, Memory}
-use Rattle.pl_load.specs.Steps.{Source, WorkStep, first_fault, reads_in, ReachesRead}
+use Rattle.pl_load.specs.Steps.{Reading, WorkStep, first_fault, reads_in, ReachesRead}
 use Rattle.pl_load.specs.Steps.Source.{Input, Load}
 
 -- What stops the steps from outside: a read that a step before the first fault makes fails, but not over a
@@ -23,19 +23,19 @@ pub record StageEnds {T : Type 0} (shelf keeper : Bool) (steps : List WorkStep) 
   pub stopped : IfErr result (IsStop shelf keeper steps)
 
 -- the one list begins with the other
-abbrev pub IsFront : List Source → List Source → Type 0
-IsFront front all = (left : List Source) × (front ++ left ≡ all)
+abbrev pub IsFront : List Reading → List Reading → Type 0
+IsFront front all = (left : List Reading) × (front ++ left ≡ all)
 
 -- What was read where the steps stop with this fault: all that they read up to it, and some of that from the
 -- front where a read failed or memory was wanted.
-abbrev pub IsReadUpTo : List WorkStep → List Source → Fault → Type 0
+abbrev pub IsReadUpTo : List WorkStep → List Reading → Fault → Type 0
 IsReadUpTo steps reads (Unread file) = IsFront reads (reads_in steps)
 IsReadUpTo steps reads (Unloaded table) = IsFront reads (reads_in steps)
 IsReadUpTo steps reads Memory = IsFront reads (reads_in steps)
 IsReadUpTo steps reads fault = reads ≡ reads_in steps
 
 -- what a stage has read, which ends so
-pub record HasRead {T : Type 0} (steps : List WorkStep) (reads : List Source) (result : Result T Fault) : Type 0 where
+pub record HasRead {T : Type 0} (steps : List WorkStep) (reads : List Reading) (result : Result T Fault) : Type 0 where
   pub whole : OnOk result (reads ≡ reads_in steps)
   pub up_to : IfErr result (IsReadUpTo steps reads)
 

@@ -2,18 +2,24 @@
 use Rattle.std.specs.Prelude.{ℕ, Bool, List, Option}
 use Rattle.pl_outside.specs.Files.{Files}
 use Rattle.pl_outside.specs.Lists.{Lists}
+use Rattle.pl_outside.specs.Logs as logs
+use Rattle.pl_load.specs.Given.{Log}
+use Rattle.pl_outside.specs.declared.shelf.Shelf as shelves
+use Rattle.pl_outside.specs.declared.keeper.AdjustKeeper as keepers
 use Rattle.pl_outside.specs.Left.{Leaves, IsUntouched}
 
--- what it holds and which names were begun, where it tells, whether it is sound, and its faults
+-- what it holds and which names were begun, where it tells, what it gave, whether it is sound, and its faults
 pub record ShelfView : Type 0 where
   pub holds : Option Files
   pub begun : Option (List (List ℕ))
+  pub gave : List logs.Given
   pub sound : Bool
   pub faults : ℕ
 
--- its lists, where it tells, whether it is sound, its faults and its calls
+-- its lists, where it tells, what it loaded, whether it is sound, its faults and its calls
 pub record KeeperView : Type 0 where
   pub lists : Option Lists
+  pub loaded : List logs.Loaded
   pub sound : Bool
   pub faults : ℕ
   pub calls : ℕ
@@ -29,24 +35,32 @@ change before after = record { before = before; after = after }
 abbrev pub unchanged : {A : Type 0} → A → Change A
 unchanged view = change view view
 
-abbrev pub shelf_view : {S : Type 0} (holds : S → Option Files) (begun : S → Option (List (List ℕ))) (sound : S → Bool) (faults : S → ℕ)
-    → S → ShelfView
-shelf_view holds begun sound faults shelf =
-    record { holds = holds shelf; begun = begun shelf; sound = sound shelf; faults = faults shelf }
+abbrev pub shelf_view : {S : Type 0} → shelves.Ghosts S → S → ShelfView
+shelf_view members shelf =
+    record {
+      holds = members.holds shelf;
+      begun = members.begun shelf;
+      gave = members.gave shelf;
+      sound = members.sound shelf;
+      faults = members.faults shelf;
+    }
 
-abbrev pub keeper_view : {K : Type 0} (lists : K → Option Lists) (sound : K → Bool) (faults calls : K → ℕ) → K → KeeperView
-keeper_view lists sound faults calls keeper =
-    record { lists = lists keeper; sound = sound keeper; faults = faults keeper; calls = calls keeper }
+abbrev pub keeper_view : {K : Type 0} → keepers.Ghosts K → K → KeeperView
+keeper_view members keeper =
+    record {
+      lists = members.lists keeper;
+      loaded = members.loaded keeper;
+      sound = members.sound keeper;
+      faults = members.faults keeper;
+      calls = members.calls keeper;
+    }
 
-abbrev pub shelf_change : {S : Type 0} (holds : S → Option Files) (begun : S → Option (List (List ℕ))) (sound : S → Bool)
-    (faults : S → ℕ) → S → S → Change ShelfView
-shelf_change holds begun sound faults old new =
-    change (shelf_view holds begun sound faults old) (shelf_view holds begun sound faults new)
+-- by the members of their traits
+abbrev pub shelf_change : {S : Type 0} → shelves.Ghosts S → S → S → Change ShelfView
+shelf_change members old new = change (shelf_view members old) (shelf_view members new)
 
-abbrev pub keeper_change : {K : Type 0} (lists : K → Option Lists) (sound : K → Bool) (faults calls : K → ℕ)
-    → K → K → Change KeeperView
-keeper_change lists sound faults calls old new =
-    change (keeper_view lists sound faults calls old) (keeper_view lists sound faults calls new)
+abbrev pub keeper_change : {K : Type 0} → keepers.Ghosts K → K → K → Change KeeperView
+keeper_change members old new = change (keeper_view members old) (keeper_view members new)
 
 -- they are left as parts, and a keeper may be left alone
 abbrev pub ShelfLeft : Change ShelfView → Type 0
@@ -57,3 +71,7 @@ KeeperLeft c = Leaves (λ (v : KeeperView). v.lists) (λ v. v.sound) (λ v. v.fa
 
 abbrev pub KeeperAlone : Change KeeperView → Type 0
 KeeperAlone c = IsUntouched (λ (v : KeeperView). v.faults) (λ v. v.calls) c.before c.after
+
+-- what both gave and loaded
+abbrev pub log_of : ShelfView → KeeperView → Log
+log_of shelf keeper = record { files = shelf.gave; tables = keeper.loaded }

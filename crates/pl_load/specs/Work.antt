@@ -35,7 +35,7 @@ use Rattle.pl_load.specs.Contents.{Contents}
 use Rattle.pl_load.specs.Rules.{syntax_fault, rule_fault, sessions_fault, assets_fault, labels_fault, numbers_fault, bars_fault, revisions_fault, payouts_fault, lines_fault, rows_fault}
 use Rattle.pl_load.specs.Held.{script_in, pipeline_held, days_held, assets_held, world_held, adjustments_of_rows}
 use Rattle.pl_load.specs.Steps.{WorkStep, rule}
-use Rattle.pl_load.specs.Steps.Source.{Input, Load}
+use Rattle.pl_load.specs.Steps.Reading.{Bytes, Rows}
 use Rattle.pl_load.specs.Range.{range_steps, windows_steps}
 use Rattle.pl_load.specs.Cells.{cell_steps, lines_step}
 
@@ -55,7 +55,7 @@ file_fault file rule None = Some (Unread file)
 file_fault file rule (Some bytes) = if nat_lt (cap_of file) (length bytes) then Some (Passed (limit_of file)) else rule bytes
 
 abbrev pub read_step : InputFile → (List ℕ → Option Fault) → Option (List ℕ) → WorkStep
-read_step file rule bytes = record { reads = Some (Input file); fault = file_fault file rule bytes }
+read_step file rule bytes = record { reads = Some (Bytes file bytes); fault = file_fault file rule bytes }
 
 -- ---- the rules of the bytes of files, of a script, of a pipeline and of the rows of three tables
 
@@ -150,14 +150,14 @@ abbrev pub numbers_steps : List AssetRow → Option (List ℕ) → Option (List 
 numbers_steps assets None file = []
 numbers_steps assets (Some name) file = read_step Numbers (numbers_rule assets) file ∷ []
 
-abbrev pub load_step : Table → WorkStep
-load_step table = record { reads = Some (Load table); fault = None }
+abbrev pub load_step : (Table → List RawAdjust) → Table → WorkStep
+load_step rows table = record { reads = Some (Rows table (rows table)); fault = None }
 
 -- where a name is asked for, the three tables are loaded, and then their rows are judged
 abbrev pub adjustments_steps : List AssetRow → Option (List ℕ) → (Table → List RawAdjust) → List WorkStep
 adjustments_steps assets None rows = []
 adjustments_steps assets (Some name) rows =
-    load_step Splits ∷ load_step Mergers ∷ load_step Dividends ∷ rule (rows_rule assets rows) ∷ []
+    load_step rows Splits ∷ load_step rows Mergers ∷ load_step rows Dividends ∷ rule (rows_rule assets rows) ∷ []
 
 -- a revisions file is read where its name is asked for
 abbrev pub revisions_steps : List ℤ → List AssetRow → Option (List ℕ) → Option (List ℕ) → List WorkStep

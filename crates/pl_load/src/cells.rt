@@ -41,8 +41,8 @@ pub fn load_cell<S: Shelf, K: AdjustKeeper>(
     shelf: &mut S,
     keeper: &mut K,
 ) -> Result<LoadedCell, Fault>
-    ensures load { IsCellLoad (shelf_change S.holds S.begun S.sound S.faults shelf.old shelf.new)
-        (keeper_change K.lists K.sound K.faults K.calls keeper.old keeper.new)
+    ensures load { IsCellLoad (shelf_change S.Shelf shelf.old shelf.new)
+        (keeper_change K.AdjustKeeper keeper.old keeper.new)
         (explain_of request.now) result }
     ensures explainable { IfOk result IsExplainable }
 {

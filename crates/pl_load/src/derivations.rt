@@ -43,8 +43,8 @@ pub fn load_derivation<S: Shelf, K: AdjustKeeper>(
     shelf: &mut S,
     keeper: &mut K,
 ) -> Result<LoadedDerivation, Fault>
-    ensures load { IsDerivationLoad (shelf_change S.holds S.begun S.sound S.faults shelf.old shelf.new)
-        (keeper_change K.lists K.sound K.faults K.calls keeper.old keeper.new)
+    ensures load { IsDerivationLoad (shelf_change S.Shelf shelf.old shelf.new)
+        (keeper_change K.AdjustKeeper keeper.old keeper.new)
         (verify_of request.now) result }
     ensures made { IfOk result (λ l. IsOwnedMade l.world) }
 {

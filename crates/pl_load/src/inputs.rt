@@ -34,7 +34,7 @@ fn read_input<S: Shelf>(
     name: &str,
     file: InputFile,
 ) -> Result<Vec<u8>, Fault>
-    ensures read { IsRead (shelf_change S.holds S.begun S.sound S.faults shelf.old shelf.new)
+    ensures read { IsRead (shelf_change S.Shelf shelf.old shelf.new)
         (Some name.now)
         (λ held. read_step file no_rule held ∷ [])
         (λ held bytes. held ≡ Some bytes.items) result }
@@ -51,7 +51,7 @@ fn read_input<S: Shelf>(
 /// The script of the pipeline file of that name. The fault is that the shelf refused it, it is too long, or
 /// it has a fault of syntax; or want of memory.
 pub fn read_script<S: Shelf>(alloc: Global, shelf: &mut S, name: &str) -> Result<Script, Fault>
-    ensures { IsRead (shelf_change S.holds S.begun S.sound S.faults shelf.old shelf.new)
+    ensures { IsRead (shelf_change S.Shelf shelf.old shelf.new)
         (Some name.now)
         (λ held. syntax_step held ∷ [])
         (λ held script. script_in held ≡ parsed script) result }
@@ -63,7 +63,7 @@ pub fn read_script<S: Shelf>(alloc: Global, shelf: &mut S, name: &str) -> Result
 /// The pipeline that the pipeline file of that name means. The fault is that the shelf refused it, it is too
 /// long, has a fault of syntax, or breaks a rule of the language; or want of memory.
 pub fn read_checked<S: Shelf>(alloc: Global, shelf: &mut S, name: &str) -> Result<Checked, Fault>
-    ensures { IsRead (shelf_change S.holds S.begun S.sound S.faults shelf.old shelf.new)
+    ensures { IsRead (shelf_change S.Shelf shelf.old shelf.new)
         (Some name.now) pipeline_steps
         (λ held checked. pipeline_in held ≡ pipeline_of checked) result }
 {
@@ -80,7 +80,7 @@ pub fn read_evaluated<S: Shelf>(
     numbers: Option<&str>,
 ) -> Result<Checked, Fault>
     ensures { let asked = option_map (λ n. n.now) numbers.entry in
-        IsRead (shelf_change S.holds S.begun S.sound S.faults shelf.old shelf.new)
+        IsRead (shelf_change S.Shelf shelf.old shelf.new)
         (Some name.now) (λ held. evaluated_steps held asked)
         (λ held checked. pipeline_in held ≡ pipeline_of checked) result }
 {
@@ -93,7 +93,7 @@ pub fn read_evaluated<S: Shelf>(
 /// The sessions of the sessions file of that name. The fault is that the shelf refused it, it is too long, or
 /// it has a faulty record; or want of memory. So it is with each further file.
 pub fn read_sessions<S: Shelf>(alloc: Global, shelf: &mut S, name: &str) -> Result<Sessions, Fault>
-    ensures { IsRead (shelf_change S.holds S.begun S.sound S.faults shelf.old shelf.new)
+    ensures { IsRead (shelf_change S.Shelf shelf.old shelf.new)
         (Some name.now)
         (λ held. read_step files.Sessions sessions_rule held ∷ [])
         (λ held sessions. days_in held ≡ sessions) result }
@@ -104,7 +104,7 @@ pub fn read_sessions<S: Shelf>(alloc: Global, shelf: &mut S, name: &str) -> Resu
 
 /// The assets of the assets file of that name.
 pub fn read_assets<S: Shelf>(alloc: Global, shelf: &mut S, name: &str) -> Result<Assets, Fault>
-    ensures { IsRead (shelf_change S.holds S.begun S.sound S.faults shelf.old shelf.new)
+    ensures { IsRead (shelf_change S.Shelf shelf.old shelf.new)
         (Some name.now)
         (λ held. read_step files.Assets assets_rule held ∷ [])
         (λ held assets. assets_in held ≡ assets) result }
@@ -122,7 +122,7 @@ pub fn read_labels<S: Shelf>(
     assets: &Assets,
 ) -> Result<Labels, Fault>
     ensures read { let asked = option_map (λ n. n.now) name.entry in
-        IsRead (shelf_change S.holds S.begun S.sound S.faults shelf.old shelf.new)
+        IsRead (shelf_change S.Shelf shelf.old shelf.new)
         asked (labels_steps assets.now asked)
         (λ held labels. labels_asked assets.now asked held ≡ labels) result }
     ensures cols { IfOk result (λ labels. All (λ r. r.col < length assets.now) labels.rows) }
@@ -145,7 +145,7 @@ pub fn read_numbers<S: Shelf>(
     assets: &Assets,
 ) -> Result<Numbers, Fault>
     ensures read { let asked = option_map (λ n. n.now) name.entry in
-        IsRead (shelf_change S.holds S.begun S.sound S.faults shelf.old shelf.new)
+        IsRead (shelf_change S.Shelf shelf.old shelf.new)
         asked (numbers_steps assets.now asked)
         (λ held numbers. numbers_asked assets.now asked held ≡ numbers.rows) result }
     ensures cols { IfOk result (λ numbers. All (λ r. r.col < length assets.now) numbers.rows) }
@@ -167,7 +167,7 @@ pub fn read_bars<S: Shelf>(
     sessions: &Sessions,
     assets: &Assets,
 ) -> Result<Bars, Fault>
-    ensures read { IsRead (shelf_change S.holds S.begun S.sound S.faults shelf.old shelf.new)
+    ensures read { IsRead (shelf_change S.Shelf shelf.old shelf.new)
         (Some name.now)
         (λ held. read_step files.Bars (bars_rule sessions.now assets.now) held ∷ [])
         (λ held bars. bars_in sessions.now assets.now held ≡ bars) result }
@@ -189,7 +189,7 @@ pub fn read_revisions<S: Shelf>(
     mut adjustments: Adjustments,
 ) -> Result<Adjustments, Fault>
     ensures read { let asked = option_map (λ n. n.now) name.entry in
-        IsRead (shelf_change S.holds S.begun S.sound S.faults shelf.old shelf.new)
+        IsRead (shelf_change S.Shelf shelf.old shelf.new)
         asked (revisions_steps sessions.now assets.now asked)
         (λ held revised. revised_asked sessions.now assets.now adjustments asked held ≡ revised) result }
     ensures cols { All (λ x. x.col < length assets.now) adjustments
@@ -212,7 +212,7 @@ pub fn read_payouts<S: Shelf>(
     name: &str,
     assets: &Assets,
 ) -> Result<Payouts, Fault>
-    ensures read { IsRead (shelf_change S.holds S.begun S.sound S.faults shelf.old shelf.new)
+    ensures read { IsRead (shelf_change S.Shelf shelf.old shelf.new)
         (Some name.now)
         (λ held. read_step files.Payouts (payouts_rule assets.now) held ∷ [])
         (λ held payouts. payouts_in assets.now held ≡ payouts) result }
@@ -228,7 +228,7 @@ pub fn read_derivation<S: Shelf>(
     shelf: &mut S,
     name: &str,
 ) -> Result<Derivation, Fault>
-    ensures { IsRead (shelf_change S.holds S.begun S.sound S.faults shelf.old shelf.new)
+    ensures { IsRead (shelf_change S.Shelf shelf.old shelf.new)
         (Some name.now)
         (λ held. derivation_step held ∷ [])
         (λ held lines. derivation_in held ≡ lines) result }

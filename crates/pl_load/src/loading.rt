@@ -74,8 +74,8 @@ pub fn load<S: Shelf, K: AdjustKeeper>(
     shelf: &mut S,
     keeper: &mut K,
 ) -> Result<Loaded, Fault>
-    ensures load { IsLoad (shelf_change S.holds S.begun S.sound S.faults shelf.old shelf.new)
-        (keeper_change K.lists K.sound K.faults K.calls keeper.old keeper.new)
+    ensures load { IsLoad (shelf_change S.Shelf shelf.old shelf.new)
+        (keeper_change K.AdjustKeeper keeper.old keeper.new)
         (run_of request.now) result }
     ensures ready { IfOk result IsReadyRun }
 {
@@ -97,8 +97,8 @@ fn load_world<S: Shelf, K: AdjustKeeper>(
     shelf: &mut S,
     keeper: &mut K,
 ) -> Result<PlannedWorld, Fault>
-    ensures load { IsWorldLoad (shelf_change S.holds S.begun S.sound S.faults shelf.old shelf.new)
-        (keeper_change K.lists K.sound K.faults K.calls keeper.old keeper.new)
+    ensures load { IsWorldLoad (shelf_change S.Shelf shelf.old shelf.new)
+        (keeper_change K.AdjustKeeper keeper.old keeper.new)
         (run_of request.now) (pipeline_of checked.now) result }
     ensures made { IfOk result (λ w. IsOwnedMade w.world) }
     ensures plan { IfOk result (λ w. IsPlanOf w.world.sessions (pipeline_of checked.now) w.plan) }
@@ -140,8 +140,8 @@ pub(crate) fn read_world<S: Shelf, K: AdjustKeeper>(
     shelf: &mut S,
     keeper: &mut K,
 ) -> Result<OwnedWorld, Fault>
-    ensures data { IsData (shelf_change S.holds S.begun S.sound S.faults shelf.old shelf.new)
-        (keeper_change K.lists K.sound K.faults K.calls keeper.old keeper.new)
+    ensures data { IsData (shelf_change S.Shelf shelf.old shelf.new)
+        (keeper_change K.AdjustKeeper keeper.old keeper.new)
         (world_names_of names.now) result }
     ensures made { IfOk result IsOwnedMade }
 {
@@ -173,8 +173,8 @@ fn read_rows<S: Shelf, K: AdjustKeeper>(
     shelf: &mut S,
     keeper: &mut K,
 ) -> Result<WorldRows, Fault>
-    ensures rows { IsRowsLoad (shelf_change S.holds S.begun S.sound S.faults shelf.old shelf.new)
-        (keeper_change K.lists K.sound K.faults K.calls keeper.old keeper.new)
+    ensures rows { IsRowsLoad (shelf_change S.Shelf shelf.old shelf.new)
+        (keeper_change K.AdjustKeeper keeper.old keeper.new)
         (world_names_of names.now) sessions.now assets.now result }
     ensures made { IfOk result (λ r.
         AreMadeFor sessions.now assets.now r.labels.rows r.bars r.adjustments r.numbers.rows) }
@@ -200,8 +200,8 @@ fn read_revised<S: Shelf, K: AdjustKeeper>(
     shelf: &mut S,
     keeper: &mut K,
 ) -> Result<Adjustments, Fault>
-    ensures revised { IsRevisedLoad (shelf_change S.holds S.begun S.sound S.faults shelf.old shelf.new)
-        (keeper_change K.lists K.sound K.faults K.calls keeper.old keeper.new)
+    ensures revised { IsRevisedLoad (shelf_change S.Shelf shelf.old shelf.new)
+        (keeper_change K.AdjustKeeper keeper.old keeper.new)
         (world_names_of names.now) sessions.now assets.now result }
     ensures cols { IfOk result (All (λ x. x.col < length assets.now)) }
 {

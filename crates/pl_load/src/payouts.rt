@@ -44,7 +44,7 @@ pub fn load_payouts<S: Shelf>(
 ) -> Result<LoadedPayouts, Fault>
     // whatever a keeper tells
     ensures load { (keeper : KeeperView)
-        → IsPayoutsLoad (shelf_change S.holds S.begun S.sound S.faults shelf.old shelf.new)
+        → IsPayoutsLoad (shelf_change S.Shelf shelf.old shelf.new)
         (unchanged keeper) (payouts_of request.now) result }
     ensures payable { IfOk result IsPayable }
 {

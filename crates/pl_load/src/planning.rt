@@ -40,7 +40,7 @@ pub fn load_plan<S: Shelf>(
 ) -> Result<PlannedPipeline, Fault>
     // whatever a keeper tells
     ensures { (keeper : KeeperView)
-        → IsPlanLoad (shelf_change S.holds S.begun S.sound S.faults shelf.old shelf.new)
+        → IsPlanLoad (shelf_change S.Shelf shelf.old shelf.new)
         (unchanged keeper) (plan_of request.now) result }
 {
     let checked = read_checked(alloc, shelf, request.pipeline)?;
@@ -56,7 +56,7 @@ fn plan_for<S: Shelf>(
     shelf: &mut S,
 ) -> Result<Plan, Fault>
     ensures { (keeper : KeeperView)
-        → IsPlanFor (shelf_change S.holds S.begun S.sound S.faults shelf.old shelf.new)
+        → IsPlanFor (shelf_change S.Shelf shelf.old shelf.new)
         (unchanged keeper) (plan_of request.now) (pipeline_of checked.now) result }
 {
     let sessions = read_sessions(alloc, shelf, request.sessions)?;

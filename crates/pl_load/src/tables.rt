@@ -1,8 +1,9 @@
 //! The adjustments of the keeper.
 
-ghost use Rattle.std.specs.Prelude.{◌≡◌, ◌<◌, length, All, IfOk, IfErr, option_map};
+ghost use Rattle.std.specs.Prelude.{◌≡◌, ◌<◌, Some, length, All, IfOk, IfErr, OnErr, option_map};
 ghost use Rattle.std.specs.Option.{ForSome};
 ghost use Rattle.pl_outside.specs.Counts.{Rose, count_plus};
+ghost use Rattle.pl_load.specs.Given.{loaded_table};
 ghost use Rattle.pl_load.specs.Held.{adjustments_asked};
 ghost use Rattle.pl_load.specs.Work.{adjustments_steps};
 ghost use Rattle.pl_load.specs.Views.{KeeperLeft, keeper_change};
@@ -24,7 +25,7 @@ pub fn read_adjustments<K: AdjustKeeper>(
     assets: &Assets,
 ) -> Result<Adjustments, Fault>
     ensures read { let asked = option_map (λ n. n.now) name.entry in
-        AreLoaded (keeper_change K.lists K.sound K.faults K.calls keeper.old keeper.new) asked
+        AreLoaded (keeper_change K.AdjustKeeper keeper.old keeper.new) asked
         (adjustments_steps assets.now asked)
         (λ rows adjustments. adjustments_asked assets.now asked rows ≡ adjustments) result }
     ensures cols { IfOk result (All (λ x. x.col < length assets.now)) }
@@ -49,10 +50,13 @@ fn load_table<K: AdjustKeeper>(
 ) -> Result<Vec<RawAdjust>, Fault>
     ensures rows { ForSome (K.lists keeper.old)
         (λ lists. IfOk result (λ rows. rows.items ≡ lists name.now table)) }
+    ensures loaded { IfOk result (λ rows. K.loaded keeper.new
+        ≡ loaded_table (Some name.now) table rows.items (K.loaded keeper.old)) }
+    ensures kept { OnErr result (K.loaded keeper.new ≡ K.loaded keeper.old) }
     ensures unloaded { IfErr result (IsUnloaded (K.sound keeper.old)
         (Rose (K.faults keeper.old) (K.faults keeper.new)) table) }
     ensures call { K.calls keeper.new ≡ count_plus (K.calls keeper.old) 1 }
-    ensures leaves { KeeperLeft (keeper_change K.lists K.sound K.faults K.calls keeper.old keeper.new) }
+    ensures leaves { KeeperLeft (keeper_change K.AdjustKeeper keeper.old keeper.new) }
 {
     let mut rows = Vec::new(alloc);
     match keeper.load(alloc, name, table, &mut rows) {

@@ -43,8 +43,8 @@ pub fn load_windows<S: Shelf, K: AdjustKeeper>(
     shelf: &mut S,
     keeper: &mut K,
 ) -> Result<LoadedWindows, Fault>
-    ensures load { IsWindowsLoad (shelf_change S.holds S.begun S.sound S.faults shelf.old shelf.new)
-        (keeper_change K.lists K.sound K.faults K.calls keeper.old keeper.new)
+    ensures load { IsWindowsLoad (shelf_change S.Shelf shelf.old shelf.new)
+        (keeper_change K.AdjustKeeper keeper.old keeper.new)
         (windows_of request.now) result }
     ensures ready { IfOk result (HasWindows request.now.window) }
 {

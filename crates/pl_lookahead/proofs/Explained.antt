@@ -181,7 +181,7 @@ later-data-change-no-derivation = record {
   texts = texts-same;
   runs = λ o p q r d day line other_line numbers other_numbers ask first second agree codes. (
     text_of second.held (Some (Explain r)),
-    first.text refl ∙ ap (λ t. option_map (λ front. front ++ t) o.taken)
+    first.text refl ∙ ap (λ t. option_map (λ front. front ++ t) o.out.before.taken)
         (texts-same first.held second.held q r d day ask agree codes (ended-well (work first.held (Some (Explain q))) (Some (Explain q)) line first.ends)
         (ended-well (work second.held (Some (Explain r))) (Some (Explain r)) other_line second.ends)),
     second.text refl,

@@ -6,6 +6,7 @@ pub mod Readable
 pub mod Held
 pub mod Texts
 pub mod Same
+pub mod Input
 pub mod OwnDays
 pub mod Records
 pub mod Derivations

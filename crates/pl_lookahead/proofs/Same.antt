@@ -25,16 +25,15 @@ use Rattle.pl_lookahead.proofs.Texts.{asked-text}
 
 -- ---- worlds of the same files
 
--- the files and tables of a run are the same in both contents, where they are asked for
-record SameFiles (one other : Contents) (q : RunRequest) : Type 0 where
-  pub pipeline : one.file PipelineFile ≡ other.file PipelineFile
+-- the files and tables of a world are the same in both contents, where they are asked for
+pub record SameWorld (one other : Contents) (q : WorldNames) : Type 0 where
   pub sessions : one.file Sessions ≡ other.file Sessions
   pub assets : one.file Assets ≡ other.file Assets
   pub bars : one.file Bars ≡ other.file Bars
-  pub labels : ForSome q.world.labels (λ n. one.file Labels ≡ other.file Labels)
-  pub numbers : ForSome q.world.numbers (λ n. one.file Numbers ≡ other.file Numbers)
-  pub tables : ForSome q.world.adjustments (λ n. one.rows ≡ other.rows)
-  pub revisions : ForSome q.world.revisions (λ n. one.file Revisions ≡ other.file Revisions)
+  pub labels : ForSome q.labels (λ n. one.file Labels ≡ other.file Labels)
+  pub numbers : ForSome q.numbers (λ n. one.file Numbers ≡ other.file Numbers)
+  pub tables : ForSome q.adjustments (λ n. one.rows ≡ other.rows)
+  pub revisions : ForSome q.revisions (λ n. one.file Revisions ≡ other.file Revisions)
 
 module _ (assets : List AssetRow) where
   labels-same : (name f g : Option (List ℕ)) → ForSome name (λ n. f ≡ g) → labels_asked assets name f ≡ labels_asked assets name g
@@ -54,7 +53,7 @@ module _ (assets : List AssetRow) where
   revisions-same days xs None f g h = refl
   revisions-same days xs (Some n) f g h = ap (revised_asked days assets xs (Some n)) (h n refl)
 
-module _ (one other : Contents) (q : RunRequest) (same : SameFiles one other q) where
+module _ (one other : Contents) (q : WorldNames) (same : SameWorld one other q) where
   abbrev made : List ℤ → List AssetRow → Option (List ℕ) → LabelTable → List ColumnAdjustment → List ColumnNumber → World
   made days assets bars labels adjustments numbers = world_of days assets labels.rows labels.texts (bars_in days assets bars) adjustments numbers
 
@@ -67,37 +66,42 @@ module _ (one other : Contents) (q : RunRequest) (same : SameFiles one other q) 
 
   abbrev over : List ℤ → List AssetRow → World
   over days assets =
-      made days assets (one.file Bars) (labels_asked assets q.world.labels (one.file Labels))
-      (revised_asked days assets (adjustments_asked assets q.world.adjustments one.rows) q.world.revisions (one.file Revisions))
-      (numbers_asked assets q.world.numbers (one.file Numbers))
+      made days assets (one.file Bars) (labels_asked assets q.labels (one.file Labels))
+      (revised_asked days assets (adjustments_asked assets q.adjustments one.rows) q.revisions (one.file Revisions))
+      (numbers_asked assets q.numbers (one.file Numbers))
 
-  world-same : world_held one q.world ≡ world_held other q.world
+  pub world-same : world_held one q ≡ world_held other q
   world-same =
       ap (λ f. over (days_in f) (assets_held one)) same.sessions
       ∙ ap (λ f. over days (assets_in f)) same.assets
-      ∙ ap (λ f. made days assets f (labels_asked assets q.world.labels (one.file Labels))
-      (revised_asked days assets (adjustments_asked assets q.world.adjustments one.rows) q.world.revisions (one.file Revisions))
-      (numbers_asked assets q.world.numbers (one.file Numbers))) same.bars
+      ∙ ap (λ f. made days assets f (labels_asked assets q.labels (one.file Labels))
+      (revised_asked days assets (adjustments_asked assets q.adjustments one.rows) q.revisions (one.file Revisions))
+      (numbers_asked assets q.numbers (one.file Numbers))) same.bars
       ∙ ap (λ l. made days assets (other.file Bars) l
-      (revised_asked days assets (adjustments_asked assets q.world.adjustments one.rows) q.world.revisions (one.file Revisions))
-      (numbers_asked assets q.world.numbers (one.file Numbers))) (labels-same assets q.world.labels (one.file Labels) (other.file Labels) same.labels)
-      ∙ ap (λ xs. made days assets (other.file Bars) (labels_asked assets q.world.labels (other.file Labels))
-      (revised_asked days assets xs q.world.revisions (one.file Revisions))
-      (numbers_asked assets q.world.numbers (one.file Numbers))) (tables-same assets q.world.adjustments one.rows other.rows same.tables)
-      ∙ ap (λ xs. made days assets (other.file Bars) (labels_asked assets q.world.labels (other.file Labels)) xs (numbers_asked assets q.world.numbers (one.file Numbers)))
-      (revisions-same assets days (adjustments_asked assets q.world.adjustments other.rows) q.world.revisions (one.file Revisions) (other.file Revisions) same.revisions)
-      ∙ ap (λ ns. made days assets (other.file Bars) (labels_asked assets q.world.labels (other.file Labels))
-      (revised_asked days assets (adjustments_asked assets q.world.adjustments other.rows) q.world.revisions (other.file Revisions)) ns)
-      (numbers-same assets q.world.numbers (one.file Numbers) (other.file Numbers) same.numbers)
+      (revised_asked days assets (adjustments_asked assets q.adjustments one.rows) q.revisions (one.file Revisions))
+      (numbers_asked assets q.numbers (one.file Numbers))) (labels-same assets q.labels (one.file Labels) (other.file Labels) same.labels)
+      ∙ ap (λ xs. made days assets (other.file Bars) (labels_asked assets q.labels (other.file Labels))
+      (revised_asked days assets xs q.revisions (one.file Revisions))
+      (numbers_asked assets q.numbers (one.file Numbers))) (tables-same assets q.adjustments one.rows other.rows same.tables)
+      ∙ ap (λ xs. made days assets (other.file Bars) (labels_asked assets q.labels (other.file Labels)) xs (numbers_asked assets q.numbers (one.file Numbers)))
+      (revisions-same assets days (adjustments_asked assets q.adjustments other.rows) q.revisions (one.file Revisions) (other.file Revisions) same.revisions)
+      ∙ ap (λ ns. made days assets (other.file Bars) (labels_asked assets q.labels (other.file Labels))
+      (revised_asked days assets (adjustments_asked assets q.adjustments other.rows) q.revisions (other.file Revisions)) ns)
+      (numbers-same assets q.numbers (one.file Numbers) (other.file Numbers) same.numbers)
 
 -- ---- the text of a run
 
 abbrev shown : Format → ℤ → ℤ → World → Pipeline → List ℕ
 shown format from to w p = text w p format (table w p (index_of w.days from) (index_of w.days to))
 
-text-same : (one other : Contents) (q r : RunRequest) → SameFiles one other q → AskSame q r → run_text one q ≡ run_text other r
+-- and so is the pipeline file of a run
+pub record SameFiles (one other : Contents) (q : RunRequest) : Type 0 where
+  pub pipeline : one.file PipelineFile ≡ other.file PipelineFile
+  pub world : SameWorld one other q.world
+
+pub text-same : (one other : Contents) (q r : RunRequest) → SameFiles one other q → AskSame q r → run_text one q ≡ run_text other r
 text-same one other q r same alike =
-    ap (λ w. shown q.options.format q.from.day q.to.day w (pipeline_held one)) (world-same one other q same ∙ ap (world_held other) alike.world)
+    ap (λ w. shown q.options.format q.from.day q.to.day w (pipeline_held one)) (world-same one other q.world same.world ∙ ap (world_held other) alike.world)
     ∙ ap (λ f. shown q.options.format q.from.day q.to.day (world_held other r.world) (pipeline_in f)) same.pipeline
     ∙ ap (λ f. shown f q.from.day q.to.day (world_held other r.world) (pipeline_held other)) alike.format
     ∙ ap (λ x. shown r.options.format x q.to.day (world_held other r.world) (pipeline_held other)) alike.from
@@ -134,20 +138,22 @@ module _ (files : Files) (lists : Lists) (told other_told : Option Files) (liste
   told-same : SameFiles one other q
   told-same = record {
     pipeline = file-same PipelineFile q.pipeline refl;
-    sessions = file-same Sessions q.world.sessions refl;
-    assets = file-same Assets q.world.assets refl;
-    bars = file-same Bars q.world.bars refl;
-    labels = file-same Labels;
-    numbers = file-same Numbers;
-    tables = rows-same;
-    revisions = file-same Revisions;
+    world = record {
+      sessions = file-same Sessions q.world.sessions refl;
+      assets = file-same Assets q.world.assets refl;
+      bars = file-same Bars q.world.bars refl;
+      labels = file-same Labels;
+      numbers = file-same Numbers;
+      tables = rows-same;
+      revisions = file-same Revisions;
+    };
   }
 
 pub same-files-same-bytes : SameFilesSameBytes
 same-files-same-bytes o p a b q r line other_line numbers other_numbers asks asks' alike tell first second =
-    let same = told-same tell.files tell.lists o.files p.files o.lists p.lists tell.first_files tell.second_files tell.first_lists tell.second_lists a b q r asks asks' alike first.held second.held first.are_held second.are_held in (
+    let same = told-same tell.files tell.lists o.shelf.before.holds p.shelf.before.holds o.keeper.before.lists p.keeper.before.lists tell.first_files tell.second_files tell.first_lists tell.second_lists a b q r asks asks' alike first.held second.held first.are_held second.are_held in (
       text_of second.held (Some b),
-      first.text refl ∙ ap (λ t. option_map (λ front. front ++ t) o.taken)
+      first.text refl ∙ ap (λ t. option_map (λ front. front ++ t) o.out.before.taken)
           (asked-text first.held a q asks ∙ text-same first.held second.held q r same alike ∙ sym (asked-text second.held b r asks')),
       second.text refl,
     )

@@ -161,7 +161,7 @@ later-data-change-no-byte = record {
   texts = texts;
   runs = λ o p a b q r d day line other_line numbers other_numbers asks asks' alike first second agree. (
     text_of second.held (Some b),
-    first.text refl ∙ ap (λ t. option_map (λ front. front ++ t) o.taken)
+    first.text refl ∙ ap (λ t. option_map (λ front. front ++ t) o.out.before.taken)
         (texts first.held second.held a b q r d day asks asks' alike agree (ended-well (work first.held (Some a)) (Some a) line first.ends) (ended-well (work second.held (Some b)) (Some b) other_line second.ends)),
     second.text refl,
   );

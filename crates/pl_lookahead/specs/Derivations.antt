@@ -16,7 +16,8 @@ use Rattle.pl_load.specs.Cells.{term_asked}
 use Rattle.pl_load.specs.Contents.{Contents}
 use Rattle.pl_load.specs.Held.{pipeline_held, world_held}
 use Rattle.pl_load.specs.Range.{index_of}
-use Rattle.pl_cli.specs.Runs.{Observed, IsRun}
+use Rattle.pl_cli.specs.Runs.{IsRun}
+use Rattle.pl_cli.specs.Views.{Outside}
 use Rattle.pl_cli.specs.Texts.{text_of}
 use Rattle.pl_lookahead.specs.Agreement.{AgreeUpTo}
 use Rattle.pl_lookahead.specs.Laws.{HasNoFault, TookSame}
@@ -68,7 +69,7 @@ pub record LaterDataChangeNoDerivation : Type 0 where
       → HasNoFault one (Explain q) → HasNoFault other (Explain r)
       → text_of one (Some (Explain q)) ≡ text_of other (Some (Explain r))
   -- so two runs of the program that end with status 0 took the same bytes
-  pub runs : (o p : Observed) (q r : ExplainRequest) (d : ℕ) (day : ℤ)
+  pub runs : (o p : Outside) (q r : ExplainRequest) (d : ℕ) (day : ℤ)
       → (line other_line numbers other_numbers : List ℕ) → AskCell q r day
       → (first : IsRun o (Some (Explain q)) 0 line numbers)
       → (second : IsRun p (Some (Explain r)) 0 other_line other_numbers)

@@ -1,16 +1,17 @@
 -- What comes later changes no byte.
-use Rattle.std.specs.Prelude.{◌≡◌, ◌≢◌, ◌⊎◌, ℕ, ℤ, ◌≤ℤ◌, List, filter, AllPairs, IsPermutation, Some, None}
+use Rattle.std.specs.Prelude.{◌≡◌, ◌≢◌, ◌⊎◌, ℕ, ℤ, ◌≤ℤ◌, false, List, filter, AllPairs, IsPermutation, Some, None}
 use Rattle.pl_spec.specs.Agree.{is_known}
 use Rattle.pl_spec.specs.World.{Adjustment}
 use Rattle.pl_outside.specs.Files.{Files}
 use Rattle.pl_outside.specs.Lists.{Lists}
 use Rattle.pl_outside.specs.Taken.{TakesAll}
-use Rattle.pl_words.specs.Request.{Request, Run, Daily, RunRequest}
+use Rattle.pl_words.specs.Request.{Request, Run, Daily, Bench, RunRequest}
 use Rattle.pl_load.specs.Contents.{Contents}
 use Rattle.pl_load.specs.Steps.{first_fault}
 use Rattle.pl_load.specs.Work.{work}
 use Rattle.pl_cli.specs.Texts.{text_of}
-use Rattle.pl_cli.specs.Runs.{Observed, IsRun}
+use Rattle.pl_cli.specs.Runs.{IsRun}
+use Rattle.pl_cli.specs.Views.{Outside, log_after}
 use Rattle.pl_lookahead.specs.Agreement.{AgreeUpTo, is_of}
 
 -- the request asks for the table of a run, by `run` or by `daily`
@@ -30,8 +31,8 @@ abbrev pub HasNoFault : Contents → Request → Type 0
 HasNoFault held asked = first_fault (work held (Some asked)) ≡ None
 
 -- both took the same bytes after those that they took before, where they tell
-abbrev pub TookSame : Observed → Observed → Type 0
-TookSame o p = (bytes : List ℕ) × TakesAll o.taken o.taken_now bytes × TakesAll p.taken p.taken_now bytes
+abbrev pub TookSame : Outside → Outside → Type 0
+TookSame o p = (bytes : List ℕ) × TakesAll o.out.before.taken o.out.after.taken bytes × TakesAll p.out.before.taken p.out.after.taken bytes
 
 -- Two commands that agree up to a session ask for the table of one range up to it. Then the bytes of the one
 -- are those of the other.
@@ -40,7 +41,7 @@ pub record LaterDataChangeNoByte : Type 0 where
       → AsksTable a q → AsksTable b r → AskAlike q r day → AgreeUpTo one other q.world r.world d day
       → HasNoFault one a → HasNoFault other b → text_of one (Some a) ≡ text_of other (Some b)
   -- so two runs of the program that end with status 0 took the same bytes
-  pub runs : (o p : Observed) (a b : Request) (q r : RunRequest) (d : ℕ) (day : ℤ)
+  pub runs : (o p : Outside) (a b : Request) (q r : RunRequest) (d : ℕ) (day : ℤ)
       → (line other_line numbers other_numbers : List ℕ)
       → AsksTable a q → AsksTable b r → AskAlike q r day
       → (first : IsRun o (Some a) 0 line numbers) → (second : IsRun p (Some b) 0 other_line other_numbers)
@@ -55,20 +56,34 @@ pub record AskSame (q r : RunRequest) : Type 0 where
   pub format : q.options.format ≡ r.options.format
 
 -- both parts tell the same files and the same tables
-pub record TellSame (o p : Observed) : Type 0 where
+pub record TellSame (o p : Outside) : Type 0 where
   pub files : Files
   pub lists : Lists
-  pub first_files : o.files ≡ Some files
-  pub first_lists : o.lists ≡ Some lists
-  pub second_files : p.files ≡ Some files
-  pub second_lists : p.lists ≡ Some lists
+  pub first_files : o.shelf.before.holds ≡ Some files
+  pub first_lists : o.keeper.before.lists ≡ Some lists
+  pub second_files : p.shelf.before.holds ≡ Some files
+  pub second_lists : p.keeper.before.lists ≡ Some lists
 
 -- Two runs of status 0 over the same files and tables took the same bytes, by `run` or by `daily`, for all
 -- sizes of chunks.
 abbrev pub SameFilesSameBytes : Type 0
-SameFilesSameBytes = (o p : Observed) (a b : Request) (q r : RunRequest)
+SameFilesSameBytes = (o p : Outside) (a b : Request) (q r : RunRequest)
     → (line other_line numbers other_numbers : List ℕ)
     → AsksTable a q → AsksTable b r → AskSame q r → TellSame o p
+    → IsRun o (Some a) 0 line numbers → IsRun p (Some b) 0 other_line other_numbers → TookSame o p
+
+-- the same words but for the size of chunks, and whether numbers are told
+abbrev pub unchunked : Request → Request
+unchunked (Run q) = Run (record q { options = record q.options { chunk = 1; stats = false } })
+unchunked (Daily q) = Daily (record q { options = record q.options { chunk = 1; stats = false } })
+unchunked (Bench q) = Bench (record q { chunk = 1 })
+unchunked q = q
+
+-- Two runs of status 0 on the same words that were given the same of their files, and loaded the same of
+-- their tables, took the same bytes, for all sizes of chunks.
+abbrev pub SameInputSameBytes : Type 0
+SameInputSameBytes = (o p : Outside) (a b : Request) (line other_line numbers other_numbers : List ℕ)
+    → unchunked a ≡ unchunked b → log_after o ≡ log_after p
     → IsRun o (Some a) 0 line numbers → IsRun p (Some b) 0 other_line other_numbers → TookSame o p
 
 -- no two of the adjustments are of one asset and one day

@@ -1,7 +1,7 @@
 //! The laws.
 
 ghost use Rattle.pl_lookahead.specs.Derivations.{LaterDataChangeNoDerivation};
-ghost use Rattle.pl_lookahead.specs.Laws.{LaterDataChangeNoByte, OwnDaysInAnyOrder, SameFilesSameBytes};
+ghost use Rattle.pl_lookahead.specs.Laws.{LaterDataChangeNoByte, OwnDaysInAnyOrder, SameFilesSameBytes, SameInputSameBytes};
 
 /// Where the files and tables of two commands agree up to a session, and no reader refuses them, the tables
 /// up to it are the same bytes, by `run` and by `daily`, for all sizes of chunks, whatever comes later. The
@@ -21,4 +21,10 @@ pub fn own_days_in_any_order()
 /// chunks.
 pub fn same_files_same_bytes()
     ensures { SameFilesSameBytes }
+{}
+
+/// Runs on the same words that were given the same of their files and tables, and end with status 0, write
+/// the same bytes, by every command and for all sizes of chunks.
+pub fn same_input_same_bytes()
+    ensures { SameInputSameBytes }
 {}

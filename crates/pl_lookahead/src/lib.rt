@@ -5,4 +5,6 @@
 
 mod laws;
 
-pub use laws::{later_data_change_no_byte, own_days_in_any_order, same_files_same_bytes};
+pub use laws::{
+    later_data_change_no_byte, own_days_in_any_order, same_files_same_bytes, same_input_same_bytes,
+};

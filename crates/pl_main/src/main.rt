@@ -6,7 +6,8 @@
 
 mod program;
 
-use pl_edge::Stream;
+use pl_adjust_sql::FileKeeper;
+use pl_edge::{FileShelf, Stream};
 use program::{GATHERED, program};
 use std::env;
 use std::io::BufWriter;
@@ -15,9 +16,11 @@ use std::process::ExitCode;
 use std::sync::ledger::Blank;
 
 fn main(rt: HostRuntime) -> ExitCode {
-    program::<Brand, _, _>(
-        &rt,
+    program::<_, _, Brand, _, _>(
+        rt.alloc(),
         env::args(&rt),
+        &mut FileShelf::new(&rt),
+        &mut FileKeeper::new(&rt),
         &mut BufWriter::with_capacity(rt.alloc(), GATHERED, rt.stdout()).map(Stream::new),
         &mut Stream::new(rt.stderr()),
         Blank::new(1),

@@ -1,4 +1,4 @@
-use Rattle.std.proofs.Common.{◌∙◌, None, true, refl}
+use Rattle.std.proofs.Common.{◌∙◌, [], None, true, refl}
 use Rattle.std.proofs.lemmas.Result.{err_from_is_err_and}
 use Rattle.pl_outside.proofs.Pieces.{writes-over}
 use Rattle.pl_words.specs.Request.{Plan}
@@ -18,7 +18,7 @@ returns-in_err-planned g c = λ keeper steps.
 -- whatever a keeper tells
 pub plan_text-requires : goal.plan_text-requires
 plan_text-requires g c =
-    let h = c.in_ok-planned.ensures (record { lists = None; sound = true; faults = 0; calls = 0 }) in
+    let h = c.in_ok-planned.ensures (record { lists = None; loaded = []; sound = true; faults = 0; calls = 0 }) in
     record { used = h.loaded.plan.used; cones = h.loaded.plan.cones }
 
 pub returns-in_err-text : goal.returns-in_err-text

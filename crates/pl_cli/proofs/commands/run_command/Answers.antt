@@ -3,7 +3,8 @@ use Rattle.std.proofs.lemmas.Result.{err_from_is_err_and, on_ok_weaker, IfOk-wea
 use Rattle.pl_words.specs.Request.{Run}
 use Rattle.pl_words.specs.Views.{run_of}
 use Rattle.pl_load.specs.Work.{work}
-use Rattle.pl_cli.specs.Commands.{sink_view, line_of_stats}
+use Rattle.pl_cli.specs.Commands.{line_of_stats}
+use Rattle.pl_cli.specs.Views.{sink_view}
 use Rattle.pl_cli.proofs.Ended.{stopped, seen-or, kept-view, written-or}
 use Rattle.pl_cli.proofs.Loaded.{loaded-text, loaded-steps, loaded-numbers}
 use Rattle.pl_cli.proofs.commands.run_command.Goals as goal
@@ -21,9 +22,9 @@ returns g c =
     let q = run_of c.args.request.now in
     let h = c.in_ok-loaded.ensures.load in
     let l = c.in_ok-loaded.loaded in
-    written-or {q = Run q} (sink_view g.O.Sink.taken g.O.Sink.sound g.O.Sink.faults g.O.Sink.room c.args.out.now) (sink_view g.O.Sink.taken g.O.Sink.sound g.O.Sink.faults g.O.Sink.room c.write_loaded.new.out) _ _ h c.write_loaded.result
+    written-or {q = Run q} (sink_view g.O.Sink c.args.out.now) (sink_view g.O.Sink c.write_loaded.new.out) _ _ h c.write_loaded.result
     (seen-or (loaded-text h.held q l h.loaded) w.writes) w.fault
-    (kept-view g.O.Sink.taken g.O.Sink.sound g.O.Sink.faults g.O.Sink.room _ _ _ _ _ w.memory)
+    (kept-view g.O.Sink _ _ _ _ _ w.memory)
     (on_ok_weaker c.write_loaded.result (loaded-steps h.held q l (λ n. c.write_loaded.new.steps ≡ c.args.steps.now + n) h.loaded) w.cost)
     (inr (loaded-steps h.held q l (λ n. c.write_loaded.new.steps ≤ c.args.steps.now + n) h.loaded w.most))
     (IfOk-weaker c.write_loaded.result _ _ (λ stats e. loaded-numbers h.held q l (line_of_stats stats) h.loaded e) w.stats)

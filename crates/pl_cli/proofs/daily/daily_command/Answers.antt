@@ -2,7 +2,7 @@ use Rattle.std.proofs.Common.{◌≡◌, ◌≤◌, ◌+◌, inr}
 use Rattle.std.proofs.lemmas.Result.{err_from_is_err_and, on_ok_weaker}
 use Rattle.pl_words.specs.Request.{Daily}
 use Rattle.pl_words.specs.Views.{run_of}
-use Rattle.pl_cli.specs.Commands.{sink_view}
+use Rattle.pl_cli.specs.Views.{sink_view}
 use Rattle.pl_cli.proofs.Ended.{stopped, seen-or, kept-view, quiet, written-or}
 use Rattle.pl_cli.proofs.Days.{days-load, days-text, days-steps}
 use Rattle.pl_cli.proofs.daily.daily_command.Goals as goal
@@ -19,9 +19,9 @@ returns g c =
     let q = run_of c.args.request.now in
     let h = days-load q c.in_ok-loaded.ensures.load in
     let l = c.in_ok-loaded.loaded in
-    written-or {q = Daily q} (sink_view g.O.Sink.taken g.O.Sink.sound g.O.Sink.faults g.O.Sink.room c.args.out.now) (sink_view g.O.Sink.taken g.O.Sink.sound g.O.Sink.faults g.O.Sink.room c.write_days.new.out) _ _ h c.write_days.result
+    written-or {q = Daily q} (sink_view g.O.Sink c.args.out.now) (sink_view g.O.Sink c.write_days.new.out) _ _ h c.write_days.result
     (seen-or (days-text h.held q l h.loaded) w.writes) w.fault
-    (kept-view g.O.Sink.taken g.O.Sink.sound g.O.Sink.faults g.O.Sink.room _ _ _ _ _ w.memory)
+    (kept-view g.O.Sink _ _ _ _ _ w.memory)
     (on_ok_weaker c.write_days.result (days-steps h.held q l (λ n. c.write_days.new.steps ≡ c.args.steps.now + n) h.loaded) w.cost)
     (inr (days-steps h.held q l (λ n. c.write_days.new.steps ≤ c.args.steps.now + n) h.loaded w.most))
     (quiet c.write_days.result w.quiet)

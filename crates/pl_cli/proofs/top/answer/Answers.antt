@@ -2,7 +2,7 @@ use Rattle.std.proofs.Common.{◌≡◌, ◌∙◌, ap, Option, Some, option_map
 use Rattle.pl_words.specs.declared.request.Request.{Request as Code}
 use Rattle.pl_words.specs.Views.{request_of}
 use Rattle.pl_load.specs.Views.{shelf_view, keeper_view}
-use Rattle.pl_cli.specs.Commands.{sink_view}
+use Rattle.pl_cli.specs.Views.{sink_view}
 use Rattle.pl_cli.proofs.Ended.{no-command}
 use Rattle.pl_cli.proofs.top.answer.Goals as goal
 
@@ -13,9 +13,9 @@ lent here is = ap (option_map (λ (q : Bor Code). request_of q.now)) here ∙ ap
 pub returns-in-None : goal.returns-in-None
 returns-in-None g c =
     rw c.in-None.is
-    (no-command (shelf_view g.S.Shelf.holds g.S.Shelf.begun g.S.Shelf.sound g.S.Shelf.faults c.args.shelf.now)
-    (keeper_view g.K.AdjustKeeper.lists g.K.AdjustKeeper.sound g.K.AdjustKeeper.faults g.K.AdjustKeeper.calls c.args.keeper.now)
-    (sink_view g.O.Sink.taken g.O.Sink.sound g.O.Sink.faults g.O.Sink.room c.args.out.now) c.args.steps.now)
+    (no-command (shelf_view g.S.Shelf c.args.shelf.now)
+    (keeper_view g.K.AdjustKeeper c.args.keeper.now)
+    (sink_view g.O.Sink c.args.out.now) c.args.steps.now)
 
 pub returns-in-Some-Run : goal.returns-in-Some-Run
 returns-in-Some-Run g c =
@@ -25,27 +25,27 @@ returns-in-Some-Run g c =
 pub returns-in-Some-Fmt : goal.returns-in-Some-Fmt
 returns-in-Some-Fmt g c =
     rw (lent c.in-Some-Fmt.is (rw c.in-Some-Fmt.is at c.in-Some-Fmt.field-0-is))
-    (c.fmt_command.ensures (keeper_view g.K.AdjustKeeper.lists g.K.AdjustKeeper.sound g.K.AdjustKeeper.faults g.K.AdjustKeeper.calls c.args.keeper.now) c.args.steps.now)
+    (c.fmt_command.ensures (keeper_view g.K.AdjustKeeper c.args.keeper.now) c.args.steps.now)
 
 pub returns-in-Some-Check : goal.returns-in-Some-Check
 returns-in-Some-Check g c =
     rw (lent c.in-Some-Check.is (rw c.in-Some-Check.is at c.in-Some-Check.field-0-is))
-    (c.check_command.ensures (keeper_view g.K.AdjustKeeper.lists g.K.AdjustKeeper.sound g.K.AdjustKeeper.faults g.K.AdjustKeeper.calls c.args.keeper.now) c.args.steps.now)
+    (c.check_command.ensures (keeper_view g.K.AdjustKeeper c.args.keeper.now) c.args.steps.now)
 
 pub returns-in-Some-Plan : goal.returns-in-Some-Plan
 returns-in-Some-Plan g c =
     rw (lent c.in-Some-Plan.is (rw c.in-Some-Plan.is at c.in-Some-Plan.field-0-is))
-    (c.plan_command.ensures (keeper_view g.K.AdjustKeeper.lists g.K.AdjustKeeper.sound g.K.AdjustKeeper.faults g.K.AdjustKeeper.calls c.args.keeper.now) c.args.steps.now)
+    (c.plan_command.ensures (keeper_view g.K.AdjustKeeper c.args.keeper.now) c.args.steps.now)
 
 pub returns-in-Some-Bench : goal.returns-in-Some-Bench
 returns-in-Some-Bench g c =
     rw (lent c.in-Some-Bench.is (rw c.in-Some-Bench.is at c.in-Some-Bench.field-0-is))
-    (c.bench_command.ensures (shelf_view g.S.Shelf.holds g.S.Shelf.begun g.S.Shelf.sound g.S.Shelf.faults c.args.shelf.now) (keeper_view g.K.AdjustKeeper.lists g.K.AdjustKeeper.sound g.K.AdjustKeeper.faults g.K.AdjustKeeper.calls c.args.keeper.now))
+    (c.bench_command.ensures (shelf_view g.S.Shelf c.args.shelf.now) (keeper_view g.K.AdjustKeeper c.args.keeper.now))
 
 pub returns-in-Some-Payouts : goal.returns-in-Some-Payouts
 returns-in-Some-Payouts g c =
     rw (lent c.in-Some-Payouts.is (rw c.in-Some-Payouts.is at c.in-Some-Payouts.field-0-is))
-    (c.payouts_command.ensures (keeper_view g.K.AdjustKeeper.lists g.K.AdjustKeeper.sound g.K.AdjustKeeper.faults g.K.AdjustKeeper.calls c.args.keeper.now) c.args.steps.now)
+    (c.payouts_command.ensures (keeper_view g.K.AdjustKeeper c.args.keeper.now) c.args.steps.now)
 
 pub returns-in-Some-Explain : goal.returns-in-Some-Explain
 returns-in-Some-Explain g c =

@@ -1,54 +1,20 @@
-use Rattle.std.proofs.Common.{Err, map, string_bytes, ap, ◌∙◌, refl}
-use Rattle.pl_words.specs.Request.{request}
-use Rattle.pl_load.specs.Faults.{judged_line, judged_status}
-use Rattle.pl_load.specs.Views.{shelf_view, keeper_view}
-use Rattle.pl_cli.specs.Commands.{sink_view, fault_of, line_of_numbers}
-use Rattle.pl_load.specs.declared.fault.Fault.TheVariants.{Memory}
-use Rattle.pl_cli.proofs.Finished.{asked-lent, run-of, no-words}
-use Rattle.pl_cli.proofs.Causes.{by-answer, part-left, part-alone, sink-left}
 use Rattle.pl_cli.proofs.top.run_program.Goals as goal
 
-pub returns-in-Ok : goal.returns-in-Ok
-returns-in-Ok g c =
-    let asked = asked-lent _ _ c.as_ref.result c.in-Ok.ensures.asked c.as_ref.ensures.value in
-    let told = asked-lent _ _ c.as_ref-in-Ok.result c.in-Ok.ensures.asked c.as_ref-in-Ok.ensures.value in
-    let ended = c.answer-ended.result in
-    let e = c.answer-ended.ensures in
-    let run = run-of _ _ ended c.finish.result c.finish.ensures.status e.ended in
-    let causes = by-answer _ _ _ _ _ ended c.finish.result c.finish.ensures.status e.caused in
-    record {
-      run = (judged_line (request (map (λ s. string_bytes s) c.args.words.now)) (fault_of ended), line_of_numbers ended, rw asked run, rw (← told) at c.finish.ensures.told);
-      usage = λ two. asked ∙ causes.refused two;
-      refused = λ none other. c.finish.ensures.status ∙ ap judged_status (e.refused (rw (← asked) none));
-      read = causes.unread;
-      store = causes.unloaded;
-      write = causes.unwritten;
-      kept = causes.same;
-      alone = λ none. let u = e.alone (rw (← asked) none) in record { no_fault = u.no_fault; no_call = u.no_call };
-      shelf = record { keeps = e.shelf_left.keeps; stays = e.shelf_left.stays; later = e.shelf_left.later };
-      keeper = record { keeps = e.keeper_left.keeps; stays = e.keeper_left.stays; later = e.keeper_left.later };
-      out = record { stays = e.out_left.stays; later = e.out_left.later };
-      err = c.finish.ensures.err;
-    }
-
-pub returns-in-Err : goal.returns-in-Err
-returns-in-Err g c =
-    let shelf = shelf_view g.S.Shelf.holds g.S.Shelf.begun g.S.Shelf.sound g.S.Shelf.faults c.args.shelf.now in
-    let keeper = keeper_view g.K.AdjustKeeper.lists g.K.AdjustKeeper.sound g.K.AdjustKeeper.faults g.K.AdjustKeeper.calls c.args.keeper.now in
-    let out = sink_view g.O.Sink.taken g.O.Sink.sound g.O.Sink.faults g.O.Sink.room c.args.out.now in
-    let run = run-of _ _ (Err Memory) c.finish-in-Err.result c.finish-in-Err.ensures.status (no-words shelf keeper out c.args.steps.now _) in
-    let causes = by-answer _ _ _ _ _ (Err Memory) c.finish-in-Err.result c.finish-in-Err.ensures.status (refl, refl, refl) in
-    record {
-      run = (_, _, run, c.finish-in-Err.ensures.told);
-      usage = causes.refused;
-      refused = λ none other. absurd (other c.finish-in-Err.ensures.status);
-      read = causes.unread;
-      store = causes.unloaded;
-      write = causes.unwritten;
-      kept = causes.same;
-      alone = λ none. part-alone g.K.AdjustKeeper.faults g.K.AdjustKeeper.calls c.args.keeper.now;
-      shelf = part-left g.S.Shelf.holds g.S.Shelf.sound g.S.Shelf.faults c.args.shelf.now;
-      keeper = part-left g.K.AdjustKeeper.lists g.K.AdjustKeeper.sound g.K.AdjustKeeper.faults c.args.keeper.now;
-      out = sink-left g.O.Sink.sound g.O.Sink.faults c.args.out.now;
-      err = c.finish-in-Err.ensures.err;
-    }
+pub returns : goal.returns
+returns g c =
+    let w = c.work_on-outcome.ensures in
+    rw c.status-status.ensures
+    (record {
+      run = (_, _, w.run, c.tell.ensures.told);
+      usage = w.usage;
+      refused = w.refused;
+      read = w.read;
+      store = w.store;
+      write = w.write;
+      kept = w.kept;
+      alone = w.alone;
+      shelf = w.shelf;
+      keeper = w.keeper;
+      out = w.out;
+      err = c.tell.ensures.err;
+    })

@@ -3,7 +3,7 @@ use Rattle.std.proofs.lemmas.Result.{err_from_is_err_and}
 use Rattle.pl_words.specs.Request.{Windows}
 use Rattle.pl_words.specs.Views.{windows_of}
 use Rattle.pl_load.specs.Work.{work}
-use Rattle.pl_cli.specs.Commands.{sink_view}
+use Rattle.pl_cli.specs.Views.{sink_view}
 use Rattle.pl_cli.proofs.Ended.{stopped, seen-or, kept-view, none, no-more, quiet, when-ok, written-or}
 use Rattle.pl_cli.proofs.Windowed.{windows-text}
 use Rattle.pl_cli.proofs.windows.windows_command.Goals as goal
@@ -21,7 +21,7 @@ returns g c = λ steps.
     let q = windows_of c.args.request.now in
     let h = c.in_ok-loaded.ensures.load in
     let l = c.in_ok-loaded.loaded in
-    written-or {q = Windows q} (sink_view g.O.Sink.taken g.O.Sink.sound g.O.Sink.faults g.O.Sink.room c.args.out.now) (sink_view g.O.Sink.taken g.O.Sink.sound g.O.Sink.faults g.O.Sink.room c.write_loaded.new.out) steps steps h c.write_loaded.result
+    written-or {q = Windows q} (sink_view g.O.Sink c.args.out.now) (sink_view g.O.Sink c.write_loaded.new.out) steps steps h c.write_loaded.result
     (seen-or (windows-text h.held q l h.loaded) w.writes) w.fault
-    (kept-view g.O.Sink.taken g.O.Sink.sound g.O.Sink.faults g.O.Sink.room _ _ steps steps _ (λ m. (w.memory m, refl)))
+    (kept-view g.O.Sink _ _ steps steps _ (λ m. (w.memory m, refl)))
     (when-ok c.write_loaded.result (none steps steps refl)) (inr (no-more steps steps refl)) (quiet c.write_loaded.result w.quiet)
