@@ -1,7 +1,7 @@
 #!/usr/bin/env bash
 # Runs the examples of all pages, and the recipes, over the built program, and prints what differs.
 #
-# In README.md, docs/*.md and examples/README.md a block ```console has commands after `$ ` and what each
+# In README.md, docs/*.md, examples/README.md and examples/alpha158/README.md a block ```console has commands after `$ ` and what each
 # prints; a line `..` there means any lines. Each block begins at the top of a copy of the checkout, in which
 # a page leaves its files. Blocks ```python are run too, and the tables of docs/LANGUAGE.md and docs/TERMS.md.
 # The examples of python/README.md and docs/ZIPLINE.md are run by python/check.sh.
@@ -325,7 +325,7 @@ recipes() {
     is_left_out matplotlib || try picture.py "$python" "$recipes/picture.py" examples/market 2023-10-02 2023-11-30 5 .
 }
 
-for page in README.md $(cd "$top" && ls docs/*.md) examples/README.md; do
+for page in README.md $(cd "$top" && ls docs/*.md) examples/README.md examples/alpha158/README.md; do
     run_page "$page"
 done
 copy
