@@ -20,7 +20,7 @@ WINDOWS = (5, 10, 20, 30, 60)
 LONGEST = 61  # sessions that a feature reads: 60 changes
 COLUMNS = ("open", "high", "low", "close", "volume")
 
-# As in Qlib's loader of Alpha158 (qlib/contrib/data/loader.py), whose `$close` is `close` here.
+# The formulas of Qlib's loader of Alpha158 (qlib/contrib/data/loader.py), whose `$close` is `close` here.
 OF_THE_BAR = {
     "KMID": "(close-open)/open",
     "KLEN": "(high-low)/open",
@@ -99,7 +99,7 @@ def like(x: pd.DataFrame, values: NDArray[np.float64]) -> pd.DataFrame:
     return pd.DataFrame(values, x.index, x.columns)
 
 
-# Qlib's operators (qlib/data/ops.py), over frames of sessions by assets.
+# What Qlib's operators (qlib/data/ops.py) compute, over frames of sessions by assets.
 OPERATORS = {
     "Greater": np.maximum,
     "Less": np.minimum,
