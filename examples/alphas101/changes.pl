@@ -1,7 +1,7 @@
 # Of the 101 Formulaic Alphas: changes of prices, and the bar by itself.
 pipeline 4;
 
-# The assets that are ranked: those with a bar on each of 61 sessions; on each of 251 where a window is of a year.
+# The assets that are ranked: those with a bar on each of 61 sessions, and of 251 where a window is of a year.
 let universe = AllPresent(close, 61);
 let long_universe = AllPresent(close, 251);
 let count = close.latest.notnull_count(mask=universe);
@@ -31,7 +31,8 @@ let newest_21 = SimpleMovingAverage(close, 2);
 let busy_21 = (volume.latest >= SimpleMovingAverage(volume, 20)).if_else(1, -1);
 let below_21 = (newest_21 < middle_21 - spread_21).if_else(1, busy_21);
 column alpha_021 = (middle_21 + spread_21 < newest_21).if_else(-1, below_21);
-column alpha_023 = (SimpleMovingAverage(high, 20) < high.latest).if_else(WindowFirst(high, 3) - high.latest, 0);
+let over_23 = SimpleMovingAverage(high, 20) < high.latest;
+column alpha_023 = over_23.if_else(WindowFirst(high, 3) - high.latest, 0);
 let before_24 = (WindowSum(close, 200) - WindowSum(close, 100)) / 100;
 let slow_24 = (SimpleMovingAverage(close, 100) - before_24) / WindowFirst(close, 101) <= 0.05;
 let change_24 = slow_24.if_else(WindowMin(close, 100) - close.latest, WindowFirst(close, 4) - close.latest);
@@ -50,7 +51,8 @@ let calm_34 = (WindowStd(moved, 2) * 1000 / WindowStd(moved, 5)).rank(method="av
 let both_34 = -calm_34 - delta_close.rank(method="average", mask=universe);
 column alpha_034 = both_34.rank(method="average", mask=universe) / both_34.notnull_count(mask=universe);
 let newest_38 = WindowRank(close, 10).rank(method="average", mask=universe) / count;
-column alpha_038 = -newest_38 * (close.latest * 1000 / open.latest).rank(method="average", mask=universe) / count;
+let rise_38 = close.latest * 1000 / open.latest;
+column alpha_038 = -newest_38 * rise_38.rank(method="average", mask=universe) / count;
 let shape = 2 * close.latest - low.latest - high.latest;
 let shape_before = 2 * WindowFirst(close, 10) - WindowFirst(low, 10) - WindowFirst(high, 10);
 let before_53 = shape_before / (WindowFirst(close, 10) - WindowFirst(low, 10));
