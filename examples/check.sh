@@ -1,10 +1,10 @@
 #!/usr/bin/env bash
 # Runs the examples of all pages, and the recipes, over the built program, and prints what differs.
 #
-# In README.md, docs/*.md, examples/README.md and examples/alpha158/README.md a block ```console has commands after `$ ` and what each
-# prints; a line `..` there means any lines. Each block begins at the top of a copy of the checkout, in which
-# a page leaves its files. Blocks ```python are run too, and the tables of docs/LANGUAGE.md and docs/TERMS.md.
-# The examples of python/README.md and docs/ZIPLINE.md are run by python/check.sh.
+# In README.md, docs/*.md and the README.md of examples, of its alpha158 and of its alphas101 a block ```console has
+# commands after `$ ` and what each prints; a line `..` there means any lines. Each block begins at the top of a copy of
+# the checkout, in which a page leaves its files. Blocks ```python are run too, and the tables of docs/LANGUAGE.md and
+# docs/TERMS.md. The examples of python/README.md and docs/ZIPLINE.md are run by python/check.sh.
 #
 # The program is crates/pl_main/out/pl_main, or the one that TOHMERIL names. Without a program, or a part that is
 # needed and that TOHMERIL_WITHOUT does not leave out (tools/parts.sh), this says so and ends with 3. The last line
@@ -325,7 +325,7 @@ recipes() {
     is_left_out matplotlib || try picture.py "$python" "$recipes/picture.py" examples/market 2023-10-02 2023-11-30 5 .
 }
 
-for page in README.md $(cd "$top" && ls docs/*.md) examples/README.md examples/alpha158/README.md; do
+for page in README.md $(cd "$top" && ls docs/*.md examples/README.md examples/alpha*/README.md); do
     run_page "$page"
 done
 copy
