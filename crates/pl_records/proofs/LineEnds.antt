@@ -1,97 +1,54 @@
 -- The places of a quote and of line ends in a text.
-use Rattle.std.proofs.Common.{◌≡◌, ◌⊎◌, inl, inr, ℕ, zero, suc, ◌+◌, ◌-◌, ◌<◌, ◌≤◌, ◌==◌, ◌||◌, List, [], ◌∷◌, length, take, get_or, length-take, get_or-take, min, Bool, true, false, refl, sym, ap, subst, ◌∙◌, arith, Option, Some, None}
-use Rattle.std.specs.Prelude.{unwrap_or}
+use Rattle.std.proofs.Common.{◌≡◌, ℕ, zero, suc, ◌+◌, ◌<◌, ◌≤◌, ◌==◌, ◌&&◌, ◌||◌, List, [], ◌∷◌, length, get_or, Bool, true, false, not, refl, sym, ap, ◌∙◌, arith, Option, Some, None}
+use Rattle.std.specs.List.{list_all}
+use Rattle.std.specs.Option.{is_some}
 use Rattle.std.proofs.lemmas.Grind.{common_steps}
-use Rattle.std.proofs.lemmas.Bool.{cases_lt}
 use Rattle.std.proofs.lemmas.Bool.Decides.{nat_tests}
 use Rattle.memchr.specs.Find.{IsFirstByte, IsLastByte, is_byte, is_byte2}
 use Rattle.pl_records.specs.Plain.{is_line_end}
-use Rattle.pl_records.specs.WholeRecords.{EndsRecord}
-use Rattle.pl_records.proofs.WholeRecords.{Unquoted, unquoted-ends}
+use Rattle.pl_records.specs.WholeRecords.{is_unquoted, IsLastLineEnd}
 
--- n is the place of the first quote, or the length where there is none
-pub record IsPlainTo (text : List ℕ) (n : ℕ) : Type 0 where
-  pub within : n ≤ length text
-  pub plain : (k : ℕ) → k < n → (get_or text k 0 == 34) ≡ false
-  pub quote : n < length text → get_or text n 0 ≡ 34
+other-false : (b : Bool) → ¬ (b ≡ true) → b ≡ false
+other-false true h = absurd (h refl)
+other-false false h = refl
 
-no-quote : (b : ℕ) → ¬ ((b == 34) ≡ true) → (b == 34) ≡ false
-no-quote b h = here (b == 34) refl
+all-unquoted : (text : List ℕ) → ((k : ℕ) → k < length text → ¬ ((get_or text k 0 == 34) ≡ true)) → list_all is_unquoted text ≡ true
+all-unquoted [] h = refl
+all-unquoted (c ∷ cs) h = rw (other-false (c == 34) (h 0 (omega arith))) (all-unquoted cs (λ k l. h (suc k) (omega (arith, l))))
+
+one-quoted : (text : List ℕ) (k : ℕ) → k < length text → (get_or text k 0 == 34) ≡ true → list_all is_unquoted text ≡ false
+one-quoted [] k l e = absurd (omega (arith, l))
+one-quoted (c ∷ cs) zero l e = rw e refl
+one-quoted (c ∷ cs) (suc k) l e = rw (one-quoted cs k (omega (arith, l)) e) (and-none (is_unquoted c))
   where
-    here : (x : Bool) → (b == 34) ≡ x → (b == 34) ≡ false
-    here true e = absurd (h e)
-    here false e = e
+    and-none : (b : Bool) → (b && false) ≡ false
+    and-none true = refl
+    and-none false = refl
 
-pub plain-to : (text : List ℕ) (o : Option ℕ) → IsFirstByte (is_byte 34) text o → IsPlainTo text (unwrap_or o (length text))
-plain-to text None h = record {
-  within = omega arith;
-  plain = λ k l. no-quote (get_or text k 0) (h k (omega arith) l);
-  quote = λ l. absurd (omega (arith, l));
-}
-plain-to text (Some n) h = record {
-  within = omega (arith, h.0.high);
-  plain = λ k l. no-quote (get_or text k 0) (h.0.before k (omega arith) l);
-  quote = λ l. (let e : (get_or text n 0 == 34) ≡ true = h.1 in grind (arith, nat_tests));
-}
+not-false : (b : Bool) → false ≡ not b → b ≡ true
+not-false true e = refl
+not-false false e = absurd (cc)
 
--- n is the place of the last line end, or 0 where there is none
-pub record IsLastEnd (text : List ℕ) (n : ℕ) : Type 0 where
-  pub within : n ≤ length text
-  pub inside : 0 < n → n < length text
-  pub end : 0 < n → is_line_end (get_or text n 0) ≡ true
-  pub last : (i : ℕ) → n < i → i < length text → is_line_end (get_or text i 0) ≡ true → ⊥
+not-true : (b : Bool) → true ≡ not b → b ≡ false
+not-true true e = absurd (cc)
+not-true false e = refl
 
-swapped : (b : ℕ) → is_byte2 10 13 b ≡ true → is_line_end b ≡ true
-swapped b e = grind (arith, common_steps, nat_tests)
+pub no-quote : (text : List ℕ) (o : Option ℕ) (none : Bool) → IsFirstByte (is_byte 34) text o → is_some o ≡ not none → none ≡ list_all is_unquoted text
+no-quote text None none h e = not-false none e ∙ sym (all-unquoted text (λ k l. h k (omega arith) l))
+no-quote text (Some k) none h e = not-true none e ∙ sym (one-quoted text k h.0.high h.1)
 
-swapped-back : (b : ℕ) → is_line_end b ≡ true → is_byte2 10 13 b ≡ true
-swapped-back b e = grind (arith, common_steps, nat_tests)
+swapped : (b : ℕ) → is_byte2 10 13 b ≡ is_line_end b
+swapped b = or-swap (b == 10) (b == 13)
+  where
+    or-swap : (x y : Bool) → (x || y) ≡ (y || x)
+    or-swap true true = refl
+    or-swap true false = refl
+    or-swap false true = refl
+    or-swap false false = refl
 
-pub last-end : (text : List ℕ) (o : Option ℕ) → IsLastByte (is_byte2 10 13) text o → IsLastEnd text (unwrap_or o 0)
-last-end text None h = record {
-  within = omega arith;
-  inside = λ l. absurd (omega (arith, l));
-  end = λ l. absurd (omega (arith, l));
-  last = λ i l m e. h i (omega arith) m (swapped-back (get_or text i 0) e);
-}
-last-end text (Some n) h = record {
-  within = omega (arith, h.0.high);
-  inside = λ l. h.0.high;
-  end = λ l. swapped (get_or text n 0) h.1;
-  last = λ i l m e. h.0.after i (omega (arith, l)) m (swapped-back (get_or text i 0) e);
-}
-
-pub plain-front : (text : List ℕ) (n : ℕ) → ((k : ℕ) → k < n → (get_or text k 0 == 34) ≡ false) → Unquoted (take n text)
-unfolding Unquoted
-plain-front text zero h = tt
-plain-front [] (suc n) h = tt
-plain-front (c ∷ cs) (suc n) h = (h 0 (omega arith), plain-front cs n (λ k l. h (suc k) (omega (arith, l))))
-
-pub record IsWholeTo (text : List ℕ) (n : ℕ) : Type 0 where
-  pub within : n ≤ length text
-  pub whole : EndsRecord (take n text)
-  pub end : 0 < n → is_line_end (get_or text n 0) ≡ true
-  pub most : (i : ℕ) → n < i → i < length text → is_line_end (get_or text i 0) ≡ true → (q : ℕ) × (q < i) × (get_or text q 0 ≡ 34)
-
-quote-no-end : (b : ℕ) → b ≡ 34 → is_line_end b ≡ true → ⊥
-quote-no-end b e h = let same : false ≡ true = sym (ap is_line_end e) ∙ h in absurd (let d : false ≡ true = same in cc)
-
-pub whole-to : (text : List ℕ) (n e : ℕ) → IsPlainTo text n → IsLastEnd (take n text) e → IsWholeTo text e
-whole-to text n e p h = record {
-  within = omega (arith, h.within, length-take n text);
-  whole = unquoted-ends (take e text) (plain-front text e (λ k l. p.plain k (omega (arith, l, h.within, length-take n text))));
-  end = λ l. (let inside : e < n = omega (arith, h.inside l, length-take n text) in rw (get_or-take n text e 0 inside) at h.end l);
-  most = λ i l m end. elim (cases_lt i n) [
-    | inl lt ↦
-        let inside : i < length (take n text) = omega (arith, length-take n text) in
-        absurd (h.last i l inside (rw (get_or-take n text i 0 lt) end))
-    | inr ge ↦
-        let quote = p.quote (omega (arith, ge, m)) in
-        (n, elim (cases_lt n i) [ inl lt ↦ lt | inr le ↦ absurd (quote-no-end (get_or text n 0) quote (let same : i ≡ n = omega (arith, ge, le) in rw (← same) end)) ], quote)
-  ];
-}
-
-pub whole-at : (text : List ℕ) (n e : ℕ) (o p : Option ℕ) → IsFirstByte (is_byte 34) text o → n ≡ unwrap_or o (length text)
-    → IsLastByte (is_byte2 10 13) (take n text) p → e ≡ unwrap_or p 0 → IsWholeTo text e
-whole-at text n e o p first plain last end =
-    whole-to text n e (subst (IsPlainTo text) (sym plain) (plain-to text o first)) (subst (IsLastEnd (take n text)) (sym end) (last-end (take n text) p last))
+pub last-end : (text : List ℕ) (o : Option ℕ) → IsLastByte (is_byte2 10 13) text o → IsLastLineEnd text o
+last-end text None h = λ i l. other-false (is_line_end (get_or text i 0)) (rw (← swapped (get_or text i 0)) (h i (omega arith) l))
+last-end text (Some n) h = (
+  h.0.high,
+  sym (swapped (get_or text n 0)) ∙ h.1,
+  λ i l m. other-false (is_line_end (get_or text i 0)) (rw (← swapped (get_or text i 0)) (h.0.after i (omega (arith, l)) m)))

@@ -14,7 +14,8 @@ use Rattle.pl_records.specs.Records.{csv_records}
 use Rattle.pl_records.specs.Plain.{is_line_end}
 use Rattle.pl_records.specs.PlainCuts.{IsInside}
 use Rattle.pl_records.specs.QuotedInside.{records_left}
-use Rattle.pl_records.specs.WholeRecords.{EndsRecord}
+use Rattle.std.specs.List.{list_all}
+use Rattle.pl_records.specs.WholeRecords.{EndsRecord, is_unquoted}
 use Rattle.pl_records.proofs.Facts.{fuel-same, next-leaves, Leaves}
 use Rattle.pl_records.proofs.PlainLines.{same-records, after-cr, step-cr, step-comma, step-byte, step-lf, step-return, lf-first, return-first, unmarked_records, unmarked}
 
@@ -27,9 +28,18 @@ abbrev IsOn : State → List (List ℕ) → List ℕ → Type 0
 IsOn s f p = ((s ≡ st.StartRecord) × (f ≡ []) × (p ≡ [])) ⊎ ((s ≡ st.AfterCr) × (f ≡ []) × (p ≡ [])) ⊎ IsInside s
 
 -- no byte is a quote
-unfoldable pub Unquoted : List ℕ → Type 0
+unfoldable Unquoted : List ℕ → Type 0
 Unquoted [] = ⊤
 Unquoted (c ∷ cs) = ((c == 34) ≡ false) × Unquoted cs
+
+unquoted-of : (text : List ℕ) → list_all is_unquoted text ≡ true → Unquoted text
+unfolding Unquoted
+unquoted-of [] e = tt
+unquoted-of (c ∷ cs) e = here (c == 34) refl (λ f. unquoted-of cs f)
+  where
+    here : (b : Bool) → (c == 34) ≡ b → (list_all is_unquoted cs ≡ true → Unquoted cs) → ((c == 34) ≡ false) × Unquoted cs
+    here true q more = absurd (let no : list_all is_unquoted (c ∷ cs) ≡ false = rw q refl in cc)
+    here false q more = (q, more (rw q at e))
 
 abbrev IsStart : State → Type 0
 IsStart s = (s ≡ st.StartRecord) ⊎ (s ≡ st.AfterCr)
@@ -213,6 +223,6 @@ strip-unquoted (a ∷ b ∷ d ∷ text) h = here (is_bom a b d)
     here true = h.1.1.1
     here false = h
 
-pub unquoted-ends : (text : List ℕ) → Unquoted text → EndsRecord text
+pub unquoted-ends : (text : List ℕ) → list_all is_unquoted text ≡ true → EndsRecord text
 unquoted-ends text plain end more e =
-    ap (records default_config) (strip-parted text end more e) ∙ parted-records (strip_bom text) end more (strip-unquoted text plain) e
+    ap (records default_config) (strip-parted text end more e) ∙ parted-records (strip_bom text) end more (strip-unquoted text (unquoted-of text plain)) e

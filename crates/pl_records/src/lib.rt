@@ -14,7 +14,7 @@ mod pieces;
 mod plain;
 mod quoted;
 
-pub use pieces::whole_length;
+pub use pieces::{has_no_quote, last_line_end};
 use plain::{Next, PlainRecords};
 use quoted::QuotedRecords;
 use std::alloc::{AllocError, Global};

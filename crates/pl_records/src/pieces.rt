@@ -1,20 +1,22 @@
 //! Texts that are read in pieces: which of the records at hand no later byte changes.
 
-ghost use Rattle.std.specs.Prelude.{◌≡◌, ◌<◌, ◌≤◌, ℕ, true, length, take, get_or};
+ghost use Rattle.std.specs.Prelude.{◌≡◌, ◌<◌, ℕ, true, false, length, get_or, IfSome, IfNone};
+ghost use Rattle.std.specs.List.{list_all};
 ghost use Rattle.pl_records.specs.Plain.{is_line_end};
-ghost use Rattle.pl_records.specs.WholeRecords.{EndsRecord};
+ghost use Rattle.pl_records.specs.WholeRecords.{is_unquoted, IsLastLineEnd};
 
 use memchr::{memchr, memrchr2};
 
-/// How many bytes at the front of a text are records that nothing behind it changes: those before its last line
-/// end, and where it has a quote, before the last line end in front of that. 0 where there is no such line end.
-pub fn whole_length(text: &[u8]) -> usize
-    ensures within { result ≤ length text.now }
-    ensures whole { EndsRecord (take result text.now) }
-    ensures end { 0 < result → is_line_end (get_or text.now result 0) ≡ true }
-    ensures most { (i : ℕ) → result < i → i < length text.now → is_line_end (get_or text.now i 0) ≡ true
-        → (q : ℕ) × (q < i) × (get_or text.now q 0 ≡ 34) }
+/// Whether a text has no quote. Then each line of it is a record, whatever follows.
+pub fn has_no_quote(text: &[u8]) -> bool
+    ensures { result ≡ list_all is_unquoted text.now }
 {
-    let plain = memchr(b'"', text).unwrap_or(text.len());
-    memrchr2(b'\n', b'\r', &text[..plain]).unwrap_or(0)
+    memchr(b'"', text).is_none()
+}
+
+/// Where the last line end of a text stands; `None` where there is none.
+pub fn last_line_end(text: &[u8]) -> Option<usize>
+    ensures { IsLastLineEnd text.now result }
+{
+    memrchr2(b'\n', b'\r', text)
 }
