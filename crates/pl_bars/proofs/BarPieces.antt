@@ -1,16 +1,15 @@
 -- Bars of a text that is read in pieces.
-use Rattle.std.proofs.Common.{◌≡◌, ℕ, ◌+◌, ◌<◌, ◌≤◌, ◌==◌, Bool, true, false, not, IsTrue, bytes_eq, ℤ, List, [], ◌∷◌, ◌++◌, length, take, drop, get_or, Option, Some, None, IfSome, Result, Ok, Err, IfOk, IfErr, OnErr, refl, sym, ap, subst, ◌∙◌, arith, append_assoc, suc, ◌&&◌, drop-cons, take-append-drop, inl, inr}
+use Rattle.std.proofs.Common.{◌≡◌, ℕ, ◌+◌, ◌-◌, Bool, true, false, ℤ, List, [], ◌∷◌, ◌++◌, length, take, drop, get_or, Option, Some, None, IfSome, Result, Ok, Err, IfOk, IfErr, IsErrAnd, refl, sym, ap, ◌∙◌, arith, append_assoc, length-drop, suc, ◌&&◌, drop-cons, take-append-drop}
 use lib.Seq.{take-append-add}
-use Rattle.std.specs.Prelude.{⊤}
 use Rattle.std.specs.List.{list_all}
-use Rattle.std.proofs.lemmas.List.{append-nil}
+use Rattle.std.proofs.lemmas.List.{append-nil, take_all}
 use Rattle.std.proofs.lemmas.Option.{IfSome_then}
 use Rattle.std.proofs.lemmas.List.Folds.{list_all-append}
-use lib.Pointwise.{pointwise}
-use Rattle.pl_records.specs.Reading.{Record, Fault, Answers, rows_behind, has_header}
+use Rattle.std.proofs.lemmas.Result.{err_from_is_err_and}
+use Rattle.pl_records.specs.Reading.{Record, Answers, rows_behind, has_header}
 use Rattle.pl_records.specs.Records.{csv_records, GivesNext}
 use Rattle.pl_records.specs.View.{RecordsView}
-use Rattle.pl_records.specs.WholeRecords.{is_unquoted, EndsRecord, IsLastLineEnd}
+use Rattle.pl_records.specs.WholeRecords.{is_unquoted, IsLastLineEnd}
 use Rattle.pl_records.specs.Sorted.{sorted_by}
 use Rattle.pl_records.proofs.Readings.{rows-append, rows-fail, under_ok}
 use Rattle.pl_records.proofs.WholeRecords.{unquoted-ends}
@@ -19,18 +18,12 @@ use Rattle.pl_spec.specs.declared.BarRow.{BarRow}
 use Rattle.pl_bars.specs.Bars.{Rule, header, bar_or_rule, rows_in, bars_of, key_of}
 use Rattle.pl_bars.specs.Bars as rules
 use Rattle.pl_bars.specs.Faults.{fault_of}
-use Rattle.pl_bars.specs.InPieces.{AreRowsOf, IsFaultOf, IsFaulty, AreKept, IsReadTo, IsLeft}
+use Rattle.pl_bars.specs.InPieces.{AreRowsOf, IsFaultOf, IsFaulty, AreKept, IsReadTo, IsLeft, TextSoFar}
+use Rattle.pl_bars.specs.ReaderInside.{view_of, IsReading}
+use Rattle.pl_bars.specs.declared.pieces.BarsReader.TheInside.{Inside}
 use Rattle.pl_bars.specs.declared.error.BarsError.{BarsError}
 use Rattle.pl_bars.specs.declared.error.BarsError.TheVariants.{BadHeader}
 use Rattle.pl_bars.specs.declared.judged.Judged.{Judged}
-
-pub not-so : (b : Bool) → not b ≡ false → b ≡ true
-not-so true e = refl
-not-so false e = absurd (cc)
-
-pub not-true : (b : Bool) → not b ≡ true → b ≡ false
-not-true true e = absurd (cc)
-not-true false e = refl
 
 pub next-left : (old new : RecordsView) (found : Bool) → GivesNext old new found → found ≡ true → old.left ≡ new.fields ∷ new.left
 next-left old new true h e = h
@@ -78,8 +71,8 @@ module _ (days : List ℤ) (assets : List AssetRow) where
         of-result (Ok x) said = tt
         of-result (Err e) said =
             IfSome_then (fault_of e) said (λ f told rest.
-                rw (append_assoc front more rest) (behind-front front rows (more ++ rest) (rw h at were)
-                ∙ rows-fail 2 (bar_or_rule days assets) more rest rows f told))
+            rw (append_assoc front more rest) (behind-front front rows (more ++ rest) (rw h at were)
+            ∙ rows-fail 2 (bar_or_rule days assets) more rest rows f told))
 
     pub first-rows : (later : Bool) (all : List BarRow) (r : Record) (rs left : List Record) → later ≡ true → left ≡ r ∷ rs
         → has_header header (r ∷ rs) ≡ true
@@ -103,7 +96,7 @@ module _ (days : List ℤ) (assets : List AssetRow) where
         of-result (Ok x) said = tt
         of-result (Err e) said =
             IfSome_then (fault_of e) said (λ f told rest.
-                rw same (header-first r (rs ++ rest) h ∙ rows-fail 2 (bar_or_rule days assets) rs rest [] f told))
+            rw same (header-first r (rs ++ rest) h ∙ rows-fail 2 (bar_or_rule days assets) rs rest [] f told))
 
   pub bad-header : (r : Record) (rs left : List Record) → left ≡ r ∷ rs → has_header header (r ∷ rs) ≡ false → IsFaultOf days assets left BadHeader
   bad-header r rs left e h rest = rw e (no-header r (rs ++ rest) h)
@@ -130,13 +123,15 @@ module _ (days : List ℤ) (assets : List AssetRow) where
       where
         pieces : (list_all is_unquoted (take at piece) && list_all is_unquoted (drop at piece)) ≡ true
         pieces = sym (list_all-append is_unquoted (take at piece) (drop at piece)) ∙ ap (list_all is_unquoted) (take-append-drop at piece) ∙ plain_piece
+
         both : {x y : Bool} → x ≡ true → y ≡ true → (x && y) ≡ true
         both e f = rw (e, f) refl
+
         front-of : (x y : Bool) → (x && y) ≡ true → x ≡ true
         front-of true y e = refl
         front-of false y e = absurd (cc)
 
-    end : ℕ
+    abbrev end : ℕ
     end = get_or piece at 0
 
     left-is : drop at piece ≡ end ∷ drop (suc at) piece
@@ -147,7 +142,7 @@ module _ (days : List ℤ) (assets : List AssetRow) where
         ap csv_records (append_assoc text piece more)
         ∙ h.parts (piece ++ more)
         ∙ ap (λ l. h.front ++ csv_records l) split
-        ∙ ap (λ rs. h.front ++ rs) (unquoted-ends (rest ++ take at piece) plain-whole end (drop (suc at) piece ++ more) last.1.0)
+        ∙ ap (λ rs. h.front ++ rs) (unquoted-ends (rest ++ take at piece) plain-whole end (drop (suc at) piece ++ more) last.1)
         ∙ sym (append_assoc h.front (csv_records (rest ++ take at piece)) (csv_records (end ∷ drop (suc at) piece ++ more)))
         ∙ ap (λ l. (h.front ++ csv_records l) ++ csv_records (end ∷ drop (suc at) piece ++ more)) (sym whole-is)
         ∙ ap (λ l. (h.front ++ csv_records (take n (rest ++ piece))) ++ csv_records (l ++ more)) (sym left-is)
@@ -209,3 +204,54 @@ module _ (days : List ℤ) (assets : List AssetRow) where
 
   pub text-end : (text rest : List ℕ) (j : Judged) (h : IsReadTo days assets text j rest) → csv_records text ≡ h.front ++ csv_records rest
   text-end text rest j h = rw (append-nil text, append-nil rest) at (h.parts [])
+
+  -- ---- errors as they are handed on
+
+  pub fault-told : {X : Type 0} (view : X → List BarRow) (result : Result X BarsError) (error : BarsError) (front : List Record)
+      → IsErrAnd result (λ e. e ≡ error) → IsFaultOf days assets front error → Answers view fault_of result (bars_of days assets front)
+  fault-told view result error front is h =
+      let err = err_from_is_err_and result is in
+      rw (err.1, err.2) (fault-end front error h)
+
+  pub faulty-told : {X : Type 0} (result : Result X BarsError) (error : BarsError) (text : List ℕ)
+      → IsErrAnd result (λ e. e ≡ error) → IsFaulty days assets text error → IfErr result (IsFaulty days assets text)
+  faulty-told result error text is h =
+      let err = err_from_is_err_and result is in
+      rw (err.1, err.2) h
+
+  -- the same, as the calls give it
+
+  pub judged-at : (text piece rest all left : List ℕ) (at n : ℕ) (old new : Judged) → IsReadTo days assets text old rest → n ≡ length rest + at → all ≡ rest ++ piece
+      → list_all is_unquoted rest ≡ true → list_all is_unquoted piece ≡ true → IsLastLineEnd piece (Some at)
+      → ((front : List Record) → AreRowsOf days assets old.headed old.rows.items front → AreRowsOf days assets new.headed new.rows.items (front ++ csv_records (take n all)))
+      → AreKept days assets new → left ≡ drop at piece → IsReadTo days assets (text ++ piece) new left
+  judged-at text piece rest all left at n old new h same whole plain plain_piece last rows kept e =
+      rw e (judged-piece text piece rest at n old h same plain plain_piece last new (rw whole at (rows h.front h.rows)) kept)
+
+  pub faulty-at : (text piece rest all : List ℕ) (at n : ℕ) (old : Judged) (error : BarsError) → IsReadTo days assets text old rest → n ≡ length rest + at → all ≡ rest ++ piece
+      → list_all is_unquoted rest ≡ true → list_all is_unquoted piece ≡ true → IsLastLineEnd piece (Some at)
+      → ((front : List Record) → AreRowsOf days assets old.headed old.rows.items front → IsFaultOf days assets (front ++ csv_records (take n all)) error)
+      → IsFaulty days assets (text ++ piece) error
+  faulty-at text piece rest all at n old error h same whole plain plain_piece last fault =
+      faulty-piece text piece rest at n old h same plain plain_piece last error (rw whole at (fault h.front h.rows))
+
+pub rest-of : (piece : List ℕ) (at : ℕ) → take (length piece - at) (drop at piece) ≡ drop at piece
+rest-of piece at = take_all (length piece - at) (drop at piece) (omega (arith, length-drop at piece))
+
+-- ---- a reader at its end
+
+pub ended-faulty : {X : Type 0} (view : X → List BarRow) (result : Result X BarsError) (r : Inside) (t : TextSoFar) (error : BarsError) → IsErrAnd result (λ e. e ≡ error)
+    → r.judged ≡ Err error → view_of r ≡ t → IsReading r → Answers view fault_of result (bars_of t.days t.assets (csv_records t.text))
+ended-faulty view result r t error is e v h =
+    let err = err_from_is_err_and result is in
+    let it : IsFaulty r.sessions.now r.assets.now r.text.bytes error = rw e at h.reads in
+    rw (← v, err.1, err.2) (faulty-end r.sessions.now r.assets.now r.text.bytes error it)
+
+pub ended-whole : {X : Type 0} (view : X → List BarRow) (result : Result X BarsError) (r : Inside) (t : TextSoFar) (j : Judged) → r.judged ≡ Ok j → view_of r ≡ t → IsReading r
+    → ((front : List Record) → AreRowsOf r.sessions.now r.assets.now j.headed j.rows.items front
+        → Answers view fault_of result (bars_of r.sessions.now r.assets.now (front ++ csv_records r.left.text.items)))
+    → Answers view fault_of result (bars_of t.days t.assets (csv_records t.text))
+ended-whole view result r t j e v h said =
+    let it : IsReadTo r.sessions.now r.assets.now r.text.bytes j r.left.text.items = rw e at h.reads in
+    rw (← v, text-end r.sessions.now r.assets.now r.text.bytes r.left.text.items j it) (said it.front it.rows)
+

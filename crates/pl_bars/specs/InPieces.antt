@@ -1,13 +1,13 @@
 -- Bars of a text that is read in pieces: what was judged of it, and what is left.
-use Rattle.std.specs.Prelude.{◌≡◌, ℕ, ◌≤◌, Bool, true, false, IsTrue, ℤ, List, [], ◌++◌, length, Option, Some, None, IfSome, Result, Ok, Err, ⊤}
+use Rattle.std.specs.Prelude.{◌≡◌, ℕ, ◌≤◌, Bool, true, false, IsTrue, ℤ, List, [], ◌++◌, length, IfSome, Result, Ok, Err, ⊤}
 use Rattle.std.specs.List.{list_all}
-use Rattle.pl_records.specs.Reading.{Record, Fault}
+use Rattle.pl_records.specs.Reading.{Record}
 use Rattle.pl_records.specs.Records.{csv_records}
 use Rattle.pl_records.specs.WholeRecords.{is_unquoted}
 use Rattle.pl_spec.specs.Limits.{most_bars}
 use Rattle.pl_spec.specs.declared.AssetRow.{AssetRow}
 use Rattle.pl_spec.specs.declared.BarRow.{BarRow}
-use Rattle.pl_bars.specs.Bars.{Rule, rows_in}
+use Rattle.pl_bars.specs.Bars.{rows_in}
 use Rattle.pl_bars.specs.BarPoint.{Rise}
 use Rattle.pl_bars.specs.BarSet.{AreBarsIn}
 use Rattle.pl_bars.specs.Faults.{fault_of}
@@ -52,3 +52,8 @@ IsFaulty days assets text error =
 abbrev pub IsLeft : Bool → List ℕ → Type 0
 IsLeft true rest = ⊤
 IsLeft false rest = list_all is_unquoted rest ≡ true
+
+-- the text was judged as far as its lines are whole, or it has the fault
+abbrev pub Reads : List ℤ → List AssetRow → List ℕ → Result Judged BarsError → List ℕ → Type 0
+Reads days assets text (Ok j) rest = IsReadTo days assets text j rest
+Reads days assets text (Err error) rest = IsFaulty days assets text error

@@ -1,6 +1,6 @@
 //! The bars of the records of a file, as far as they were judged.
 
-ghost use Rattle.std.specs.Prelude.{◌≡◌, ◌≤◌, [], ◌++◌, true, false, length, List, IsTrue, IfOk, IfErr};
+ghost use Rattle.std.specs.Prelude.{◌≡◌, ◌≤◌, [], ◌++◌, true, false, length, vec_capacity, List, IsTrue, IfOk, IfErr};
 ghost use Rattle.pl_records.specs.Reading.{Answers, Record, rows_behind};
 ghost use Rattle.pl_records.specs.Records.{csv_records};
 ghost use Rattle.pl_bars.specs.Bars.{bar_or_rule};
@@ -30,22 +30,24 @@ pub(crate) struct Judged {
 }
 
 impl Judged {
-    // No record was judged.
+    // No record was judged, and there is room for so many bars. Memory that no bar reaches is never touched.
     #[tactic(auto, using(crate::proofs::BarOrder::rise_empty))]
     pub(crate) fn new(
         alloc: Global,
+        room: usize,
         sessions: &Sessions,
         assets: &Assets,
     ) -> Result<Judged, AllocError>
         ensures rows { IfOk result (λ j. AreRowsOf sessions.now assets.now j.headed j.rows.items []) }
         ensures kept { IfOk result (AreKept sessions.now assets.now) }
+        ensures room { IfOk result (λ j. vec_capacity j.rows ≡ room) }
     {
         let dates = dates_of(alloc, sessions)?;
         let seen = BarSet::new(alloc, assets.len(), sessions.len())?;
         Ok(Judged {
             dates,
             seen,
-            rows: Vec::new(alloc),
+            rows: Vec::with_capacity(alloc, room)?,
             rise: true,
             headed: false,
         })

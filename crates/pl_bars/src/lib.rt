@@ -43,6 +43,9 @@ use std::marker::Model;
 /// How many bars there may be. The limit is this project's own.
 pub const MOST_BARS: usize = 4_000_000;
 
+// The fewest bytes that a bar takes: one digit, a date, six commas and the end of the line.
+const FEWEST_BYTES: usize = 18;
+
 /// The bars, at most 4,000,000 of them, by ascending column and then session. Their cells are millionths,
 /// missing or at least 0.
 #[derive(Debug, Drop)]
@@ -83,7 +86,8 @@ impl Bars {
         ensures cols { IfOk result (All (λ b. b.col < length assets.now)) }
         ensures sessions { IfOk result (All (λ b. b.session < length sessions.now)) }
     {
-        let judged = Judged::new(alloc, sessions, assets)?;
+        let room = (bytes.len() / FEWEST_BYTES).min(MOST_BARS);
+        let judged = Judged::new(alloc, room, sessions, assets)?;
         Bars::behind(alloc, judged, bytes, sessions, assets)
     }
 

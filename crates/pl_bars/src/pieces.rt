@@ -7,13 +7,12 @@ ghost use Rattle.pl_records.specs.Records.{csv_records};
 ghost use Rattle.pl_records.specs.WholeRecords.{is_unquoted};
 ghost use Rattle.pl_bars.specs.Bars.{AreBars, bars_of};
 ghost use Rattle.pl_bars.specs.Faults.{fault_of};
-ghost use Rattle.pl_bars.specs.InPieces.{AreKept, IsReadTo, IsFaulty, IsLeft};
+ghost use Rattle.pl_bars.specs.InPieces.{AreKept, IsReadTo, IsFaulty, IsLeft, Reads};
 
 use crate::Bars;
 use crate::error::BarsError;
 use crate::judged::Judged;
 use pl_calendar::Sessions;
-use pl_fixed::Memory;
 use pl_lifetimes::Assets;
 use pl_outside::TakenLog;
 use pl_records::{has_no_quote, last_line_end};
@@ -27,9 +26,8 @@ pub struct BarsReader<'a> {
     alloc: Global,
     sessions: &'a Sessions,
     assets: &'a Assets,
-    judged: Judged,
+    judged: Result<Judged, BarsError>,
     left: Left,
-    fault: Option<BarsError>,
     text: TakenLog,
 }
 
@@ -45,28 +43,21 @@ impl<'a> Model for BarsReader<'a> {
 }
 
 impl<'a> BarsReader<'a> {
-    /// No piece was given. The only error is want of memory.
-    pub fn new(
-        alloc: Global,
-        sessions: &'a Sessions,
-        assets: &'a Assets,
-    ) -> Result<BarsReader<'a>, Memory>
-        ensures { IfOk result (λ reader. reader
-            ≡ record { days = sessions.entry.now; assets = assets.entry.now; text = [] }) }
+    /// No piece was given. Where memory runs out here or later, the end tells it.
+    pub fn new(alloc: Global, sessions: &'a Sessions, assets: &'a Assets) -> BarsReader<'a>
+        ensures { result ≡ record { days = sessions.entry.now; assets = assets.entry.now; text = [] } }
     {
-        let judged = Judged::new(alloc, sessions, assets)?;
-        Ok(BarsReader {
+        BarsReader {
             alloc,
             sessions,
             assets,
-            judged,
+            judged: begun(alloc, sessions, assets),
             left: Left {
                 text: Vec::new(alloc),
                 quoted: false,
             },
-            fault: None,
             text: TakenLog::new(),
-        })
+        }
     }
 
     /// The text goes on with this piece.
@@ -74,28 +65,29 @@ impl<'a> BarsReader<'a> {
         ensures { self.new ≡ record self.old { text = self.old.text ++ piece.now } }
     {
         self.text.takes(piece);
-        if self.fault.is_some() {
-            return;
-        }
-        let said = go_on(
-            self.alloc,
-            &mut self.judged,
-            &mut self.left,
-            piece,
-            self.sessions,
-            self.assets,
-        );
+        let said = match &mut self.judged {
+            Ok(judged) => go_on(
+                self.alloc,
+                judged,
+                &mut self.left,
+                piece,
+                self.sessions,
+                self.assets,
+            ),
+            Err(_) => return,
+        };
         if let Err(error) = said {
-            self.fault = Some(error);
+            self.judged = Err(error);
         }
     }
 
     /// The bars of the text. The error is the first fault of the file, or want of memory.
     pub fn end(self) -> Result<Bars, BarsError>
-        ensures exact { Answers (λ b. b) fault_of result (bars_of self.days self.assets (csv_records self.text)) }
+        ensures exact { Answers (λ b. b) fault_of result
+            (bars_of self.entry.days self.entry.assets (csv_records self.entry.text)) }
         ensures bars { IfOk result AreBars }
-        ensures cols { IfOk result (All (λ b. b.col < length self.assets)) }
-        ensures sessions { IfOk result (All (λ b. b.session < length self.days)) }
+        ensures cols { IfOk result (All (λ b. b.col < length self.entry.assets)) }
+        ensures sessions { IfOk result (All (λ b. b.session < length self.entry.days)) }
     {
         let BarsReader {
             alloc,
@@ -103,14 +95,17 @@ impl<'a> BarsReader<'a> {
             assets,
             judged,
             left,
-            fault,
             text: _text,
         } = self;
-        if let Some(error) = fault {
-            return Err(error);
-        }
-        Bars::behind(alloc, judged, &left.text, sessions, assets)
+        Bars::behind(alloc, judged?, &left.text, sessions, assets)
     }
+}
+
+// Nothing was judged yet.
+fn begun(alloc: Global, sessions: &Sessions, assets: &Assets) -> Result<Judged, BarsError>
+    ensures { Reads sessions.now assets.now [] result [] }
+{
+    Ok(Judged::new(alloc, 0, sessions, assets)?)
 }
 
 // What is left of a text: no whole line, unless it has a quote.
