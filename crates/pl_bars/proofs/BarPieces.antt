@@ -249,9 +249,8 @@ ended-faulty view result r t error is e v h =
 
 pub ended-whole : {X : Type 0} (view : X → List BarRow) (result : Result X BarsError) (r : Inside) (t : TextSoFar) (j : Judged) → r.judged ≡ Ok j → view_of r ≡ t → IsReading r
     → ((front : List Record) → AreRowsOf r.sessions.now r.assets.now j.headed j.rows.items front
-        → Answers view fault_of result (bars_of r.sessions.now r.assets.now (front ++ csv_records r.left.text.items)))
+    → Answers view fault_of result (bars_of r.sessions.now r.assets.now (front ++ csv_records r.left.text.items)))
     → Answers view fault_of result (bars_of t.days t.assets (csv_records t.text))
 ended-whole view result r t j e v h said =
     let it : IsReadTo r.sessions.now r.assets.now r.text.bytes j r.left.text.items = rw e at h.reads in
     rw (← v, text-end r.sessions.now r.assets.now r.text.bytes r.left.text.items j it) (said it.front it.rows)
-

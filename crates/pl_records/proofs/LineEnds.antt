@@ -1,9 +1,7 @@
 -- The places of a quote and of line ends in a text.
-use Rattle.std.proofs.Common.{◌≡◌, ℕ, zero, suc, ◌+◌, ◌<◌, ◌≤◌, ◌==◌, ◌&&◌, ◌||◌, List, [], ◌∷◌, length, get_or, Bool, true, false, not, refl, sym, ap, ◌∙◌, arith, Option, Some, None}
+use Rattle.std.proofs.Common.{◌≡◌, ℕ, zero, suc, ◌<◌, ◌==◌, ◌&&◌, ◌||◌, List, [], ◌∷◌, length, get_or, Bool, true, false, not, refl, sym, ◌∙◌, arith, Option, Some, None}
 use Rattle.std.specs.List.{list_all}
 use Rattle.std.specs.Option.{is_some}
-use Rattle.std.proofs.lemmas.Grind.{common_steps}
-use Rattle.std.proofs.lemmas.Bool.Decides.{nat_tests}
 use Rattle.memchr.specs.Find.{IsFirstByte, IsLastByte, is_byte, is_byte2}
 use Rattle.pl_records.specs.Plain.{is_line_end}
 use Rattle.pl_records.specs.WholeRecords.{is_unquoted, IsLastLineEnd}

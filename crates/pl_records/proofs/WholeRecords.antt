@@ -1,15 +1,12 @@
 -- Without a quote the records of a text up to a line end are whole.
-use Rattle.std.proofs.Common.{◌≡◌, ◌⊎◌, inl, inr, ℕ, zero, suc, ◌+◌, ◌==◌, ◌&&◌, List, [], ◌∷◌, ◌++◌, length, Bool, true, false, not, if◌then◌else◌, refl, sym, ap, ◌∙◌, arith, add-one, Option, Some, None}
+use Rattle.std.proofs.Common.{◌≡◌, ◌⊎◌, inl, inr, ℕ, ◌+◌, ◌==◌, ◌&&◌, List, [], ◌∷◌, ◌++◌, length, Bool, true, false, if◌then◌else◌, refl, sym, ap, ◌∙◌, arith, add-one, Option, Some, None}
 use Rattle.std.specs.Prelude.{⊤}
 use Rattle.std.proofs.lemmas.Grind.{common_steps}
-use Rattle.std.proofs.lemmas.List.{append-nil}
 use Rattle.std.proofs.lemmas.Bool.Decides.{nat_tests}
 use Rattle.csv.specs.Machine.{step, next_record, Read, is_end, ends_at_end, fields_after, field_after}
 use Rattle.csv.specs.Reading.{default_config, records, records_from, records_next, strip_bom, is_bom}
 use Rattle.csv.specs.declared.parser.State.{State}
 use Rattle.csv.specs.declared.parser.State.TheVariants as st
-use Rattle.csv.specs.declared.parser.Action.{Action}
-use Rattle.csv.specs.declared.parser.Action.TheVariants as act
 use Rattle.pl_records.specs.Records.{csv_records}
 use Rattle.pl_records.specs.Plain.{is_line_end}
 use Rattle.pl_records.specs.PlainCuts.{IsInside}
@@ -17,7 +14,7 @@ use Rattle.pl_records.specs.QuotedInside.{records_left}
 use Rattle.std.specs.List.{list_all}
 use Rattle.pl_records.specs.WholeRecords.{EndsRecord, is_unquoted}
 use Rattle.pl_records.proofs.Facts.{fuel-same, next-leaves, Leaves}
-use Rattle.pl_records.proofs.PlainLines.{same-records, after-cr, step-cr, step-comma, step-byte, step-lf, step-return, lf-first, return-first, unmarked_records, unmarked}
+use Rattle.pl_records.proofs.PlainLines.{after-cr, step-cr, step-comma, step-byte, step-lf, step-return, lf-first, return-first, unmarked_records, unmarked}
 
 -- the record at hand, and those behind it
 abbrev records_on : Option Read → List (List (List ℕ))

@@ -1,15 +1,15 @@
 //! Texts that are read in pieces: which of the records at hand no later byte changes.
 
-ghost use Rattle.std.specs.Prelude.{◌≡◌, ◌<◌, ℕ, true, false, length, get_or, IfSome, IfNone};
+ghost use Rattle.std.specs.Prelude.{◌≡◌, IsTrue};
 ghost use Rattle.std.specs.List.{list_all};
-ghost use Rattle.pl_records.specs.Plain.{is_line_end};
-ghost use Rattle.pl_records.specs.WholeRecords.{is_unquoted, IsLastLineEnd};
+ghost use Rattle.pl_records.specs.WholeRecords.{is_unquoted, EndsRecord, IsLastLineEnd};
 
 use memchr::{memchr, memrchr2};
 
 /// Whether a text has no quote. Then each line of it is a record, whatever follows.
 pub fn has_no_quote(text: &[u8]) -> bool
-    ensures { result ≡ list_all is_unquoted text.now }
+    ensures value { result ≡ list_all is_unquoted text.now }
+    ensures whole { IsTrue result → EndsRecord text.now }
 {
     memchr(b'"', text).is_none()
 }
