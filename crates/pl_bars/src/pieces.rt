@@ -14,7 +14,7 @@ use crate::error::BarsError;
 use crate::judged::Judged;
 use pl_calendar::Sessions;
 use pl_lifetimes::Assets;
-use pl_outside::TakenLog;
+use pl_outside::{Memory, TakenLog, Taker};
 use pl_records::{has_no_quote, last_line_end};
 use std::alloc::Global;
 use std::marker::Model;
@@ -99,6 +99,21 @@ impl<'a> BarsReader<'a> {
         } = self;
         Bars::behind(alloc, judged?, &left.text, sessions, assets)
     }
+}
+
+impl<'a> Taker for BarsReader<'a> {
+    ghost use Rattle.pl_bars.proofs.BarPieces.{text-none, text-joined};
+
+    ghost after = { λ old bytes new. new ≡ record old { text = old.text ++ bytes } };
+
+    fn take(&mut self, piece: &[u8]) -> Result<(), Memory> {
+        self.push(piece);
+        Ok(())
+    }
+
+    ghost none = { text-none };
+
+    ghost joined = { text-joined };
 }
 
 // Nothing was judged yet.
