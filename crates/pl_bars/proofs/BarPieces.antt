@@ -254,11 +254,3 @@ pub ended-whole : {X : Type 0} (view : X → List BarRow) (result : Result X Bar
 ended-whole view result r t j e v h said =
     let it : IsReadTo r.sessions.now r.assets.now r.text.bytes j r.left.text.items = rw e at h.reads in
     rw (← v, text-end r.sessions.now r.assets.now r.text.bytes r.left.text.items j it) (said it.front it.rows)
-
--- ---- a text as it is taken
-
-pub text-none : (t : TextSoFar) → t ≡ record t { text = t.text ++ [] }
-text-none t = ap (λ text. record t { text = text }) (sym (append-nil t.text))
-
-pub text-joined : (a b c : TextSoFar) (xs ys : List ℕ) → b ≡ record a { text = a.text ++ xs } → c ≡ record b { text = b.text ++ ys } → c ≡ record a { text = a.text ++ (xs ++ ys) }
-text-joined a b c xs ys first second = second ∙ ap (λ t. record t { text = t.text ++ ys }) first ∙ ap (λ text. record a { text = text }) (append_assoc a.text xs ys)

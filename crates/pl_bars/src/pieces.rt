@@ -102,7 +102,8 @@ impl<'a> BarsReader<'a> {
 }
 
 impl<'a> Taker for BarsReader<'a> {
-    ghost use Rattle.pl_bars.proofs.BarPieces.{text-none, text-joined};
+    ghost use Rattle.std.proofs.Common.{ap, sym, append_assoc, ◌∙◌};
+    ghost use Rattle.std.proofs.lemmas.List.{append-nil};
 
     ghost after = { λ old bytes new. new ≡ record old { text = old.text ++ bytes } };
 
@@ -111,9 +112,10 @@ impl<'a> Taker for BarsReader<'a> {
         Ok(())
     }
 
-    ghost none = { text-none };
+    ghost none = { λ t. ap (λ text. record t { text = text }) (sym (append-nil t.text)) };
 
-    ghost joined = { text-joined };
+    ghost joined = { λ a b c xs ys first second. second ∙ ap (λ t. record t { text = t.text ++ ys }) first
+        ∙ ap (λ text. record a { text = text }) (append_assoc a.text xs ys) };
 }
 
 // Nothing was judged yet.

@@ -1,12 +1,12 @@
 -- A file that is handed on: the bytes so far.
-use Rattle.std.proofs.Common.{◌≡◌, ℕ, zero, suc, ◌+◌, ◌-◌, ◌<◌, ◌≤◌, ◌==◌, ◌&&◌, ◌||◌, nat_lt, Bool, true, false, List, [], ◌∷◌, ◌++◌, length, take, Option, Some, None, Result, Ok, Err, IfOk, IsErrOf, refl, sym, ap, ◌∙◌, arith, append_assoc, length-append, length-take}
+use Rattle.std.proofs.Common.{◌≡◌, ℕ, zero, suc, ◌+◌, ◌≤◌, ◌==◌, ◌&&◌, nat_lt, false, List, ◌∷◌, ◌++◌, length, take, Option, refl, sym, ap, ◌∙◌, arith, append_assoc, length-append, length-take}
+use Rattle.std.specs.Prelude.{Result, Ok, Err, IfOk}
 use Rattle.std.specs.Option.{ForSome}
 use Rattle.std.proofs.lemmas.Bool.Decides.{nat_tests}
 use Rattle.std.proofs.lemmas.List.{take-append-le}
-use Rattle.pl_outside.specs.Logs.{Given, begins, gives, GivesIn}
+use Rattle.pl_outside.specs.Logs.{Given, begins, gives}
 use Rattle.pl_outside.specs.Takes.{IsTaken}
 use Rattle.pl_outside.specs.declared.reading.ReadError.{ReadError}
-use Rattle.pl_outside.specs.declared.reading.ReadError.TheVariants.{TooLong}
 
 -- so many bytes were given and taken
 pub record IsHandedOn (count : ℕ) (Took RestIs Gave : List ℕ → Type 0) : Type 0 where
@@ -43,3 +43,22 @@ handed-on-more count got Took More holds later whole left rest first old new buf
   rest = λ files f. h.rest files f ∙ ap (λ l. h.bytes ++ l) (piece files (same ∙ f)) ∙ sym (append_assoc h.bytes (take got buffer) rest);
   gave = λ files name was. logged ∙ rw (h.gave files name was, not-none got some) refl;
 }
+
+-- ---- a file from its beginning
+
+pub taken-begun : {T : Type 0} {cap : ℕ} {old new : List Given} {name : List ℕ} {Took Held Other : List ℕ → Type 0} (result : Result T ReadError)
+    → IsTaken cap old new name Took Held result → ((bytes : List ℕ) → Held bytes → Other bytes) → IsTaken cap old new name Took Other result
+taken-begun {T} {cap} {old} {new} {name} {Took} {Held} {Other} result h other = record {
+  file = h.file;
+  added = h.added;
+  named = h.named;
+  ended = h.ended;
+  within = h.within;
+  taken = h.taken;
+  held = IfOk-other result h.held;
+  too_long = h.too_long;
+}
+  where
+    IfOk-other : (r : Result T ReadError) → IfOk r (λ _. Held h.file.bytes) → IfOk r (λ _. Other h.file.bytes)
+    IfOk-other (Ok x) it = other h.file.bytes it
+    IfOk-other (Err e) it = tt

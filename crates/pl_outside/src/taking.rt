@@ -40,9 +40,6 @@ pub fn read_pieces<S: Shelf, T: Taker>(
     into: &mut T,
 ) -> Result<(), ReadError>
     requires { cap < 2 ^ 32 }
-    ensures exact { ForSome (S.holds shelf.old)
-        (λ files. IfOk result (λ _.
-        (bytes : List ℕ) × (files name.now ≡ Some bytes) × T.after into.old bytes into.new)) }
     ensures failed { IsErrOf result ReadError.Failed → Rose (S.faults shelf.old) (S.faults shelf.new) }
     ensures later { S.faults shelf.old ≤ S.faults shelf.new }
     ensures longer { ForSome (S.holds shelf.old) (λ files. IsErrOf result ReadError.TooLong
@@ -50,7 +47,8 @@ pub fn read_pieces<S: Shelf, T: Taker>(
     ensures misses { IsTrue (S.sound shelf.old) → ForSome (S.holds shelf.old) (λ files.
         IsErrOf result ReadError.Failed ↔ (files name.now ≡ None)) }
     ensures given { IsTaken cap (S.gave shelf.old) (S.gave shelf.new) name.now
-        (λ bytes. T.after into.old bytes into.new) result }
+        (λ bytes. T.after into.old bytes into.new)
+        (λ bytes. ForSome (S.holds shelf.old) (λ files. files name.now ≡ Some bytes)) result }
     ensures named { BeginsAll (S.begun shelf.old) (S.begun shelf.new) (name.now ∷ []) }
     ensures keeps { S.holds shelf.new ≡ S.holds shelf.old }
     ensures stays { S.sound shelf.new ≡ S.sound shelf.old }
@@ -62,8 +60,6 @@ pub fn read_pieces<S: Shelf, T: Taker>(
 // Hands on what is left of the file that was begun.
 fn read_rest<S: Shelf, T: Taker>(shelf: &mut S, cap: usize, into: &mut T) -> Result<(), ReadError>
     requires { cap < 2 ^ 32 }
-    ensures exact { ForSome (S.holds shelf.old)
-        (λ files. IfOk result (λ _. T.after into.old (S.rest shelf.old) into.new)) }
     ensures failed { IsErrOf result ReadError.Failed → Rose (S.faults shelf.old) (S.faults shelf.new) }
     ensures later { S.faults shelf.old ≤ S.faults shelf.new }
     ensures longer { ForSome (S.holds shelf.old)
@@ -71,7 +67,8 @@ fn read_rest<S: Shelf, T: Taker>(shelf: &mut S, cap: usize, into: &mut T) -> Res
     ensures blameless { IsTrue (S.sound shelf.old)
         → ¬ IsErrOf result ReadError.Failed × (S.faults shelf.new ≡ S.faults shelf.old) }
     ensures given { (files : List Given) (name : List ℕ) → S.gave shelf.old ≡ begins files name
-        → IsTaken cap files (S.gave shelf.new) name (λ bytes. T.after into.old bytes into.new) result }
+        → IsTaken cap files (S.gave shelf.new) name (λ bytes. T.after into.old bytes into.new)
+        (λ bytes. ForSome (S.holds shelf.old) (λ _. S.rest shelf.old ≡ bytes)) result }
     ensures named { S.begun shelf.new ≡ S.begun shelf.old }
     ensures keeps { S.holds shelf.new ≡ S.holds shelf.old }
     ensures stays { S.sound shelf.new ≡ S.sound shelf.old }

@@ -1,4 +1,4 @@
-use Rattle.std.proofs.Common.{◌≡◌, ◌∙◌, ◌≤◌, ◌<◌, rules, arith, length}
+use Rattle.std.proofs.Common.{rules}
 use Rattle.pl_outside.proofs.HandedOn.{handed-on-more}
 use Rattle.pl_outside.proofs.taking.read_rest.Goals as goal
 
