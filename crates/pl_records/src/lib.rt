@@ -10,9 +10,11 @@ ghost use lib.Pointwise.{pointwise};
 ghost use Rattle.pl_records.specs.Reading.{field, has_header};
 ghost use Rattle.pl_records.specs.Records.{csv_records, GivesNext};
 
+mod fault;
 mod plain;
 mod quoted;
 
+pub use fault::DataFault;
 use plain::{Next, PlainRecords};
 use quoted::QuotedRecords;
 use std::alloc::{AllocError, Global};
