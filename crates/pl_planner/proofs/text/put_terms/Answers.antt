@@ -7,15 +7,6 @@ use Rattle.pl_planner.specs.Text.{used_line}
 use Rattle.pl_planner.proofs.Lines.{lines_below, one-more, all-lines}
 use Rattle.pl_planner.proofs.text.put_terms.Goals as goal
 
-pub put_term-requires-clause-cone : goal.put_term-requires-clause-cone
-put_term-requires-clause-cone c =
-    let v = c.len-k-end.ensures.value in
-    let t = c.loop-k-test.true in
-    let e : length c.graph.result.now ≡ length c.args.checked.now.graph = ap (λ ns. length ns) c.graph.ensures.value in
-    let g = graph-long c.args.checked.now.graph in
-    let inside : c.loop-k.k < length (pipeline_of c.args.checked.now).graph = omega arith in
-    c.requires.cones c.loop-k.k inside
-
 pub loop-k-preserved : goal.loop-k-preserved
 loop-k-preserved c =
     let put : c.put_term.new.out.items ≡ c.loop-k.out.items ++ used_line (pipeline_of c.args.checked.now) (extra c.args.plan.now) c.loop-k.k = c.in_ok-put_term.ensures in
