@@ -23,6 +23,7 @@ use Rattle.pl_planner.specs.Plans.{IsAsked, IsLive, AreLastUsers, is_read_by, is
 use Rattle.pl_planner.specs.Laws.{IsCovered}
 use Rattle.pl_planner.proofs.Pipelines.{IsPipeline, is-pipeline, used-inside}
 use Rattle.pl_planner.proofs.Covers.{reads-covered}
+use Rattle.pl_planner.proofs.Held.{columns-same}
 use Rattle.pl_values.proofs.Typed.{has-input}
 use Rattle.pl_values.proofs.Formulas.{first-place}
 use Rattle.pl_workspace.specs.Slots.{Slots, Free, Begun, slot_at, with_slot}
