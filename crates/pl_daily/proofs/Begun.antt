@@ -94,8 +94,8 @@ module _ (assets : ℕ) (p : Pipeline) (x : Capacities) (bars : BarRings) (terms
   terms_are = record {
     many = begun.many;
     full = λ u t used e. (begun.each u t e).cells used;
-    values = λ k n place u t used at windowed input e. (let fits : n.window ≤ term_window p u = term-window-in p k place u n used at windowed input in omega (arith, fits, (begun.each u t e).capacity));
-    bars = λ k n place c used at input. (let fits : n.window ≤ column_window p c = column-window-in p k place n c used at input in omega (arith, fits, columns_fit c));
+    values = λ k n place u t used at windowed input e. (let fits = term-window-in p k place n used at u windowed input in omega (arith, fits, (begun.each u t e).capacity));
+    bars = λ k n place c used at input. (let fits = column-window-in p k place n used at c input in omega (arith, fits, columns_fit c));
     bar_rings = are;
   }
 
