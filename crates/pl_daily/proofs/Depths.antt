@@ -47,15 +47,15 @@ most-few f b (k ∷ ks) a each h = let l : f k ≤ b = each k in most-few f b ks
 -- ---- depths in a cone
 
 pub depth-cons : (u : ℕ) (c : ℕ × ℕ) (cs : List (ℕ × ℕ)) → depth_in u (c ∷ cs) ≡ (if c.0 == u then max c.1 (depth_in u cs) else depth_in u cs)
-depth-cons u c cs = here (c.0 == u) refl
+depth-cons u c cs = here (c.0 == u)
   where
     of_larger : (k : ℕ) (o : Option ℕ) → larger k o ≡ max k (unwrap_or o 0)
     of_larger k None = omega arith
     of_larger k (Some m) = refl
 
-    here : (b : Bool) → (c.0 == u) ≡ b → depth_in u (c ∷ cs) ≡ (if c.0 == u then max c.1 (depth_in u cs) else depth_in u cs)
-    here true e = rw e (of_larger c.1 (mark u cs))
-    here false e = rw e refl
+    here : (b : Bool) → unwrap_or (cond b (Some (larger c.1 (mark u cs))) (mark u cs)) 0 ≡ cond b (max c.1 (depth_in u cs)) (depth_in u cs)
+    here true = of_larger c.1 (mark u cs)
+    here false = refl
 
 -- a listed depth is no greater
 has-least : (u m : ℕ) (cs : List (ℕ × ℕ)) → HasDepth u m cs → m ≤ depth_in u cs
@@ -77,7 +77,7 @@ has-least u m (c ∷ cs) (inr h) = more (c.0 == u) refl (has-least u m cs h)
 
 -- and one above 0 is listed
 depth-has : (u m : ℕ) (cs : List (ℕ × ℕ)) → depth_in u cs ≡ suc m → HasDepth u (suc m) cs
-depth-has u m [] e = cc
+depth-has u m [] e = let bad : 0 ≡ suc m = e in absurd (omega (arith, bad))
 depth-has u m (c ∷ cs) e = here (c.0 == u) refl (depth-has u m cs)
   where
     here : (b : Bool) → (c.0 == u) ≡ b → (depth_in u cs ≡ suc m → HasDepth u (suc m) cs) → HasDepth u (suc m) (c ∷ cs)
@@ -120,8 +120,8 @@ module _ (p : Pipeline) (ok : IsChecked p) where
           omega (arith, e, l)
 
   -- a term that is steady is read on the last alone
-  pub moves-deep : (u : ℕ) → moves_at g u ≡ false → deepest p u ≡ 0
-  moves-deep u steady = (let few : deepest p u ≤ 0 = deepest-few u 0 (λ t m f. absurd (true≢false (sym (follows-moves t (suc m) f) ∙ steady))) in omega arith)
+  pub steady-shallow : (u : ℕ) → moves_at g u ≡ false → deepest p u ≡ 0
+  steady-shallow u steady = (let few : deepest p u ≤ 0 = deepest-few u 0 (λ t m f. absurd (true≢false (sym (follows-moves t (suc m) f) ∙ steady))) in omega arith)
     where
       follows-moves : (t m : ℕ) → Follows g t u m → moves_at g u ≡ true
       follows-moves t m (Follows.input n i e w at h) = h
@@ -175,25 +175,26 @@ deepen-none old (c ∷ cs) none u h = absurd (omega (arith, none))
 abbrev pub Deepens : List ℕ → List ℕ → List ConeTerm → Type 0
 Deepens old new cone = (u : ℕ) → u < length old → get_or new u 0 ≡ max (get_or old u 0) (depth_in u (pairs_of cone))
 
-pub deepen-own : (old mid : List ℕ) (cone : List ConeTerm) (d : ConeTerm) (x : ℕ) → 1 ≤ length cone → (get_or cone 0 d).term.0 < length mid
-    → x ≡ max (get_or mid (get_or cone 0 d).term.0 0) (get_or cone 0 d).depth → Deepens old mid (drop 1 cone) → length mid ≡ length old
-    → Deepens old (slice_set mid (get_or cone 0 d).term.0 x) cone
-deepen-own old mid cone d x some inside is each long u h =
-    set_at mid (get_or cone 0 d).term.0 u x 0 inside ∙ here ((get_or cone 0 d).term.0 == u) refl
+deepen-at : (old mid : List ℕ) (own x deep : ℕ) (more all : ℕ → ℕ) → ((u : ℕ) → all u ≡ (if own == u then max deep (more u) else more u)) → own < length mid → x ≡ max (get_or mid own 0) deep
+    → ((u : ℕ) → u < length old → get_or mid u 0 ≡ max (get_or old u 0) (more u)) → (u : ℕ) → u < length old → get_or (slice_set mid own x) u 0 ≡ max (get_or old u 0) (all u)
+deepen-at old mid own x deep more all parts inside is each u h = set_at mid own u x 0 inside ∙ here (own == u) refl
   where
-    own : ℕ
-    own = (get_or cone 0 d).term.0
-
-    here : (b : Bool) → (own == u) ≡ b → (if own == u then x else get_or mid u 0) ≡ max (get_or old u 0) (depth_in u (pairs_of cone))
+    here : (b : Bool) → (own == u) ≡ b → (if own == u then x else get_or mid u 0) ≡ max (get_or old u 0) (all u)
     here true e =
         let same : own ≡ u = eqb-true own u e in
         let at : get_or mid own 0 ≡ get_or mid u 0 = ap (λ i. get_or mid i 0) same in
-        let all : depth_in u (pairs_of cone) ≡ max (get_or cone 0 d).depth (depth_in u (pairs_of (drop 1 cone))) = cone-first cone d u some ∙ ap (λ (b : Bool). if b then max (get_or cone 0 d).depth (depth_in u (pairs_of (drop 1 cone))) else depth_in u (pairs_of (drop 1 cone))) e in
+        let all_is : all u ≡ max deep (more u) = parts u ∙ ap (λ (b : Bool). if b then max deep (more u) else more u) e in
         let mid_is = each u h in
-        rw e (omega (arith, is, at, all, mid_is))
+        rw e (omega (arith, is, at, all_is, mid_is))
     here false e =
-        let all : depth_in u (pairs_of cone) ≡ depth_in u (pairs_of (drop 1 cone)) = cone-first cone d u some ∙ ap (λ (b : Bool). if b then max (get_or cone 0 d).depth (depth_in u (pairs_of (drop 1 cone))) else depth_in u (pairs_of (drop 1 cone))) e in
-        rw (e, all) (each u h)
+        let all_is : all u ≡ more u = parts u ∙ ap (λ (b : Bool). if b then max deep (more u) else more u) e in
+        rw (e, all_is) (each u h)
+
+pub deepen-own : (old mid : List ℕ) (cone : List ConeTerm) (d : ConeTerm) (x : ℕ) → 1 ≤ length cone → (get_or cone 0 d).term.0 < length mid
+    → x ≡ max (get_or mid (get_or cone 0 d).term.0 0) (get_or cone 0 d).depth → Deepens old mid (drop 1 cone)
+    → Deepens old (slice_set mid (get_or cone 0 d).term.0 x) cone
+deepen-own old mid cone d x some inside is each =
+    deepen-at old mid (get_or cone 0 d).term.0 x (get_or cone 0 d).depth (λ u. depth_in u (pairs_of (drop 1 cone))) (λ u. depth_in u (pairs_of cone)) (λ u. cone-first cone d u some) inside is each
 
 pub deepen-past : (old mid : List ℕ) (cone : List ConeTerm) (d : ConeTerm) → 1 ≤ length cone → ((get_or cone 0 d).term.0 < length mid → ⊥)
     → Deepens old mid (drop 1 cone) → length mid ≡ length old → Deepens old mid cone

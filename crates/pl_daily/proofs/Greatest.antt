@@ -19,6 +19,10 @@ use Rattle.pl_daily.specs.Capacities.{deepest, reads_column, reads_term, is_mask
 use Rattle.pl_daily.specs.Inside.{used_sessions}
 use Rattle.pl_daily.proofs.Depths.{most-used, used-at-most}
 
+chosen : (b : Bool) (x y : ℕ) → b ≡ true → cond b x y ≡ x
+chosen true x y e = refl
+chosen false x y e = absurd (let no : false ≡ true = e in cc)
+
 -- a maximum over all terms, at which the others count nothing, is that of the used ones
 pub most-is : (x : Input) (p : Pipeline) → fold max 0 (map (used_sessions x p) (range_with_len 0 (length p.graph))) ≡ most_read x p
 most-is x p = most-used (sessions_read_at x p) p
@@ -30,6 +34,12 @@ reads-in x p k n used at =
     let most : sessions_read_at x p k ≤ most_read x p = used-at-most (sessions_read_at x p) p k used (slice_get_within p.graph k n at) in
     omega arith
 
+-- the same of a node as the code finds it
+pub own-sessions : (x : Input) (p : Pipeline) (k d : ℕ) (n : Node) → slice_get p.graph k ≡ Some n → is_used p k ≡ true → d ≡ deepest p k → sessions_read x d n ≡ used_sessions x p k
+own-sessions x p k d n at used deep =
+    let own : sessions_read_at x p k ≡ sessions_read x (deepest p k) n = rw at refl in
+    ap (λ m. sessions_read x m n) deep ∙ sym own ∙ sym (chosen (is_used p k) (sessions_read_at x p k) 0 used)
+
 -- ---- bar columns and terms
 
 column-listed : (is : List Input) (i : ℕ) (c : Column) → slice_get is i ≡ Some (BarColumn c) → contains (filter_map input_column is) (column_number c) ≡ true
@@ -40,10 +50,6 @@ column-listed (BarColumn d ∷ is) zero c e =
 column-listed (TermInput u ∷ is) zero c e = cc
 column-listed (BarColumn d ∷ is) (suc i) c e = or_right (column_number d == column_number c) (contains (filter_map input_column is) (column_number c)) (column-listed is i c e)
 column-listed (TermInput u ∷ is) (suc i) c e = column-listed is i c e
-
-chosen : (b : Bool) (x y : ℕ) → b ≡ true → cond b x y ≡ x
-chosen true x y e = refl
-chosen false x y e = absurd (let no : false ≡ true = e in cc)
 
 module _ (p : Pipeline) (k i : ℕ) (n : Node) (used : is_used p k ≡ true) (at : slice_get p.graph k ≡ Some n) where
   -- what a used term reads of a bar column is kept, as far back as it is itself read

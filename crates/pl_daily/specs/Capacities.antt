@@ -1,5 +1,5 @@
 -- How many sessions a pipeline reads of a bar column and of a term, day by day.
-use Rattle.std.specs.Prelude.{ℕ, ◌+◌, Bool, ◌&&◌, ◌||◌, nat_lt, if◌then◌else◌, max, map, fold, filter_map, List, Option, Some, None, option_to_list, unwrap_or, slice_get}
+use Rattle.std.specs.Prelude.{ℕ, ◌+◌, Bool, ◌&&◌, ◌||◌, nat_lt, if◌then◌else◌, max, map, fold, filter_map, List, Option, Some, None, unwrap_or, slice_get, false, ◌==◌}
 use Rattle.pl_spec.specs.declared.Column.{Column}
 use Rattle.pl_spec.specs.World.{column_number}
 use Rattle.pl_pipeline.specs.Term.{Input, Node}
@@ -29,8 +29,12 @@ reads_column c n = contains (filter_map input_column n.inputs) (column_number c)
 abbrev pub reads_term : ℕ → ℕ → Node → Bool
 reads_term t depth n = (is_windowed n.kind || nat_lt 0 depth) && contains (filter_map input_number n.inputs) t
 
+abbrev pub is_mask : ℕ → Option ℕ → Bool
+is_mask t None = false
+is_mask t (Some m) = m == t
+
 abbrev pub is_masked_by : ℕ → ℕ → Node → Bool
-is_masked_by t depth n = nat_lt 0 depth && contains (option_to_list n.mask) t
+is_masked_by t depth n = nat_lt 0 depth && is_mask t n.mask
 
 -- so many sessions of an input or of the mask
 abbrev pub sessions_read : Input → ℕ → Node → ℕ

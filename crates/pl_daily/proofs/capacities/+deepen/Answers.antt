@@ -12,7 +12,7 @@ pub returns-then-own-depths-clause-each : goal.returns-then-own-depths-clause-ea
 returns-then-own-depths-clause-each t c =
     let cone = c.args.cone.now in
     deepen-own c.args.depths.now c.deepen.new.depths cone _ c.max.result (search rules) (search rules) (search rules)
-    (subst (λ (l : List ConeTerm). Deepens c.args.depths.now c.deepen.new.depths l) (rest-is cone) c.deepen.ensures.each) c.deepen.ensures.long
+    (subst (λ (l : List ConeTerm). Deepens c.args.depths.now c.deepen.new.depths l) (rest-is cone) c.deepen.ensures.each)
 
 pub returns-else-own-depths-clause-each : goal.returns-else-own-depths-clause-each
 returns-else-own-depths-clause-each t c =
