@@ -64,7 +64,11 @@ fn sessions_read(node: &Node, input: Input, depth: usize) -> usize
     let window = node.window as usize + depth;
     match input {
         Input::Column(column) => {
-            if has_column(node.inputs.as_slice(), column) { window } else { 0 }
+            if has_column(node.inputs.as_slice(), column) {
+                window
+            } else {
+                0
+            }
         }
         Input::Term(term) => {
             if reads_term(node, term, depth) {
