@@ -1,21 +1,18 @@
 -- How many sessions the used terms of a pipeline read.
-use Rattle.std.proofs.Common.{◌≡◌, ℕ, zero, suc, ◌+◌, ◌-◌, ◌<◌, ◌≤◌, Bool, true, false, ◌&&◌, cond, nat_lt, max, List, [], ◌∷◌, length, fold, map, filter_map, Option, Some, None, option_to_list, refl, sym, ◌∙◌, ap, arith, slice_get, ◌==◌, absurd}
+use Rattle.std.proofs.Common.{◌≡◌, ℕ, zero, suc, ◌+◌, ◌-◌, ◌≤◌, Bool, true, false, cond, max, List, [], ◌∷◌, length, fold, map, filter_map, Some, refl, sym, ◌∙◌, ap, arith, slice_get, ◌==◌}
 use Rattle.std.specs.List.{range_with_len}
 use Rattle.std.proofs.lemmas.Bool.{or_left, or_right, eq-eqb}
-use Rattle.std.proofs.lemmas.Bool.Decides.{nat_tests}
 use Rattle.std.proofs.lemmas.Option.{slice_get_within}
 use Rattle.pl_spec.specs.declared.Column.{Column}
 use Rattle.pl_spec.specs.World.{column_number}
 use Rattle.pl_pipeline.specs.Term.{Input, Node}
 use Rattle.pl_pipeline.specs.Term.Input.{BarColumn, TermInput}
-use Rattle.pl_pipeline.specs.Graph.{contains, input_column, input_number, used_terms}
+use Rattle.pl_pipeline.specs.Graph.{contains, input_column}
 use Rattle.pl_pipeline.specs.Table.{Pipeline}
 use Rattle.pl_pipeline.proofs.Contained.{input-in}
-use Rattle.pl_terms.specs.Checked.{IsChecked}
 use Rattle.pl_terms.specs.Sorts.{is_windowed}
-use Rattle.pl_terms.specs.Uses.{outputs, is_used}
-use Rattle.pl_planner.proofs.Pipelines.{is-pipeline}
-use Rattle.pl_daily.specs.Capacities.{deepest, reads_column, reads_term, is_masked_by, sessions_read, sessions_read_at, most_read, column_window, term_window}
+use Rattle.pl_terms.specs.Uses.{is_used}
+use Rattle.pl_daily.specs.Capacities.{deepest, reads_column, reads_term, sessions_read, sessions_read_at, most_read, column_window, term_window}
 use Rattle.pl_daily.specs.Inside.{used_sessions}
 use Rattle.pl_daily.proofs.Depths.{most-used, used-at-most}
 

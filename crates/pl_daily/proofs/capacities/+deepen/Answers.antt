@@ -17,5 +17,6 @@ returns-then-own-depths-clause-each t c =
 pub returns-else-own-depths-clause-each : goal.returns-else-own-depths-clause-each
 returns-else-own-depths-clause-each t c =
     let cone = c.args.cone.now in
-    deepen-past c.args.depths.now c.deepen.new.depths cone _ (search rules) (search rules)
+    let none : ConeTerm = record { term = record { 0 = 0 }; depth = 0 } in
+    deepen-past c.args.depths.now c.deepen.new.depths cone none (search rules) (search rules)
     (subst (λ (l : List ConeTerm). Deepens c.args.depths.now c.deepen.new.depths l) (rest-is cone) c.deepen.ensures.each) c.deepen.ensures.long
