@@ -1,7 +1,5 @@
-use Rattle.std.proofs.Common.{rules, ◌≡◌, ℕ, ◌<◌, List, ap, subst, length, get_or, max}
-use Rattle.pl_planner.specs.Cones.{pairs_of}
+use Rattle.std.proofs.Common.{rules, List, subst}
 use Rattle.pl_planner.specs.declared.cones.ConeTerm.{ConeTerm}
-use Rattle.pl_daily.specs.Capacities.{depth_in}
 use Rattle.pl_daily.proofs.Depths.{Deepens, deepen-none, deepen-own, deepen-past, rest-is}
 use Rattle.pl_daily.proofs.capacities.+deepen.Goals as goal
 
