@@ -17,8 +17,8 @@ returns-then-joint-lt0-clause-value c =
     let size = simp to_z-of_z at c.unsigned_abs-size.ensures.value in
     let below = simp to_z-of_z at c.if-joint-lt0.true in
     let h = correlated c.args.sums.now c.share_of_root-share.result c.unsigned_abs-size.result c.unsigned_abs-x.result c.unsigned_abs-y.result
-      (size ∙ ap unsigned_abs c.short_joint_spread-joint.ensures.value) (x ∙ ap unsigned_abs c.short_spread_x.ensures.value) (y ∙ ap unsigned_abs c.short_spread_y.ensures.value)
-      (search rules) (search rules) c.share_of_root-share.ensures.value in
+    (size ∙ ap unsigned_abs c.short_joint_spread-joint.ensures.value) (x ∙ ap unsigned_abs c.short_spread_x.ensures.value) (y ∙ ap unsigned_abs c.short_spread_y.ensures.value)
+    (search rules) (search rules) c.share_of_root-share.ensures.value in
     let sign = ap (λ (j : ℤ). int_lt j (pos 0)) (sym c.short_joint_spread-joint.ensures.value) ∙ below in
     rw (to_z-of_z w64 _ turned, c.neg.ensures.value, to_z-of_z w64 _ fits) (correlated_below _ _ _ _ h sign)
 
@@ -38,7 +38,7 @@ returns-else-joint-lt0-clause-value c =
     let size = simp to_z-of_z at c.unsigned_abs-size.ensures.value in
     let above = simp to_z-of_z at c.if-joint-lt0.false in
     let h = correlated c.args.sums.now c.share_of_root-share.result c.unsigned_abs-size.result c.unsigned_abs-x.result c.unsigned_abs-y.result
-      (size ∙ ap unsigned_abs c.short_joint_spread-joint.ensures.value) (x ∙ ap unsigned_abs c.short_spread_x.ensures.value) (y ∙ ap unsigned_abs c.short_spread_y.ensures.value)
-      (search rules) (search rules) c.share_of_root-share.ensures.value in
+    (size ∙ ap unsigned_abs c.short_joint_spread-joint.ensures.value) (x ∙ ap unsigned_abs c.short_spread_x.ensures.value) (y ∙ ap unsigned_abs c.short_spread_y.ensures.value)
+    (search rules) (search rules) c.share_of_root-share.ensures.value in
     let sign = ap (λ (j : ℤ). int_lt j (pos 0)) (sym c.short_joint_spread-joint.ensures.value) ∙ above in
     to_z-of_z w64 _ fits ∙ correlated_above _ _ _ _ h sign
