@@ -1,8 +1,8 @@
-use Rattle.std.proofs.Common.{ℤ, pos, ◌*◌, ◌^◌, unsigned_abs, FitsSigned, w64, rules, ap, sym, ◌∙◌}
+use Rattle.std.proofs.Common.{ℤ, pos, unsigned_abs, FitsSigned, w64, rules, ap, sym, ◌∙◌}
 use Rattle.std.specs.Int.{w128}
 use Rattle.std.specs.Int.RustNames.{int_lt}
 use Rattle.std.proofs.lemmas.Int.{to_z-of_z}
-use Rattle.pl_regression.proofs.Values.{IsCorrelated, correlated, correlated_below, correlated_above}
+use Rattle.pl_regression.proofs.Values.{correlated, correlated_below, correlated_above}
 use Rattle.pl_regression.proofs.formulas.short_correlation.Goals as goal
 
 pub returns-then-joint-lt0-clause-value : goal.returns-then-joint-lt0-clause-value

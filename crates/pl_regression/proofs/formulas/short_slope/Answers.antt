@@ -1,8 +1,8 @@
-use Rattle.std.proofs.Common.{◌≡◌, ◌<◌, ◌^◌, pos, ◌*ℤ◌, unsigned_abs, FitsSigned, w64, arith, rules, refl, ap, ap₂, ◌∙◌}
+use Rattle.std.proofs.Common.{◌<◌, ◌^◌, pos, ◌*ℤ◌, unsigned_abs, FitsSigned, w64, arith, rules, refl, ap₂, ◌∙◌}
 use Rattle.std.specs.Int.{w128}
 use Rattle.std.proofs.lemmas.Int.{to_z-of_z, fits_signed_from_abs}
 use Rattle.pl_spec.specs.Rounding.{quot}
-use Rattle.pl_pipeline.specs.Formula.{slope, joint_spread, spread_x}
+use Rattle.pl_pipeline.specs.Formula.{slope}
 use Rattle.pl_regression.proofs.Bounds.{product_bits}
 use Rattle.pl_regression.proofs.formulas.short_slope.Goals as goal
 
