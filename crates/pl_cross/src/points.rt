@@ -1,13 +1,18 @@
-//! Points on the way through the sorted values of one group, and values that lie between two of them.
-ghost use Rattle.std.specs.Prelude.{◌≡◌, ◌≤◌, ◌<◌, ◌+◌, ◌-◌, ◌*◌, ◌/◌, ◌*ℤ◌, pos, All, length, unsigned_abs};
+//! Points on the way through the values of one group in order, and what they part. No group is sorted for
+//! them: one value is selected at a time.
+ghost use Rattle.std.specs.Prelude.{◌≡◌, ◌≤◌, ◌<◌, ◌+◌, ◌-◌, ◌*◌, ◌/◌, ◌*ℤ◌, ◌&&◌, ℕ, nat_lt, pos, All, IsPermutation, length, get_or, unsigned_abs};
+ghost use Rattle.std.specs.Int.{int_max, int_min};
+ghost use Rattle.std.specs.Int.RustNames.{int_le};
 ghost use Rattle.pl_spec.specs.Limits.{most_assets};
 ghost use Rattle.pl_spec.specs.Rounding.{LIMIT, MILLION};
+ghost use Rattle.pl_spec.specs.Cells.{truth};
 ghost use Rattle.pl_pipeline.specs.Order as spec;
-ghost use Rattle.pl_pipeline.specs.Cross.{values};
-ghost use Rattle.pl_pipeline.specs.Kind.CrossKind.{Winsorize};
-ghost use Rattle.pl_cross.specs.Listing.{entries_of, IsGroup, HasCell, AreAnswers};
+ghost use Rattle.pl_pipeline.specs.Cross.{array_at, values};
+ghost use Rattle.pl_pipeline.specs.Kind.CrossKind.{Bottom, PercentileBetween, Winsorize};
+ghost use Rattle.pl_cross.specs.Listing.{entries_of, HasCell, HaveOwnPlaces, IsSplitAt, AreAnswers};
 
 use crate::listing::Listed;
+use crate::sorting::select;
 use pl_fixed::quot;
 
 // The hundredths of a percent.
@@ -16,30 +21,19 @@ const WHOLE: usize = 10_000;
 // The millionths of a unit.
 const MILLION: usize = 1_000_000;
 
-// The value in a place, and 0 behind the last one.
-fn value_at(group: &[Listed], place: usize) -> i64
-    requires cells { All HasCell group.now }
-    requires order { IsGroup group.now }
-    ensures value { result ≡ spec.value_at (values (entries_of group.now)) place }
+/// The value in a place in ascending order, and 0 behind the last one.
+pub(crate) fn value_at(group: &mut [Listed], place: usize) -> i64
+    requires { All HasCell group.old }
+    ensures same { IsPermutation group.old group.new }
+    ensures value { result ≡ spec.value_at (values (entries_of group.old)) place }
     ensures size { unsigned_abs result ≤ LIMIT }
 {
     if place < group.len() {
+        select(group, place);
         group[place].value
     } else {
         0
     }
-}
-
-// 10,000 times the point that lies so many 10,000ths of a place above the least value.
-fn edge(group: &[Listed], point: usize) -> i128
-    requires cells { All HasCell group.now }
-    requires order { IsGroup group.now }
-    ensures value { result ≡ spec.edge (values (entries_of group.now)) point 10000 }
-    ensures size { unsigned_abs result ≤ 2 * 10000 * LIMIT }
-{
-    let place = point / WHOLE;
-    let rest = point - place * WHOLE;
-    weighted(value_at(group, place), WHOLE - rest) + weighted(value_at(group, place + 1), rest)
 }
 
 // A value times its weight.
@@ -52,36 +46,57 @@ fn weighted(value: i64, weight: usize) -> i128
     value as i128 * weight as i128
 }
 
+// 10,000 times the point that lies so many 10,000ths of a place above the least value.
+fn edge(group: &mut [Listed], point: usize) -> i128
+    requires { All HasCell group.old }
+    ensures same { IsPermutation group.old group.new }
+    ensures value { result ≡ spec.edge (values (entries_of group.old)) point 10000 }
+    ensures size { unsigned_abs result ≤ 2 * 10000 * LIMIT }
+{
+    let place = point / WHOLE;
+    let rest = point - place * WHOLE;
+    let below = weighted(value_at(group, place), WHOLE - rest);
+    let above = weighted(value_at(group, place + 1), rest);
+    below + above
+}
+
 /// The point so many hundredths of a percent of the way from the least value to the greatest.
-pub(crate) fn percentile(percent: u32, group: &[Listed]) -> i64
+pub(crate) fn percentile(percent: u32, group: &mut [Listed]) -> i64
     requires percent { percent ≤ 10_000 }
-    requires few { length group.now ≤ most_assets }
-    requires some { 0 < length group.now }
-    requires cells { All HasCell group.now }
-    requires order { IsGroup group.now }
-    ensures { result ≡ spec.percentile percent (values (entries_of group.now)) }
+    requires few { length group.old ≤ most_assets }
+    requires some { 0 < length group.old }
+    requires cells { All HasCell group.old }
+    ensures { result ≡ spec.percentile percent (values (entries_of group.old)) }
 {
     let point = percent as usize * (group.len() - 1);
     quot(edge(group, point), 10_000)
 }
 
-/// Each value, but not below the one `low` millionths of the way through the sorted values, nor above that at
-/// `high`.
-pub(crate) fn winsorize(low: u32, high: u32, group: &[Listed], answers: &mut [i64])
-    requires right { low < high }
-    requires high { high ≤ MILLION }
-    requires few { length group.now ≤ most_assets }
-    requires some { 0 < length group.now }
-    requires cells { All HasCell group.now }
-    requires order { IsGroup group.now }
+// Each value, but not below the least nor above the greatest.
+fn draw_in(least: i64, greatest: i64, group: &[Listed], answers: &mut [i64])
     requires room { length answers.old ≡ length group.now }
-    ensures { AreAnswers (Winsorize low high) (λ e. entries_of group.now) group.now answers.new }
+    ensures { (k : ℕ) (d : Listed) → k < length group.now
+        → array_at answers.new k ≡ int_max least (int_min greatest (get_or group.now k d).value) }
 {
-    let least = value_at(group, low as usize * group.len() / MILLION);
-    let greatest = value_at(group, last_within(high, group.len()));
     for i in 0..group.len() {
         answers[i] = least.max(greatest.min(group[i].value));
     }
+}
+
+/// Each value, but not below the one `low` millionths of the way through the sorted values, nor above that at
+/// `high`.
+pub(crate) fn winsorize(low: u32, high: u32, group: &mut [Listed], answers: &mut [i64])
+    requires right { low < high }
+    requires high { high ≤ MILLION }
+    requires few { length group.old ≤ most_assets }
+    requires cells { All HasCell group.old }
+    requires room { length answers.old ≡ length group.old }
+    ensures same { IsPermutation group.old group.new }
+    ensures answers { AreAnswers (Winsorize low high) (λ e. entries_of group.new) group.new answers.new }
+{
+    let least = value_at(group, low as usize * group.len() / MILLION);
+    let greatest = value_at(group, last_within(high, group.len()));
+    draw_in(least, greatest, group, answers);
 }
 
 // The last place so many millionths of the way through so many values.
@@ -91,4 +106,67 @@ fn last_within(high: u32, count: usize) -> usize
     ensures { result ≡ (high * count + MILLION - 1) / MILLION - 1 }
 {
     ((high as usize * count + MILLION - 1) / MILLION).saturating_sub(1)
+}
+
+// Whether 10,000 times each value lies between two points.
+fn mark_between(low: i128, high: i128, group: &[Listed], answers: &mut [i64])
+    requires cells { All HasCell group.now }
+    requires room { length answers.old ≡ length group.now }
+    ensures { (k : ℕ) (d : Listed) → k < length group.now
+        → array_at answers.new k ≡ truth (int_le low ((get_or group.now k d).value *ℤ pos 10000)
+        && int_le ((get_or group.now k d).value *ℤ pos 10000) high) }
+{
+    for i in 0..group.len() {
+        let value = weighted(group[i].value, WHOLE);
+        answers[i] = (low <= value && value <= high) as i64;
+    }
+}
+
+/// Whether each value lies between the points at so many hundredths of a percent.
+pub(crate) fn between(low: u32, high: u32, group: &mut [Listed], answers: &mut [i64])
+    requires low { low ≤ 10_000 }
+    requires high { high ≤ 10_000 }
+    requires few { length group.old ≤ most_assets }
+    requires some { 0 < length group.old }
+    requires cells { All HasCell group.old }
+    requires room { length answers.old ≡ length group.old }
+    ensures same { IsPermutation group.old group.new }
+    ensures answers { AreAnswers (PercentileBetween low high) (λ e. entries_of group.new)
+        group.new answers.new }
+{
+    let last = group.len() - 1;
+    let least = edge(group, low as usize * last);
+    let greatest = edge(group, high as usize * last);
+    mark_between(least, greatest, group, answers);
+}
+
+// Puts the first `n` in order to the front, if there are more.
+fn split(n: usize, group: &mut [Listed])
+    ensures same { IsPermutation group.old group.new }
+    ensures split { n < length group.new → IsSplitAt group.new n }
+{
+    if n < group.len() {
+        select(group, n);
+    }
+}
+
+// Whether each place is before the `n`-th.
+fn mark_before(n: usize, answers: &mut [i64])
+    ensures length { length answers.new ≡ length answers.old }
+    ensures each { (k : ℕ) → k < length answers.old → array_at answers.new k ≡ truth (nat_lt k n) }
+{
+    for i in 0..answers.len() {
+        answers[i] = (i < n) as i64;
+    }
+}
+
+/// Whether each asset is among the first `n` in order.
+pub(crate) fn first(n: u32, group: &mut [Listed], answers: &mut [i64])
+    requires own { HaveOwnPlaces group.old }
+    requires room { length answers.old ≡ length group.old }
+    ensures same { IsPermutation group.old group.new }
+    ensures answers { AreAnswers (Bottom n) (λ e. entries_of group.new) group.new answers.new }
+{
+    split(n as usize, group);
+    mark_before(n as usize, answers);
 }

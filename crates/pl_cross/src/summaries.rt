@@ -8,11 +8,11 @@ ghost use Rattle.pl_pipeline.specs.Cross as spec;
 ghost use Rattle.pl_pipeline.specs.Cross.{values};
 ghost use Rattle.pl_pipeline.specs.Kind.CrossKind.{Summarize};
 ghost use Rattle.pl_cross.specs.Section.{IsRight};
-ghost use Rattle.pl_cross.specs.Listing.{entries_of, IsGroup, HasCell};
+ghost use Rattle.pl_cross.specs.Listing.{entries_of, HasCell};
 
 use crate::listing::Listed;
 use crate::means::{center, spread, total};
-use crate::points::percentile;
+use crate::points::{percentile, value_at};
 use pl_fixed::{MISSING, quot, to_cell};
 use pl_pipeline::Summary;
 
@@ -47,22 +47,35 @@ fn deviation(group: &[Listed]) -> i64
     to_cell(spread(group, center(group)) as i128)
 }
 
-/// What is told of the values of a group.
-#[tactic(auto, unfolding(pl_pipeline::specs::Cross::summary))]
-pub(crate) fn summarize(summary: Summary, group: &[Listed]) -> i64
+/// What is told of the values of a group, which is left in any order.
+pub(crate) fn summarize(summary: Summary, group: &mut [Listed]) -> i64
     requires right { IsRight (Summarize summary) }
-    requires few { length group.now ≤ most_assets }
-    requires some { 0 < length group.now }
-    requires cells { All HasCell group.now }
-    requires order { IsGroup group.now }
-    ensures { result ≡ spec.summary summary (values (entries_of group.now)) }
+    requires few { length group.old ≤ most_assets }
+    requires cells { All HasCell group.old }
+    ensures { result ≡ spec.summary summary (values (entries_of group.old)) }
+{
+    if group.is_empty() {
+        of_none(summary)
+    } else {
+        of_some(summary, group)
+    }
+}
+
+// What is told of values of which there are some.
+#[tactic(auto, unfolding(pl_pipeline::specs::Cross::summary))]
+fn of_some(summary: Summary, group: &mut [Listed]) -> i64
+    requires right { IsRight (Summarize summary) }
+    requires few { length group.old ≤ most_assets }
+    requires some { 0 < length group.old }
+    requires cells { All HasCell group.old }
+    ensures { result ≡ spec.summary summary (values (entries_of group.old)) }
 {
     match summary {
         Summary::Mean => mean(group),
         Summary::StdDev => deviation(group),
         Summary::Sum => sum(group),
-        Summary::Least => group[0].value,
-        Summary::Greatest => group[group.len() - 1].value,
+        Summary::Least => value_at(group, 0),
+        Summary::Greatest => value_at(group, group.len() - 1),
         Summary::Median => percentile(5_000, group),
         Summary::Percentile { percent } => percentile(percent, group),
         Summary::NotNullCount => (group.len() * MILLION) as i64,

@@ -9,7 +9,7 @@ use Rattle.pl_cross.proofs.Sums.{past-end}
 use Rattle.pl_cross.proofs.points.value_at.Goals as goal
 
 abbrev blank : Listed
-blank = record { group = pos 0; value = pos 0; place = 0 }
+blank = record { value = pos 0; place = 0 }
 
 pub returns-then-place-group-clause-value : goal.returns-then-place-group-clause-value
 returns-then-place-group-clause-value c =

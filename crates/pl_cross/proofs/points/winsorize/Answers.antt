@@ -11,7 +11,7 @@ use Rattle.pl_cross.proofs.Shares.{drawn-in}
 use Rattle.pl_cross.proofs.points.winsorize.Goals as goal
 
 abbrev blank : Listed
-blank = record { group = pos 0; value = pos 0; place = 0 }
+blank = record { value = pos 0; place = 0 }
 
 pub loop-i-preserved : goal.loop-i-preserved
 loop-i-preserved c =

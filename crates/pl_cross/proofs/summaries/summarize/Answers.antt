@@ -10,7 +10,7 @@ use Rattle.pl_cross.proofs.Shares.{some-is}
 use Rattle.pl_cross.proofs.summaries.summarize.Goals as goal
 
 abbrev blank : Listed
-blank = record { group = pos 0; value = pos 0; place = 0 }
+blank = record { value = pos 0; place = 0 }
 
 pub returns-in-Least : goal.returns-in-Least
 unfolding summary

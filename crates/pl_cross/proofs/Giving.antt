@@ -1,0 +1,1 @@
+-- Groups that are given their answers, one after the other.
