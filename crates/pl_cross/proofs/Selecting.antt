@@ -15,11 +15,11 @@ use Rattle.pl_pipeline.proofs.SortedValues.{counted-is-value_at}
 use Rattle.pl_spec.proofs.Counts.{count-cons}
 use Rattle.pl_spec.proofs.Members.{in-contains}
 use Rattle.pl_cross.specs.declared.listing.Listed.{Listed}
-use Rattle.pl_cross.specs.Listing.{entries_of, Precedes, NotAfter, IsSplitAt, HaveOwnPlaces}
+use Rattle.pl_cross.specs.Listing.{entry_of, entries_of, Precedes, NotAfter, IsSplitAt, HaveOwnPlaces}
 use Rattle.pl_cross.proofs.Distinct.{length-values, value-in}
 use Rattle.pl_cross.proofs.Order.{apart-precedes}
 use Rattle.pl_cross.proofs.Runs.{below-group, same-group, earlier-group}
-use Rattle.pl_cross.proofs.Sums.{one-value, one-sum-map, one-sum-permuted}
+use Rattle.pl_cross.proofs.Sums.{HaveOneSum, one-value, one-sum-map, one-sum-permuted}
 
 -- ---- how many elements pass a test
 
@@ -28,7 +28,8 @@ few-pass : {A : Type 0} (p : A → Bool) (xs : List A) (n : ℕ) (d : A) → ((i
 few-pass p [] n d h = omega arith
 few-pass p (x ∷ xs) zero d h =
     let no : p x ≡ false = h 0 (omega arith) (omega arith) in
-    rw (count-cons p x xs, no) (few-pass p xs zero d (λ i l m. h (suc i) (omega arith) (omega arith)))
+    let rest : count_by p xs ≤ 0 = few-pass p xs zero d (λ i l m. h (suc i) (omega arith) (omega arith)) in
+    rw (count-cons p x xs, no) (omega arith)
 few-pass p (x ∷ xs) (suc n) d h = rw (count-cons p x xs) (here (p x) (few-pass p xs n d (λ i l m. h (suc i) (omega arith) (omega arith))))
   where
     here : (b : Bool) → count_by p xs ≤ n → cond b 1 0 + count_by p xs ≤ suc n
@@ -38,14 +39,14 @@ few-pass p (x ∷ xs) (suc n) d h = rw (count-cons p x xs) (here (p x) (few-pass
 -- and one in front of n does not either
 fewer-pass : {A : Type 0} (p : A → Bool) (xs : List A) (n k : ℕ) (d : A) → ((i : ℕ) → n ≤ i → i < length xs → p (get_or xs i d) ≡ false)
     → k < n → k < length xs → p (get_or xs k d) ≡ false → count_by p xs < n
-fewer-pass p xs zero k d h l m no = absurd (omega arith)
-fewer-pass p [] (suc n) k d h l m no = absurd (omega arith)
-fewer-pass p (x ∷ xs) (suc n) zero d h l m no =
-    let first : p x ≡ false = no in
+fewer-pass p xs zero k d h l m fails = absurd (omega arith)
+fewer-pass p [] (suc n) k d h l m fails = absurd (omega arith)
+fewer-pass p (x ∷ xs) (suc n) zero d h l m fails =
+    let first : p x ≡ false = fails in
     let rest : count_by p xs ≤ n = few-pass p xs n d (λ i a b. h (suc i) (omega arith) (omega arith)) in
     rw (count-cons p x xs, first) (omega arith)
-fewer-pass p (x ∷ xs) (suc n) (suc k) d h l m no =
-    rw (count-cons p x xs) (here (p x) (fewer-pass p xs n k d (λ i a b. h (suc i) (omega arith) (omega arith)) (omega arith) (omega arith) no))
+fewer-pass p (x ∷ xs) (suc n) (suc k) d h l m fails =
+    rw (count-cons p x xs) (here (p x) (fewer-pass p xs n k d (λ i a b. h (suc i) (omega arith) (omega arith)) (omega arith) (omega arith) fails))
   where
     here : (b : Bool) → count_by p xs < n → cond b 1 0 + count_by p xs < suc n
     here true a = omega arith
@@ -100,28 +101,32 @@ lt-not a b h = grind (arith, nat_tests)
 lt-yes : (a b : ℕ) → a < b → nat_lt a b ≡ true
 lt-yes a b h = grind (arith, nat_tests)
 
+neither : (a b c : Bool) → a ≡ false → b ≡ false → (a || (b && c)) ≡ false
+neither a b c e f = rw (e, f) refl
+
+nor : (a b c : Bool) → a ≡ false → c ≡ false → (a || (b && c)) ≡ false
+nor a true c e f = rw (e, f) refl
+nor a false c e f = rw e refl
+
+former : (a b : Bool) → a ≡ true → (a || b) ≡ true
+former a b e = rw e refl
+
+latter : (a b : Bool) → b ≡ true → (a || b) ≡ true
+latter true b e = refl
+latter false b e = e
+
+both-hold : (a b : Bool) → a ≡ true → b ≡ true → (a && b) ≡ true
+both-hold a b e f = rw (e, f) refl
+
 behind-fails : (e f : Listed) → NotAfter e f → in_front e f ≡ false
-behind-fails e f (inl l) = let a = not-less e.value f.value l in let b = not-equal e.value f.value l in rw (a, b) refl
-behind-fails e f (inr h) =
-    let a = same-not-less e.value f.value h.0 in
-    let b = lt-not e.place f.place h.1 in
-    rw (a, b) (none (int_eq e.value f.value))
-  where
-    none : (b : Bool) → (b && false) ≡ false
-    none true = refl
-    none false = refl
+behind-fails e f (inl l) = neither (int_lt f.value e.value) (int_eq e.value f.value) (nat_lt f.place e.place) (not-less e.value f.value l) (not-equal e.value f.value l)
+behind-fails e f (inr h) = nor (int_lt f.value e.value) (int_eq e.value f.value) (nat_lt f.place e.place) (same-not-less e.value f.value h.0) (lt-not e.place f.place h.1)
 
 front-passes : (e f : Listed) → Precedes f e → in_front e f ≡ true
-front-passes e f (inl l) = let a = less-yes f.value e.value l in rw a refl
+front-passes e f (inl l) = former (int_lt f.value e.value) (int_eq e.value f.value && nat_lt f.place e.place) (less-yes f.value e.value l)
 front-passes e f (inr h) =
-    let a = same-not-less f.value e.value h.0 in
-    let b = same-equal f.value e.value h.0 in
-    let c = lt-yes f.place e.place h.1 in
-    rw (b, c) (or-true (int_lt f.value e.value))
-  where
-    or-true : (b : Bool) → (b || true) ≡ true
-    or-true true = refl
-    or-true false = refl
+    latter (int_lt f.value e.value) (int_eq e.value f.value && nat_lt f.place e.place)
+    (both-hold (int_eq e.value f.value) (nat_lt f.place e.place) (same-equal f.value e.value h.0) (lt-yes f.place e.place h.1))
 
 not-after-next : (e f g : Listed) → NotAfter e f → NotAfter f g → NotAfter e g
 not-after-next e f g (inl l) (inl m) = inl (omega (arith, ints))
@@ -168,17 +173,18 @@ selected-is group n d inside split =
     no-less e f (inr h) = same-not-less e.value f.value h.0
 
     at-most : (e f : Listed) → NotAfter e f → (int_lt e.value f.value || int_eq f.value e.value) ≡ true
-    at-most e f (inl l) = let a = less-yes e.value f.value l in rw a refl
-    at-most e f (inr h) = let a : int_lt e.value f.value ≡ false = grind (arith, ints, h.0) in let b = same-equal e.value f.value h.0 in rw (a, b) refl
+    at-most e f (inl l) = former (int_lt e.value f.value) (int_eq f.value e.value) (less-yes e.value f.value l)
+    at-most e f (inr h) = latter (int_lt e.value f.value) (int_eq f.value e.value) (same-equal e.value f.value h.0)
 
     less-not-same : (v x : ℤ) → int_lt v x ≡ true → int_eq x v ≡ false
     less-not-same v x t = grind (arith, ints)
 
--- the value in a place is one for all orders
+-- the values have one sum in all orders
+pub values-moved : (xs ys : List Listed) → IsPermutation xs ys → HaveOneSum (values (entries_of ys)) (values (entries_of xs))
+values-moved xs ys moved = one-sum-map (λ (e : Entry). e.1) (entries_of ys) (entries_of xs) (one-sum-map entry_of ys xs (one-sum-permuted xs ys moved))
+
 pub value-moved : (xs ys : List Listed) (n : ℕ) → IsPermutation xs ys → value_at (values (entries_of ys)) n ≡ value_at (values (entries_of xs)) n
-value-moved xs ys n moved =
-    one-value (values (entries_of ys)) (values (entries_of xs)) n
-    (one-sum-map (λ (e : Entry). e.1) (entries_of ys) (entries_of xs) (one-sum-map (λ (e : Listed). (let f : Entry = (e.place, e.value) in f)) ys xs (one-sum-permuted xs ys moved)))
+value-moved xs ys n moved = one-value (values (entries_of ys)) (values (entries_of xs)) n (values-moved xs ys moved)
 
 -- ---- the first n
 

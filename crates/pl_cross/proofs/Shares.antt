@@ -15,7 +15,7 @@ use Rattle.pl_pipeline.specs.Kind.CrossKind.{Winsorize, Scale, Summarize}
 use Rattle.pl_pipeline.specs.Cross.{array_at, values, if_some, summary, cross}
 use Rattle.pl_pipeline.specs.Order.{value_at}
 use Rattle.pl_cross.specs.declared.listing.Listed.{Listed}
-use Rattle.pl_cross.specs.Listing.{entries_of, members, AreInOrder, AreAnswers}
+use Rattle.pl_cross.specs.Listing.{entries_of}
 use Rattle.pl_cross.proofs.Distinct.{length-values}
 
 -- ---- values

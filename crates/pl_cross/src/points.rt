@@ -1,6 +1,6 @@
 //! Points on the way through the values of one group in order, and what they part. No group is sorted for
 //! them: one value is selected at a time.
-ghost use Rattle.std.specs.Prelude.{◌≡◌, ◌≤◌, ◌<◌, ◌+◌, ◌-◌, ◌*◌, ◌/◌, ◌*ℤ◌, ◌&&◌, ℕ, nat_lt, pos, All, IsPermutation, length, get_or, unsigned_abs};
+ghost use Rattle.std.specs.Prelude.{◌≡◌, ◌≤◌, ◌<◌, ◌+◌, ◌-◌, ◌*◌, ◌/◌, ◌*ℤ◌, ◌+ℤ◌, ◌&&◌, ℕ, nat_lt, pos, All, IsPermutation, length, get_or, unsigned_abs};
 ghost use Rattle.std.specs.Int.{int_max, int_min};
 ghost use Rattle.std.specs.Int.RustNames.{int_le};
 ghost use Rattle.pl_spec.specs.Limits.{most_assets};
@@ -46,6 +46,17 @@ fn weighted(value: i64, weight: usize) -> i128
     value as i128 * weight as i128
 }
 
+// 10,000 times the point that lies so many 10,000ths of the way from one value to another.
+fn mixed(below: i64, above: i64, rest: usize) -> i128
+    requires below { unsigned_abs below ≤ LIMIT }
+    requires above { unsigned_abs above ≤ LIMIT }
+    requires rest { rest ≤ 10_000 }
+    ensures value { result ≡ below *ℤ pos (10000 - rest) +ℤ above *ℤ pos rest }
+    ensures size { unsigned_abs result ≤ 2 * 10000 * LIMIT }
+{
+    weighted(below, WHOLE - rest) + weighted(above, rest)
+}
+
 // 10,000 times the point that lies so many 10,000ths of a place above the least value.
 fn edge(group: &mut [Listed], point: usize) -> i128
     requires { All HasCell group.old }
@@ -55,9 +66,9 @@ fn edge(group: &mut [Listed], point: usize) -> i128
 {
     let place = point / WHOLE;
     let rest = point - place * WHOLE;
-    let below = weighted(value_at(group, place), WHOLE - rest);
-    let above = weighted(value_at(group, place + 1), rest);
-    below + above
+    let below = value_at(group, place);
+    let above = value_at(group, place + 1);
+    mixed(below, above, rest)
 }
 
 /// The point so many hundredths of a percent of the way from the least value to the greatest.
@@ -108,6 +119,20 @@ fn last_within(high: u32, count: usize) -> usize
     ((high as usize * count + MILLION - 1) / MILLION).saturating_sub(1)
 }
 
+// Whether the value lies between the others.
+fn is_between(low: i128, value: i128, high: i128) -> bool
+    ensures { result ≡ (int_le low value && int_le value high) }
+{
+    low <= value && value <= high
+}
+
+// 1 where it holds, and 0 elsewhere.
+fn mark(holds: bool) -> i64
+    ensures { result ≡ truth holds }
+{
+    holds as i64
+}
+
 // Whether 10,000 times each value lies between two points.
 fn mark_between(low: i128, high: i128, group: &[Listed], answers: &mut [i64])
     requires cells { All HasCell group.now }
@@ -117,8 +142,7 @@ fn mark_between(low: i128, high: i128, group: &[Listed], answers: &mut [i64])
         && int_le ((get_or group.now k d).value *ℤ pos 10000) high) }
 {
     for i in 0..group.len() {
-        let value = weighted(group[i].value, WHOLE);
-        answers[i] = (low <= value && value <= high) as i64;
+        answers[i] = mark(is_between(low, weighted(group[i].value, WHOLE), high));
     }
 }
 
@@ -156,7 +180,7 @@ fn mark_before(n: usize, answers: &mut [i64])
     ensures each { (k : ℕ) → k < length answers.old → array_at answers.new k ≡ truth (nat_lt k n) }
 {
     for i in 0..answers.len() {
-        answers[i] = (i < n) as i64;
+        answers[i] = mark(i < n);
     }
 }
 
