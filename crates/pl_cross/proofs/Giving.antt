@@ -14,7 +14,9 @@ use Rattle.pl_pipeline.specs.Cross.{array_at, values, summary, cross, cross_at, 
 use Rattle.pl_cross.specs.declared.listing.Listed.{Listed}
 use Rattle.pl_cross.specs.declared.listing.Member.{Member}
 use Rattle.pl_cross.specs.declared.listing.Session.{Session}
-use Rattle.pl_cross.specs.Section.{order_of, upright, turned}
+use Rattle.pl_cross.specs.declared.section.Section.{Section}
+use Rattle.pl_cross.specs.declared.section.Section.TheVariants as code
+use Rattle.pl_cross.specs.Section.{cross_of, order_of, upright, turned}
 use Rattle.pl_cross.specs.Listing.{labels_in, group_at, belongs, member_at, enrolled, enrolled_in, mates, AreGrouped, HaveOwnSeats, listed_at, gathered, entry_of, entries_of, answer_at, AreAnswers}
 use Rattle.pl_cross.specs.Giving.{gives, is_given, given, none_at}
 use Rattle.pl_cross.proofs.Grouping.{IsBetweenGroups, part, length-part, part-at, mates-part}
@@ -23,6 +25,11 @@ use Rattle.pl_cross.proofs.Members.{member-is, member-there, gathered-is, gather
 
 blank : Member
 blank = record { group = pos 0; place = 0 }
+
+-- what is no summary has a list of its own
+pub not-for-all : (s : Section) → ((told : Summary) → s ≡ code.Summarize told → ⊥) → is_for_all (cross_of s) ≡ false
+not-for-all (code.Summarize told) h = absurd (h told refl)
+not-for-all s h = refl
 
 -- ---- one group
 

@@ -19,7 +19,7 @@ pub(crate) fn select(group: &mut [Listed], place: usize)
     ensures same { IsPermutation group.old group.new }
     ensures split { IsSplitAt group.new place }
 {
-    group.select_nth_unstable(place);
+    let (_front, _one, _back) = group.select_nth_unstable(place);
 }
 
 /// The place after the equal values that begin at `start`.

@@ -1,13 +1,10 @@
-use Rattle.std.proofs.Common.{rules, w64, FitsSigned, pos, get_or, arith, refl, ℤ, to_z, of_z, ap, ◌∙◌, length, ◌<◌, ◌≡◌, if◌then◌else◌}
+use Rattle.std.proofs.Common.{rules, w64, FitsSigned, pos, get_or, arith, to_z, of_z, ap, ◌∙◌, length, ◌<◌, ◌≡◌, if◌then◌else◌}
 use Rattle.std.proofs.lemmas.Int.{to_z-of_z}
 use Rattle.pl_spec.specs.Cells.{is_true}
 use Rattle.pl_pipeline.specs.Cross.{array_at}
 use Rattle.pl_cross.proofs.Listings.{read-cell}
 use Rattle.pl_cross.proofs.Shares.{written-more}
 use Rattle.pl_cross.proofs.places.clear_kept.Goals as goal
-
-same : (a a' v v' o o' : ℤ) → a ≡ a' → v ≡ v' → o ≡ o' → (if is_true a then v else o) ≡ (if is_true a' then v' else o')
-same a a' v v' o o' e f g = rw (e, f, g) refl
 
 pub loop-i-preserved : goal.loop-i-preserved
 loop-i-preserved c =
@@ -19,6 +16,6 @@ loop-i-preserved c =
     let keep_is : to_z w64 (of_z w64 (get_or c.args.keep.now c.loop-i.i (pos 0))) ≡ array_at c.args.keep.now c.loop-i.i = read-cell keep i fits_keep inside in
     record {
       long = search rules;
-      each = written-more (λ k. if is_true (array_at c.args.keep.now k) then c.args.value else c.args.other) c.loop-i.out i c.kept_or.result fits (omega (arith, c.loop-i-test.true, c.loop-i.invariant.long)) c.loop-i.invariant.each
-          (c.kept_or.ensures ∙ same _ _ _ _ _ _ keep_is (to_z-of_z w64 c.args.value c.ranges.value) (to_z-of_z w64 c.args.other c.ranges.other));
+      each = written-more (λ k. if is_true (array_at c.args.keep.now k) then to_z w64 (of_z w64 c.args.value) else to_z w64 (of_z w64 c.args.other)) c.loop-i.out i c.kept_or.result fits (omega (arith, c.loop-i-test.true, c.loop-i.invariant.long)) c.loop-i.invariant.each
+          (c.kept_or.ensures ∙ ap (λ a. if is_true a then to_z w64 (of_z w64 c.args.value) else to_z w64 (of_z w64 c.args.other)) keep_is);
     }

@@ -1,4 +1,4 @@
-use Rattle.std.proofs.Common.{rules, pos, w64, FitsSigned, get_or, ◌∙◌, ap}
+use Rattle.std.proofs.Common.{rules, pos, w64, to_z, of_z, FitsSigned, get_or, ◌∙◌, ap}
 use Rattle.std.specs.Int.{int_max, int_min}
 use Rattle.std.proofs.lemmas.Int.{to_z-of_z}
 use Rattle.pl_cross.specs.declared.listing.Listed.{Listed}
@@ -17,6 +17,6 @@ loop-i-preserved c =
     let under = simp to_z-of_z at c.min.ensures.value in
     record {
       long = search rules;
-      answers = marked-more (λ e. int_max c.args.least (int_min c.args.greatest e.value)) c.args.group.now c.loop-i.answers c.loop-i.i blank c.max.result fits c.loop-i.invariant.long c.loop-i-test.true c.loop-i.invariant.answers
-          (over ∙ ap (int_max c.args.least) under);
+      answers = marked-more (λ e. int_max (to_z w64 (of_z w64 c.args.least)) (int_min (to_z w64 (of_z w64 c.args.greatest)) e.value)) c.args.group.now c.loop-i.answers c.loop-i.i blank c.max.result fits c.loop-i.invariant.long c.loop-i-test.true c.loop-i.invariant.answers
+          (rw (to_z-of_z w64 c.args.least c.ranges.least, to_z-of_z w64 c.args.greatest c.ranges.greatest) (over ∙ ap (int_max c.args.least) under));
     }

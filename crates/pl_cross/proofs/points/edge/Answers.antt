@@ -1,4 +1,5 @@
 use Rattle.std.proofs.Common.{rules, pos, w64, FitsSigned, ◌≡◌, ◌+◌, ◌-◌, ◌*◌, ◌/◌, ◌+ℤ◌, ◌*ℤ◌, ap, ◌∙◌}
+use Rattle.std.specs.Int.{w128}
 use Rattle.std.proofs.lemmas.Int.{to_z-of_z}
 use Rattle.std.proofs.lemmas.List.Sorted.{All-permutation, IsPermutation-trans}
 use Rattle.pl_pipeline.specs.Cross.{values}
@@ -19,7 +20,8 @@ returns-clause-value c =
     let high : FitsSigned w64 c.value_at-above.result = search rules in
     let rest = c.args.point - c.args.point / 10000 * 10000 in
     let told = simp to_z-of_z at c.mixed.ensures.value in
-    told
+    let wide : FitsSigned w128 c.mixed.result = search rules in
+    to_z-of_z w128 c.mixed.result wide ∙ told
     ∙ ap (λ v. v *ℤ pos (10000 - rest) +ℤ c.value_at-above.result *ℤ pos rest) c.value_at-below.ensures.value
     ∙ ap (λ v. value_at (values (entries_of c.args.group.now)) (c.args.point / 10000) *ℤ pos (10000 - rest) +ℤ v *ℤ pos rest)
       (c.value_at-above.ensures.value ∙ value-moved c.args.group.now c.value_at-below.new.group (c.args.point / 10000 + 1) c.value_at-below.ensures.same)

@@ -1,4 +1,4 @@
-use Rattle.std.proofs.Common.{rules, pos, w64, FitsSigned, get_or, ◌∙◌, ap, ◌*ℤ◌, ◌&&◌}
+use Rattle.std.proofs.Common.{rules, pos, w64, to_z, of_z, FitsSigned, get_or, ◌∙◌, ap, ◌*ℤ◌, ◌&&◌}
 use Rattle.std.specs.Int.{w128}
 use Rattle.std.specs.Int.RustNames.{int_le}
 use Rattle.std.proofs.lemmas.Int.{to_z-of_z}
@@ -19,6 +19,6 @@ loop-i-preserved c =
     let tested = simp to_z-of_z at c.is_between.ensures in
     record {
       long = search rules;
-      answers = marked-more (λ e. truth (int_le c.args.low (e.value *ℤ pos 10000) && int_le (e.value *ℤ pos 10000) c.args.high)) c.args.group.now c.loop-i.answers c.loop-i.i blank c.mark.result fits c.loop-i.invariant.long c.loop-i-test.true c.loop-i.invariant.answers
-          (c.mark.ensures ∙ ap truth (tested ∙ ap (λ v. int_le c.args.low v && int_le v c.args.high) scaled));
+      answers = marked-more (λ e. truth (int_le (to_z w128 (of_z w128 c.args.low)) (e.value *ℤ pos 10000) && int_le (e.value *ℤ pos 10000) (to_z w128 (of_z w128 c.args.high)))) c.args.group.now c.loop-i.answers c.loop-i.i blank c.mark.result fits c.loop-i.invariant.long c.loop-i-test.true c.loop-i.invariant.answers
+          (rw (to_z-of_z w128 c.args.low c.ranges.low, to_z-of_z w128 c.args.high c.ranges.high) (c.mark.ensures ∙ ap truth (tested ∙ ap (λ v. int_le c.args.low v && int_le v c.args.high) scaled)));
     }
