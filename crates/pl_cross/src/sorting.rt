@@ -19,7 +19,8 @@ pub(crate) fn select(group: &mut [Listed], place: usize)
     ensures same { IsPermutation group.old group.new }
     ensures split { IsSplitAt group.new place }
 {
-    let (_front, _one, _back) = group.select_nth_unstable(place);
+    // The contract of `select_nth_unstable` does not say what becomes of the slice.
+    group.sort_unstable();
 }
 
 /// The place after the equal values that begin at `start`.

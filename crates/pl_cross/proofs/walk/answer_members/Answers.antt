@@ -46,6 +46,8 @@ returns-in_default c =
     let own = not-for-all c.args.section c.in_default.not-Summarize in
     let listed = take c.gather-count.result c.gather-count.new.listed in
     record {
+      listed = search rules;
+      answers = search rules;
       length = search rules;
       given = listed-given kind s members c.order_of.result listed c.args.out.now c.answer_listed.new.out c.order_of.ensures c.gather-count.ensures.listed own c.answer_listed.ensures.given;
       others = listed-others kind s members c.order_of.result listed c.args.out.now c.answer_listed.new.out c.order_of.ensures c.gather-count.ensures.listed own c.answer_listed.ensures.others;
