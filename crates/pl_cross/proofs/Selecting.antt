@@ -1,25 +1,31 @@
--- What stands in front of a selected asset, by counting.
-use Rattle.std.proofs.Common.{◌≡◌, ℕ, zero, suc, ◌+◌, ◌<◌, ◌≤◌, Bool, true, false, ◌&&◌, ◌||◌, cond, nat_lt, nat_le, ℤ, ◌<ℤ◌, List, [], ◌∷◌, length, get_or, refl, sym, ◌∙◌, ap, subst, arith, inl, inr, ◌⊎◌, IsPermutation}
+-- The asset that so many come before, by counting.
+use Rattle.std.proofs.Common.{◌≡◌, ℕ, zero, suc, ◌+◌, ◌-◌, ◌<◌, ◌≤◌, Bool, true, false, ◌&&◌, ◌||◌, cond, nat_lt, nat_le, ℤ, pos, ◌<ℤ◌, List, [], ◌∷◌, ◌++◌, length, length-append, get_or, refl, sym, ◌∙◌, ap, subst, arith, inl, inr, IsPermutation}
 use Rattle.std.specs.List.{count_by}
+use Rattle.std.specs.List.Sorted.{IsSplitAround}
 use Rattle.std.specs.Int.RustNames.{int_lt}
 use Rattle.std.specs.Ordering.{int_eq}
 use Rattle.std.proofs.lemmas.Bool.{cases_lt}
 use Rattle.std.proofs.lemmas.Bool.Decides.{nat_tests}
 use Rattle.std.proofs.lemmas.Int.{ints}
+use Rattle.std.proofs.lemmas.List.{get_or-append_right}
+use Rattle.std.proofs.lemmas.List.Elements.{Contains-get_or}
+use Rattle.std.proofs.lemmas.List.Sorted.{Contains-permutation, IsPermutation-sym}
+use Rattle.std.proofs.Math.ListN.{get_or-append}
 use Rattle.pl_spec.specs.Cells.{truth}
 use Rattle.pl_pipeline.specs.declared.RankOrder.TheVariants.{Ascending}
 use Rattle.pl_pipeline.specs.Kind.CrossKind.{Bottom}
-use Rattle.pl_pipeline.specs.Cross.{Entry, array_at, values, ordinal, cross}
-use Rattle.pl_pipeline.specs.Order.{value_at, count_less, count_equal}
+use Rattle.pl_pipeline.specs.Cross.{Entry, values, ordinal, cross}
+use Rattle.pl_pipeline.specs.Order.{value_at}
 use Rattle.pl_pipeline.proofs.SortedValues.{counted-is-value_at}
-use Rattle.pl_spec.proofs.Counts.{count-cons}
-use Rattle.pl_spec.proofs.Members.{in-contains}
+use Rattle.pl_spec.proofs.Counts.{count-cons, count-within, count-fewer}
+use Rattle.pl_spec.proofs.Members.{In, in-contains, contains-in, map-in}
+use Rattle.pl_records.proofs.Sorts.{own-permuted}
 use Rattle.pl_cross.specs.declared.listing.Listed.{Listed}
-use Rattle.pl_cross.specs.Listing.{entry_of, entries_of, Precedes, NotAfter, IsSplitAt, HaveOwnPlaces}
-use Rattle.pl_cross.proofs.Distinct.{length-values, value-in}
-use Rattle.pl_cross.proofs.Order.{apart-precedes}
+use Rattle.pl_cross.specs.Listing.{entry_of, entries_of, Precedes, is_before, IsNth, HaveOwnPlaces}
+use Rattle.pl_cross.proofs.Distinct.{length-values}
+use Rattle.pl_cross.proofs.Order.{NotAfter, listed_cmp, not-after, apart-precedes}
 use Rattle.pl_cross.proofs.Runs.{below-group, same-group, earlier-group}
-use Rattle.pl_cross.proofs.Sums.{HaveOneSum, one-value, one-sum-map, one-sum-permuted}
+use Rattle.pl_cross.proofs.Sums.{one-count, one-sum-permuted}
 
 -- ---- how many elements pass a test
 
@@ -76,10 +82,6 @@ either-passes {A} p q (x ∷ xs) h =
 
 -- ---- tests of the order
 
--- f stands in front of e
-abbrev in_front : Listed → Listed → Bool
-in_front e f = int_lt f.value e.value || (int_eq e.value f.value && nat_lt f.place e.place)
-
 not-less : (x y : ℤ) → x <ℤ y → int_lt y x ≡ false
 not-less x y h = grind (arith, ints)
 
@@ -118,118 +120,157 @@ latter false b e = e
 both-hold : (a b : Bool) → a ≡ true → b ≡ true → (a && b) ≡ true
 both-hold a b e f = rw (e, f) refl
 
-behind-fails : (e f : Listed) → NotAfter e f → in_front e f ≡ false
+behind-fails : (e f : Listed) → NotAfter e f → is_before e f ≡ false
 behind-fails e f (inl l) = neither (int_lt f.value e.value) (int_eq e.value f.value) (nat_lt f.place e.place) (not-less e.value f.value l) (not-equal e.value f.value l)
 behind-fails e f (inr h) = nor (int_lt f.value e.value) (int_eq e.value f.value) (nat_lt f.place e.place) (same-not-less e.value f.value h.0) (lt-not e.place f.place h.1)
 
-front-passes : (e f : Listed) → Precedes f e → in_front e f ≡ true
+front-passes : (e f : Listed) → Precedes f e → is_before e f ≡ true
 front-passes e f (inl l) = former (int_lt f.value e.value) (int_eq e.value f.value && nat_lt f.place e.place) (less-yes f.value e.value l)
 front-passes e f (inr h) =
     latter (int_lt f.value e.value) (int_eq e.value f.value && nat_lt f.place e.place)
     (both-hold (int_eq e.value f.value) (nat_lt f.place e.place) (same-equal f.value e.value h.0) (lt-yes f.place e.place h.1))
 
-not-after-next : (e f g : Listed) → NotAfter e f → NotAfter f g → NotAfter e g
-not-after-next e f g (inl l) (inl m) = inl (omega (arith, ints))
-not-after-next e f g (inl l) (inr h) = inl (omega (arith, ints, h.0))
-not-after-next e f g (inr h) (inl m) = inl (omega (arith, ints, h.0))
-not-after-next e f g (inr h) (inr k) = inr (h.0 ∙ k.0, omega (arith, h.1, k.1))
-
 self-not-after : (e : Listed) → NotAfter e e
 self-not-after e = inr (refl, omega arith)
 
+self-fails : (e : Listed) → is_before e e ≡ false
+self-fails e = behind-fails e e (self-not-after e)
+
+before-precedes : (e f : Listed) → is_before e f ≡ true → Precedes f e
+before-precedes e f t = here (int_lt f.value e.value) refl (int_eq e.value f.value) refl (nat_lt f.place e.place) refl t
+  where
+    here : (a : Bool) → int_lt f.value e.value ≡ a → (b : Bool) → int_eq e.value f.value ≡ b → (c : Bool) → nat_lt f.place e.place ≡ c → (a || (b && c)) ≡ true → Precedes f e
+    here true p b q c r h = inl (grind (arith, ints))
+    here false p true q true r h = inr (grind (arith, ints), grind (arith, nat_tests))
+    here false p true q false r h = absurd (cc)
+    here false p false q c r h = absurd (cc)
+
+before-not-after : (e f : Listed) → is_before e f ≡ false → NotAfter e f
+before-not-after e f t = here (int_lt f.value e.value) refl (int_eq e.value f.value) refl (nat_lt f.place e.place) refl t
+  where
+    here : (a : Bool) → int_lt f.value e.value ≡ a → (b : Bool) → int_eq e.value f.value ≡ b → (c : Bool) → nat_lt f.place e.place ≡ c → (a || (b && c)) ≡ false → NotAfter e f
+    here true p b q c r h = absurd (cc)
+    here false p true q true r h = absurd (cc)
+    here false p true q false r h = inr (grind (arith, ints), grind (arith, nat_tests))
+    here false p false q c r h = inl (grind (arith, ints))
+
+precedes-next : (e f g : Listed) → Precedes e f → NotAfter f g → Precedes e g
+precedes-next e f g (inl l) (inl m) = inl (omega (arith, ints))
+precedes-next e f g (inl l) (inr h) = inl (omega (arith, ints, h.0))
+precedes-next e f g (inr h) (inl m) = inl (omega (arith, ints, h.0))
+precedes-next e f g (inr h) (inr k) = inr (h.0 ∙ k.0, omega (arith, h.1, k.1))
+
+precedes-not-after : (e f : Listed) → Precedes e f → NotAfter e f
+precedes-not-after e f (inl l) = inl l
+precedes-not-after e f (inr h) = inr (h.0, omega (arith, h.1))
+
 -- ---- the selected asset
 
--- before and behind it
-front-of : (group : List Listed) (n : ℕ) (d : Listed) → IsSplitAt group n → (i : ℕ) → i ≤ n → NotAfter (get_or group i d) (get_or group n d)
-front-of group n d split i h = elim (cases_lt i n) [
-  | inl l ↦ split.front i d l
-  | inr g ↦ (let one : n ≡ i = omega arith in subst (λ j. NotAfter (get_or group j d) (get_or group n d)) one (self-not-after (get_or group n d)))
-]
+-- as many come before it as stand in front of it
+pub nth-is : (group front back : List Listed) (x : Listed) (n : ℕ) → IsPermutation group (front ++ x ∷ back) → length front ≡ n → IsSplitAround listed_cmp front x back
+    → HaveOwnPlaces group → IsNth group n x
+nth-is group front back x n moved long around own = record {
+  own = Contains-permutation ys group x (IsPermutation-sym group ys moved) (n, omega (arith, long, length-append front (x ∷ back)), middle);
+  counted = one-count (is_before x) group ys (one-sum-permuted ys group (IsPermutation-sym group ys moved)) ∙ omega (arith, few, many);
+}
+  where
+    ys : List Listed
+    ys = front ++ x ∷ back
 
-back-of : (group : List Listed) (n : ℕ) (d : Listed) → IsSplitAt group n → (i : ℕ) → n ≤ i → i < length group → NotAfter (get_or group n d) (get_or group i d)
-back-of group n d split i h l = elim (cases_lt n i) [
-  | inl m ↦ split.back i d m l
-  | inr g ↦ (let one : n ≡ i = omega arith in subst (λ j. NotAfter (get_or group n d) (get_or group j d)) one (self-not-after (get_or group n d)))
-]
+    middle : get_or (front ++ x ∷ back) n x ≡ x
+    middle = get_or-append_right front (x ∷ back) n n x long (omega arith) ∙ (let one : n - n ≡ 0 = omega arith in ap (λ m. get_or (x ∷ back) m x) one)
+
+    behind : (j : ℕ) → n < j → j < length (front ++ x ∷ back) → get_or (front ++ x ∷ back) j x ≡ get_or back (j - (n + 1)) x
+    behind j h l = get_or-append_right front (x ∷ back) n j x long (omega arith) ∙ (let one : j - n ≡ suc (j - (n + 1)) = omega arith in ap (λ m. get_or (x ∷ back) m x) one)
+
+    few : count_by (is_before x) (front ++ x ∷ back) ≤ n
+    few = few-pass (is_before x) (front ++ x ∷ back) n x (λ i l m. elim (cases_lt n i) [
+      | inl lt ↦ ap (is_before x) (behind i lt m) ∙ behind-fails x (get_or back (i - (n + 1)) x) (not-after x (get_or back (i - (n + 1)) x) (around.1 (i - (n + 1)) x (omega (arith, long, length-append front (x ∷ back)))))
+      | inr ge ↦ (let one : i ≡ n = omega arith in ap (λ j. is_before x (get_or (front ++ x ∷ back) j x)) one ∙ ap (is_before x) middle ∙ self-fails x)
+    ])
+
+    apart : HaveOwnPlaces (front ++ x ∷ back)
+    apart = own-permuted (λ (e : Listed). e.place) group (front ++ x ∷ back) moved own
+
+    many : n ≤ count_by (is_before x) (front ++ x ∷ back)
+    many = many-pass (is_before x) (front ++ x ∷ back) n x (omega (arith, long, length-append front (x ∷ back))) (λ i l.
+    let here : get_or (front ++ x ∷ back) i x ≡ get_or front i x = get_or-append front (x ∷ back) x i (omega (arith, long)) in
+    let other = apart.apart i n x l (omega (arith, long, length-append front (x ∷ back))) in
+    front-passes x (get_or (front ++ x ∷ back) i x) (apart-precedes (get_or (front ++ x ∷ back) i x) x
+    (subst (λ e. NotAfter e x) (sym here) (not-after (get_or front i x) x (around.0 i x (omega (arith, long)))))
+    (λ same. other (same ∙ ap (λ (e : Listed). e.place) (sym middle)))))
 
 -- its value is the one in its place
-pub selected-is : (group : List Listed) (n : ℕ) (d : Listed) → n < length group → IsSplitAt group n → (get_or group n d).value ≡ value_at (values (entries_of group)) n
-selected-is group n d inside split =
-    let x : ℤ = (get_or group n d).value in
+pub nth-value : (group : List Listed) (n : ℕ) (e : Listed) → n < length group → IsNth group n e → e.value ≡ value_at (values (entries_of group)) n
+nth-value group n e inside h =
+    let x : ℤ = e.value in
     let vs : List ℤ = values (entries_of group) in
-    let few : count_by (λ (e : Listed). int_lt e.value x) group ≤ n =
-    few-pass (λ (e : Listed). int_lt e.value x) group n d (λ i l m. no-less (get_or group n d) (get_or group i d) (back-of group n d split i l m)) in
-    let many : suc n ≤ count_by (λ (e : Listed). int_lt e.value x || int_eq x e.value) group =
-    many-pass (λ (e : Listed). int_lt e.value x || int_eq x e.value) group (suc n) d (omega arith) (λ i l. at-most (get_or group i d) (get_or group n d) (front-of group n d split i (omega arith))) in
-    let both = either-passes (λ (e : Listed). int_lt e.value x) (λ (e : Listed). int_eq x e.value) group (λ e t. less-not-same e.value x t) in
+    let there : In e group = contains-in group e h.own in
+    let few : count_by (λ (f : Listed). int_lt f.value x) group ≤ count_by (is_before e) group =
+    count-within (λ (f : Listed). int_lt f.value x) (is_before e) group (λ f i t. former (int_lt f.value e.value) (int_eq e.value f.value && nat_lt f.place e.place) t) in
+    let many : suc (count_by (is_before e) group) ≤ count_by (λ (f : Listed). int_lt f.value x || int_eq x f.value) group =
+    count-fewer (is_before e) (λ (f : Listed). int_lt f.value x || int_eq x f.value) group e there (self-fails e) (latter (int_lt x x) (int_eq x x) (same-equal x x refl))
+    (λ f i t. weaker (int_lt f.value x) (int_eq x f.value) (nat_lt f.place e.place) t) in
+    let both = either-passes (λ (f : Listed). int_lt f.value x) (λ (f : Listed). int_eq x f.value) group (λ f t. less-not-same f.value x t) in
     counted-is-value_at vs n x (omega (arith, length-values group)) (record {
-      own = in-contains vs x (value-in group n d inside);
-      few = omega (arith, below-group x group);
-      many = omega (arith, below-group x group, same-group x group);
+      own = in-contains vs x (map-in (λ (f : Entry). f.1) (entries_of group) (entry_of e) (map-in entry_of group e there));
+      few = omega (arith, below-group x group, h.counted);
+      many = omega (arith, below-group x group, same-group x group, h.counted);
     })
   where
-    no-less : (e f : Listed) → NotAfter e f → int_lt f.value e.value ≡ false
-    no-less e f (inl l) = not-less e.value f.value l
-    no-less e f (inr h) = same-not-less e.value f.value h.0
-
-    at-most : (e f : Listed) → NotAfter e f → (int_lt e.value f.value || int_eq f.value e.value) ≡ true
-    at-most e f (inl l) = former (int_lt e.value f.value) (int_eq f.value e.value) (less-yes e.value f.value l)
-    at-most e f (inr h) = latter (int_lt e.value f.value) (int_eq f.value e.value) (same-equal e.value f.value h.0)
-
     less-not-same : (v x : ℤ) → int_lt v x ≡ true → int_eq x v ≡ false
     less-not-same v x t = grind (arith, ints)
 
--- the values have one sum in all orders
-pub values-moved : (xs ys : List Listed) → IsPermutation xs ys → HaveOneSum (values (entries_of ys)) (values (entries_of xs))
-values-moved xs ys moved = one-sum-map (λ (e : Entry). e.1) (entries_of ys) (entries_of xs) (one-sum-map entry_of ys xs (one-sum-permuted xs ys moved))
-
-pub value-moved : (xs ys : List Listed) (n : ℕ) → IsPermutation xs ys → value_at (values (entries_of ys)) n ≡ value_at (values (entries_of xs)) n
-value-moved xs ys n moved = one-value (values (entries_of ys)) (values (entries_of xs)) n (values-moved xs ys moved)
+    weaker : (a b c : Bool) → (a || (b && c)) ≡ true → (a || b) ≡ true
+    weaker true b c t = refl
+    weaker false true c t = refl
+    weaker false false c t = t
 
 -- ---- the first n
 
--- the places are in front of n exactly for the first n in order
-pub first-is : (group : List Listed) (n k : ℕ) (d : Listed) → HaveOwnPlaces group → (n < length group → IsSplitAt group n) → k < length group
-    → truth (nat_lt k n) ≡ cross (Bottom n) (entries_of group) (get_or group k d).place (get_or group k d).value
-unfolding cross
-first-is group n k d own split inside = ap truth (elim (cases_lt k n) [ inl l ↦ within l | inr g ↦ beyond g ])
+-- the place of an asset, by counting what comes before it
+ordinal-counted : (group : List Listed) (e : Listed) → ordinal Ascending (entries_of group) e.place e.value ≡ count_by (is_before e) group + 1
+ordinal-counted group e =
+    let both = either-passes (λ (f : Listed). int_lt f.value e.value) (λ (f : Listed). int_eq e.value f.value && nat_lt f.place e.place) group (λ f t. apart f.value e.value (nat_lt f.place e.place) t) in
+    omega (arith, below-group e.value group, earlier-group e.place e.value group)
   where
-    e : Listed
-    e = get_or group k d
+    apart : (v x : ℤ) (b : Bool) → int_lt v x ≡ true → (int_eq x v && b) ≡ false
+    apart v x b t = let none : int_eq x v ≡ false = grind (arith, ints) in rw none refl
 
-    counted : ordinal Ascending (entries_of group) (get_or group k d).place (get_or group k d).value ≡ count_by (in_front (get_or group k d)) group + 1
-    counted =
-        let both = either-passes (λ (f : Listed). int_lt f.value (get_or group k d).value) (λ (f : Listed). int_eq (get_or group k d).value f.value && nat_lt f.place (get_or group k d).place) group (λ f t. apart f.value (get_or group k d).value (nat_lt f.place (get_or group k d).place) t) in
-        omega (arith, below-group (get_or group k d).value group, earlier-group (get_or group k d).place (get_or group k d).value group)
-      where
-        apart : (v x : ℤ) (b : Bool) → int_lt v x ≡ true → (int_eq x v && b) ≡ false
-        apart v x b t = let no : int_eq x v ≡ false = grind (arith, ints) in rw no refl
+le-yes : (a b : ℕ) → a ≤ b → nat_le a b ≡ true
+le-yes a b h = grind (arith, nat_tests)
 
-    le-yes : (a b : ℕ) → a ≤ b → nat_le a b ≡ true
-    le-yes a b h = grind (arith, nat_tests)
+le-not : (a b : ℕ) → b < a → nat_le a b ≡ false
+le-not a b h = grind (arith, nat_tests)
 
-    le-not : (a b : ℕ) → b < a → nat_le a b ≡ false
-    le-not a b h = grind (arith, nat_tests)
+-- those that come before the asset that n come before are the first n
+pub first-is : (group : List Listed) (n k : ℕ) (d e : Listed) → IsNth group n e → k < length group
+    → truth (is_before e (get_or group k d)) ≡ cross (Bottom n) (entries_of group) (get_or group k d).place (get_or group k d).value
+unfolding cross
+first-is group n k d e h inside = ap truth (here (is_before e (get_or group k d)) refl)
+  where
+    f : Listed
+    f = get_or group k d
 
-    self : in_front (get_or group k d) (get_or group k d) ≡ false
-    self = behind-fails (get_or group k d) (get_or group k d) (self-not-after (get_or group k d))
+    there : In (get_or group k d) group
+    there = contains-in group (get_or group k d) (Contains-get_or group k d inside)
 
-    within : k < n → nat_lt k n ≡ nat_le (ordinal Ascending (entries_of group) (get_or group k d).place (get_or group k d).value) n
-    within l =
-        let few : count_by (in_front (get_or group k d)) group < n = elim (cases_lt n (length group)) [
-          | inl m ↦ fewer-pass (in_front (get_or group k d)) group n k d
-              (λ i a b. behind-fails (get_or group k d) (get_or group i d)
-              (not-after-next (get_or group k d) (get_or group n d) (get_or group i d) (front-of group n d (split m) k (omega arith)) (back-of group n d (split m) i a b))) l inside self
-          | inr g ↦ (let all : count_by (in_front (get_or group k d)) group < length group = fewer-pass (in_front (get_or group k d)) group (length group) k d (λ i a b. absurd (omega arith)) inside inside self in omega arith)
-        ] in
-        lt-yes k n l ∙ sym (le-yes (ordinal Ascending (entries_of group) (get_or group k d).place (get_or group k d).value) n (omega (arith, counted)))
+    here : (b : Bool) → is_before e (get_or group k d) ≡ b → b ≡ nat_le (ordinal Ascending (entries_of group) (get_or group k d).place (get_or group k d).value) n
+    here true t =
+        let few : suc (count_by (is_before (get_or group k d)) group) ≤ count_by (is_before e) group =
+        count-fewer (is_before (get_or group k d)) (is_before e) group (get_or group k d) there (self-fails (get_or group k d)) t
+        (λ y i u. front-passes e y (precedes-next y (get_or group k d) e (before-precedes (get_or group k d) y u) (precedes-not-after (get_or group k d) e (before-precedes e (get_or group k d) t)))) in
+        sym (le-yes (ordinal Ascending (entries_of group) (get_or group k d).place (get_or group k d).value) n (omega (arith, ordinal-counted group (get_or group k d), h.counted)))
+    here false t =
+        let many : count_by (is_before e) group ≤ count_by (is_before (get_or group k d)) group =
+        count-within (is_before e) (is_before (get_or group k d)) group
+        (λ y i u. front-passes (get_or group k d) y (precedes-next y e (get_or group k d) (before-precedes e y u) (before-not-after e (get_or group k d) t))) in
+        sym (le-not (ordinal Ascending (entries_of group) (get_or group k d).place (get_or group k d).value) n (omega (arith, ordinal-counted group (get_or group k d), h.counted)))
 
-    beyond : n ≤ k → nat_lt k n ≡ nat_le (ordinal Ascending (entries_of group) (get_or group k d).place (get_or group k d).value) n
-    beyond g =
-        let m : n < length group = omega arith in
-        let many : n ≤ count_by (in_front (get_or group k d)) group =
-        many-pass (in_front (get_or group k d)) group n d (omega arith) (λ i l.
-        front-passes (get_or group k d) (get_or group i d) (apart-precedes (get_or group i d) (get_or group k d)
-        (not-after-next (get_or group i d) (get_or group n d) (get_or group k d) (front-of group n d (split m) i (omega arith)) (back-of group n d (split m) k g inside))
-        (own.apart i k d (omega arith) inside))) in
-        lt-not n k g ∙ sym (le-not (ordinal Ascending (entries_of group) (get_or group k d).place (get_or group k d).value) n (omega (arith, counted)))
+-- all are, where there are no more than n
+pub all-first : (group : List Listed) (n k : ℕ) (d : Listed) → length group ≤ n → k < length group → pos 1 ≡ cross (Bottom n) (entries_of group) (get_or group k d).place (get_or group k d).value
+unfolding cross
+all-first group n k d few inside =
+    let own : count_by (is_before (get_or group k d)) group < length group =
+    fewer-pass (is_before (get_or group k d)) group (length group) k d (λ i a b. absurd (omega arith)) inside inside (self-fails (get_or group k d)) in
+    ap truth (sym (le-yes (ordinal Ascending (entries_of group) (get_or group k d).place (get_or group k d).value) n (omega (arith, ordinal-counted group (get_or group k d)))))

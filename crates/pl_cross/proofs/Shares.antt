@@ -1,8 +1,8 @@
 -- Winsorized values, shares and summaries of groups.
-use Rattle.std.proofs.Common.{◌≡◌, ◌≢◌, ℕ, suc, ◌+◌, ◌-◌, ◌*◌, ◌/◌, ◌<◌, ◌≤◌, Bool, true, false, cond, ℤ, pos, ◌*ℤ◌, ◌≤ℤ◌, unsigned_abs, List, [], ◌∷◌, length, filter, get_or, refl, sym, ◌∙◌, ap, arith, inl, inr, sum_by, set, w64, to_z, of_z, FitsSigned, get_or-set_other, get_or-set_same}
+use Rattle.std.proofs.Common.{◌&&◌, ◌≡◌, ◌≢◌, ℕ, suc, ◌+◌, ◌-◌, ◌*◌, ◌/◌, ◌<◌, ◌≤◌, Bool, true, false, cond, ℤ, pos, ◌*ℤ◌, ◌≤ℤ◌, unsigned_abs, List, [], ◌∷◌, length, filter, get_or, refl, sym, ◌∙◌, ap, arith, inl, inr, sum_by, set, w64, to_z, of_z, FitsSigned, get_or-set_other, get_or-set_same}
 use Rattle.std.specs.List.Sorted.{IsPartitionedBy, IsPartitionPoint}
 use Rattle.std.specs.Int.{int_max, int_min}
-use Rattle.std.specs.Int.RustNames.{int_lt}
+use Rattle.std.specs.Int.RustNames.{int_le}
 use Rattle.std.specs.Ordering.{int_eq}
 use Rattle.std.proofs.lemmas.Bool.{cases_lt}
 use Rattle.std.specs.Int.{w128}
@@ -10,10 +10,11 @@ use Rattle.std.proofs.lemmas.Int.{ints, to_z-of_z, fits_signed_from_abs, fits_si
 use Rattle.std.proofs.lemmas.List.{get_or_default}
 use Rattle.pl_spec.specs.Limits.{most_assets}
 use Rattle.pl_spec.specs.Rounding.{MISSING, LIMIT, MILLION, quot}
+use Rattle.pl_spec.specs.Cells.{truth}
 use Rattle.pl_pipeline.specs.declared.Summary.{Summary}
-use Rattle.pl_pipeline.specs.Kind.CrossKind.{Winsorize, Scale, Summarize}
+use Rattle.pl_pipeline.specs.Kind.CrossKind.{Winsorize, Scale, PercentileBetween}
 use Rattle.pl_pipeline.specs.Cross.{array_at, values, if_some, summary, cross}
-use Rattle.pl_pipeline.specs.Order.{value_at}
+use Rattle.pl_pipeline.specs.Order.{value_at, edge}
 use Rattle.pl_cross.specs.declared.listing.Listed.{Listed}
 use Rattle.pl_cross.specs.Listing.{entries_of}
 use Rattle.pl_cross.proofs.Distinct.{length-values}
@@ -66,3 +67,16 @@ written-more f out place v fits inside before now k h = elim (cases_lt k place) 
       ap (λ i. array_at (set out place (to_z w64 (of_z w64 v))) i) (sym here) ∙ get_or-set_same out place (to_z w64 (of_z w64 v)) MISSING inside
       ∙ to_z-of_z w64 v fits ∙ now ∙ ap f here
 ]
+
+-- whether a value lies between two points
+pub parted-in : (low high : ℕ) (group : List Listed) (least greatest answer : ℤ) → least ≡ edge (values (entries_of group)) (low * (length group - 1)) 10000
+    → greatest ≡ edge (values (entries_of group)) (high * (length group - 1)) 10000
+    → (k : ℕ) (d : Listed) → answer ≡ truth (int_le least ((get_or group k d).value *ℤ pos 10000) && int_le ((get_or group k d).value *ℤ pos 10000) greatest)
+    → answer ≡ cross (PercentileBetween low high) (entries_of group) (get_or group k d).place (get_or group k d).value
+unfolding cross
+parted-in low high group least greatest answer under over k d h =
+    let vs : List ℤ = values (entries_of group) in
+    let x : ℤ = (get_or group k d).value in
+    h
+    ∙ ap (λ v. truth (int_le v (x *ℤ pos 10000) && int_le (x *ℤ pos 10000) greatest)) (under ∙ ap (λ m. edge vs (low * (m - 1)) 10000) (sym (length-values group)))
+    ∙ ap (λ v. truth (int_le (edge vs (low * (length vs - 1)) 10000) (x *ℤ pos 10000) && int_le (x *ℤ pos 10000) v)) (over ∙ ap (λ m. edge vs (high * (m - 1)) 10000) (sym (length-values group)))

@@ -1,6 +1,6 @@
 //! Points on the way through the values of one group in order, and what they part. No group is sorted for
 //! them: one value is selected at a time.
-ghost use Rattle.std.specs.Prelude.{◌≡◌, ◌≤◌, ◌<◌, ◌+◌, ◌-◌, ◌*◌, ◌/◌, ◌*ℤ◌, ◌+ℤ◌, ◌&&◌, ℕ, nat_lt, pos, All, IsPermutation, length, get_or, unsigned_abs};
+ghost use Rattle.std.specs.Prelude.{◌≡◌, ◌≤◌, ◌<◌, ◌+◌, ◌-◌, ◌*◌, ◌/◌, ◌*ℤ◌, ◌+ℤ◌, ◌&&◌, ℕ, pos, All, length, get_or, unsigned_abs};
 ghost use Rattle.std.specs.Int.{int_max, int_min};
 ghost use Rattle.std.specs.Int.RustNames.{int_le};
 ghost use Rattle.pl_spec.specs.Limits.{most_assets};
@@ -9,10 +9,11 @@ ghost use Rattle.pl_spec.specs.Cells.{truth};
 ghost use Rattle.pl_pipeline.specs.Order as spec;
 ghost use Rattle.pl_pipeline.specs.Cross.{array_at, values};
 ghost use Rattle.pl_pipeline.specs.Kind.CrossKind.{Bottom, PercentileBetween, Winsorize};
-ghost use Rattle.pl_cross.specs.Listing.{entries_of, HasCell, HaveOwnPlaces, IsSplitAt, AreAnswers};
+ghost use Rattle.pl_cross.specs.Listing.{entries_of, is_before, HasCell, HaveOwnPlaces, AreAnswers};
 
 use crate::listing::Listed;
-use crate::sorting::select;
+use crate::places::clear;
+use crate::sorting::{nth, precedes};
 use pl_fixed::quot;
 
 // The hundredths of a percent.
@@ -22,15 +23,15 @@ const WHOLE: usize = 10_000;
 const MILLION: usize = 1_000_000;
 
 /// The value in a place in ascending order, and 0 behind the last one.
-pub(crate) fn value_at(group: &mut [Listed], place: usize) -> i64
-    requires { All HasCell group.old }
-    ensures same { IsPermutation group.old group.new }
-    ensures value { result ≡ spec.value_at (values (entries_of group.old)) place }
+pub(crate) fn value_at(group: &[Listed], scratch: &mut [Listed], place: usize) -> i64
+    requires cells { All HasCell group.now }
+    requires own { HaveOwnPlaces group.now }
+    requires room { length group.now ≤ length scratch.old }
+    ensures value { result ≡ spec.value_at (values (entries_of group.now)) place }
     ensures size { unsigned_abs result ≤ LIMIT }
 {
     if place < group.len() {
-        select(group, place);
-        group[place].value
+        nth(group, scratch, place).value
     } else {
         0
     }
@@ -58,29 +59,32 @@ fn mixed(below: i64, above: i64, rest: usize) -> i128
 }
 
 // 10,000 times the point that lies so many 10,000ths of a place above the least value.
-fn edge(group: &mut [Listed], point: usize) -> i128
-    requires { All HasCell group.old }
-    ensures same { IsPermutation group.old group.new }
-    ensures value { result ≡ spec.edge (values (entries_of group.old)) point 10000 }
+fn edge(group: &[Listed], scratch: &mut [Listed], point: usize) -> i128
+    requires cells { All HasCell group.now }
+    requires own { HaveOwnPlaces group.now }
+    requires room { length group.now ≤ length scratch.old }
+    ensures value { result ≡ spec.edge (values (entries_of group.now)) point 10000 }
     ensures size { unsigned_abs result ≤ 2 * 10000 * LIMIT }
 {
     let place = point / WHOLE;
     let rest = point - place * WHOLE;
-    let below = value_at(group, place);
-    let above = value_at(group, place + 1);
+    let below = value_at(group, scratch, place);
+    let above = value_at(group, scratch, place + 1);
     mixed(below, above, rest)
 }
 
 /// The point so many hundredths of a percent of the way from the least value to the greatest.
-pub(crate) fn percentile(percent: u32, group: &mut [Listed]) -> i64
+pub(crate) fn percentile(percent: u32, group: &[Listed], scratch: &mut [Listed]) -> i64
     requires percent { percent ≤ 10_000 }
-    requires few { length group.old ≤ most_assets }
-    requires some { 0 < length group.old }
-    requires cells { All HasCell group.old }
-    ensures { result ≡ spec.percentile percent (values (entries_of group.old)) }
+    requires few { length group.now ≤ most_assets }
+    requires some { 0 < length group.now }
+    requires cells { All HasCell group.now }
+    requires own { HaveOwnPlaces group.now }
+    requires room { length group.now ≤ length scratch.old }
+    ensures { result ≡ spec.percentile percent (values (entries_of group.now)) }
 {
     let point = percent as usize * (group.len() - 1);
-    quot(edge(group, point), 10_000)
+    quot(edge(group, scratch, point), 10_000)
 }
 
 // Each value, but not below the least nor above the greatest.
@@ -96,17 +100,24 @@ fn draw_in(least: i64, greatest: i64, group: &[Listed], answers: &mut [i64])
 
 /// Each value, but not below the one `low` millionths of the way through the sorted values, nor above that at
 /// `high`.
-pub(crate) fn winsorize(low: u32, high: u32, group: &mut [Listed], answers: &mut [i64])
+pub(crate) fn winsorize(
+    low: u32,
+    high: u32,
+    group: &[Listed],
+    scratch: &mut [Listed],
+    answers: &mut [i64],
+)
     requires right { low < high }
     requires high { high ≤ MILLION }
-    requires few { length group.old ≤ most_assets }
-    requires cells { All HasCell group.old }
-    requires room { length answers.old ≡ length group.old }
-    ensures same { IsPermutation group.old group.new }
-    ensures answers { AreAnswers (Winsorize low high) (λ e. entries_of group.new) group.new answers.new }
+    requires few { length group.now ≤ most_assets }
+    requires cells { All HasCell group.now }
+    requires own { HaveOwnPlaces group.now }
+    requires scratch { length group.now ≤ length scratch.old }
+    requires room { length answers.old ≡ length group.now }
+    ensures { AreAnswers (Winsorize low high) (λ e. entries_of group.now) group.now answers.new }
 {
-    let least = value_at(group, low as usize * group.len() / MILLION);
-    let greatest = value_at(group, last_within(high, group.len()));
+    let least = value_at(group, scratch, low as usize * group.len() / MILLION);
+    let greatest = value_at(group, scratch, last_within(high, group.len()));
     draw_in(least, greatest, group, answers);
 }
 
@@ -147,50 +158,51 @@ fn mark_between(low: i128, high: i128, group: &[Listed], answers: &mut [i64])
 }
 
 /// Whether each value lies between the points at so many hundredths of a percent.
-pub(crate) fn between(low: u32, high: u32, group: &mut [Listed], answers: &mut [i64])
+pub(crate) fn between(
+    low: u32,
+    high: u32,
+    group: &[Listed],
+    scratch: &mut [Listed],
+    answers: &mut [i64],
+)
     requires low { low ≤ 10_000 }
     requires high { high ≤ 10_000 }
-    requires few { length group.old ≤ most_assets }
-    requires some { 0 < length group.old }
-    requires cells { All HasCell group.old }
-    requires room { length answers.old ≡ length group.old }
-    ensures same { IsPermutation group.old group.new }
-    ensures answers { AreAnswers (PercentileBetween low high) (λ e. entries_of group.new)
-        group.new answers.new }
+    requires few { length group.now ≤ most_assets }
+    requires some { 0 < length group.now }
+    requires cells { All HasCell group.now }
+    requires own { HaveOwnPlaces group.now }
+    requires scratch { length group.now ≤ length scratch.old }
+    requires room { length answers.old ≡ length group.now }
+    ensures { AreAnswers (PercentileBetween low high) (λ e. entries_of group.now) group.now answers.new }
 {
     let last = group.len() - 1;
-    let least = edge(group, low as usize * last);
-    let greatest = edge(group, high as usize * last);
+    let least = edge(group, scratch, low as usize * last);
+    let greatest = edge(group, scratch, high as usize * last);
     mark_between(least, greatest, group, answers);
 }
 
-// Puts the first `n` in order to the front, if there are more.
-fn split(n: usize, group: &mut [Listed])
-    ensures same { IsPermutation group.old group.new }
-    ensures split { n < length group.new → IsSplitAt group.new n }
+// Whether each asset comes before another.
+fn mark_before(other: Listed, group: &[Listed], answers: &mut [i64])
+    requires room { length answers.old ≡ length group.now }
+    ensures { (k : ℕ) (d : Listed) → k < length group.now
+        → array_at answers.new k ≡ truth (is_before other (get_or group.now k d)) }
 {
-    if n < group.len() {
-        select(group, n);
-    }
-}
-
-// Whether each place is before the `n`-th.
-fn mark_before(n: usize, answers: &mut [i64])
-    ensures length { length answers.new ≡ length answers.old }
-    ensures each { (k : ℕ) → k < length answers.old → array_at answers.new k ≡ truth (nat_lt k n) }
-{
-    for i in 0..answers.len() {
-        answers[i] = mark(i < n);
+    for i in 0..group.len() {
+        answers[i] = mark(precedes(group[i], other));
     }
 }
 
 /// Whether each asset is among the first `n` in order.
-pub(crate) fn first(n: u32, group: &mut [Listed], answers: &mut [i64])
-    requires own { HaveOwnPlaces group.old }
-    requires room { length answers.old ≡ length group.old }
-    ensures same { IsPermutation group.old group.new }
-    ensures answers { AreAnswers (Bottom n) (λ e. entries_of group.new) group.new answers.new }
+pub(crate) fn first(n: u32, group: &[Listed], scratch: &mut [Listed], answers: &mut [i64])
+    requires own { HaveOwnPlaces group.now }
+    requires scratch { length group.now ≤ length scratch.old }
+    requires room { length answers.old ≡ length group.now }
+    ensures { AreAnswers (Bottom n) (λ e. entries_of group.now) group.now answers.new }
 {
-    split(n as usize, group);
-    mark_before(n as usize, answers);
+    let n = n as usize;
+    if n < group.len() {
+        mark_before(nth(group, scratch, n), group, answers);
+    } else {
+        clear(answers, 1);
+    }
 }

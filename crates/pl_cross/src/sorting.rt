@@ -1,6 +1,6 @@
 //! The assets of a group in order, as far as a section needs it.
 ghost use Rattle.std.specs.Prelude.{◌≡◌, ◌≢◌, ◌<◌, ◌≤◌, ℕ, IsPermutation, length, get_or};
-ghost use Rattle.pl_cross.specs.Listing.{HaveOwnPlaces, IsGroup, IsSplitAt};
+ghost use Rattle.pl_cross.specs.Listing.{HaveOwnPlaces, IsGroup, IsNth, is_before};
 
 use crate::listing::Listed;
 
@@ -13,14 +13,24 @@ pub(crate) fn sort(group: &mut [Listed])
     group.sort_unstable();
 }
 
-/// Puts the asset to the place that it would have in order, with what comes before it in front.
-pub(crate) fn select(group: &mut [Listed], place: usize)
-    requires { place < length group.old }
-    ensures same { IsPermutation group.old group.new }
-    ensures split { IsSplitAt group.new place }
+/// Whether one asset comes before another.
+pub(crate) fn precedes(asset: Listed, other: Listed) -> bool
+    ensures { result ≡ is_before other asset }
 {
-    // The contract of `select_nth_unstable` does not say what becomes of the slice.
-    group.sort_unstable();
+    asset.value < other.value || asset.value == other.value && asset.place < other.place
+}
+
+/// The asset that a sort would put to a place, which is found in a copy without one.
+pub(crate) fn nth(group: &[Listed], scratch: &mut [Listed], place: usize) -> Listed
+    requires place { place < length group.now }
+    requires own { HaveOwnPlaces group.now }
+    requires room { length group.now ≤ length scratch.old }
+    ensures { IsNth group.now place result }
+{
+    let copy = &mut scratch[..group.len()];
+    copy.copy_from_slice(group);
+    let (_, asset, _) = copy.select_nth_unstable(place);
+    *asset
 }
 
 /// The place after the equal values that begin at `start`.

@@ -1,12 +1,9 @@
-use Rattle.std.proofs.Common.{length, ◌∙◌, arith}
-use Rattle.std.proofs.lemmas.List.Sorted.{length_permutation}
-use Rattle.pl_records.proofs.Sorts.{own-permuted}
-use Rattle.pl_cross.specs.declared.listing.Listed.{Listed}
-use Rattle.pl_cross.proofs.Selecting.{first-is}
+use Rattle.std.proofs.Common.{◌∙◌, arith}
+use Rattle.pl_cross.proofs.Selecting.{first-is, all-first}
 use Rattle.pl_cross.proofs.points.first.Goals as goal
 
-pub returns-clause-answers : goal.returns-clause-answers
-returns-clause-answers c = λ k d h.
-    let long = length_permutation c.args.group.now c.split.new.group c.split.ensures.same in
-    c.mark_before.ensures.each k (omega (arith, h, c.requires.room, long))
-    ∙ first-is c.split.new.group c.args.n k d (own-permuted (λ (e : Listed). e.place) c.args.group.now c.split.new.group c.split.ensures.same c.requires.own) c.split.ensures.split h
+pub returns-then-n-group : goal.returns-then-n-group
+returns-then-n-group c = λ k d h. c.mark_before.ensures k d h ∙ first-is c.args.group.now c.args.n k d c.nth.result c.nth.ensures h
+
+pub returns-else-n-group : goal.returns-else-n-group
+returns-else-n-group c = λ k d h. c.clear.ensures.each k (omega (arith, h, c.requires.room)) ∙ all-first c.args.group.now c.args.n k d (omega (arith, c.if-n-group.false)) h

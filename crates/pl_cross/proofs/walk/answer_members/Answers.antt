@@ -11,6 +11,10 @@ pub summarize-requires-clause-cells : goal.summarize-requires-clause-cells
 summarize-requires-clause-cells c =
     subst (λ l. All HasCell l) (sym c.gather-count.ensures.listed) (gathered-cells c.order_of.result c.args.session.now.values.now c.args.members.now c.requires.session.cells c.requires.within)
 
+pub summarize-requires-clause-own : goal.summarize-requires-clause-own
+summarize-requires-clause-own c =
+    subst HaveOwnPlaces (sym c.gather-count.ensures.listed) (gathered-own c.order_of.result c.args.session.now.values.now c.args.members.now c.requires.own)
+
 pub answer_listed-requires : goal.answer_listed-requires
 answer_listed-requires c =
     let vs = c.args.session.now.values.now in
@@ -20,6 +24,7 @@ answer_listed-requires c =
       right = c.requires.right;
       listed = not-for-all c.args.section c.in_default.not-Summarize;
       few = search rules;
+      scratch = search rules;
       cells = subst (λ l. All HasCell l) listed (gathered-cells c.order_of.result vs members c.requires.session.cells c.requires.within);
       own = subst HaveOwnPlaces listed (gathered-own c.order_of.result vs members c.requires.own);
       within = subst (λ l. All (λ e. e.place < length c.args.out.now) l) listed
@@ -47,6 +52,7 @@ returns-in_default c =
     let listed = take c.gather-count.result c.gather-count.new.listed in
     record {
       listed = search rules;
+      scratch = search rules;
       answers = search rules;
       length = search rules;
       given = listed-given kind s members c.order_of.result listed c.args.out.now c.answer_listed.new.out c.order_of.ensures c.gather-count.ensures.listed own c.answer_listed.ensures.given;
