@@ -184,21 +184,27 @@ nth-is group front back x n moved long around own = record {
     behind j h l = get_or-append_right front (x ∷ back) n j x long (omega arith) ∙ (let one : j - n ≡ suc (j - (n + 1)) = omega arith in ap (λ m. get_or (x ∷ back) m x) one)
 
     few : count_by (is_before x) (front ++ x ∷ back) ≤ n
-    few = few-pass (is_before x) (front ++ x ∷ back) n x (λ i l m. elim (cases_lt n i) [
-      | inl lt ↦ ap (is_before x) (behind i lt m) ∙ behind-fails x (get_or back (i - (n + 1)) x) (not-after x (get_or back (i - (n + 1)) x) (around.1 (i - (n + 1)) x (omega (arith, long, length-append front (x ∷ back)))))
-      | inr ge ↦ (let one : i ≡ n = omega arith in ap (λ j. is_before x (get_or (front ++ x ∷ back) j x)) one ∙ ap (is_before x) middle ∙ self-fails x)
-    ])
+    few = few-pass (is_before x) (front ++ x ∷ back) n x no-more
+      where
+        no-more : (i : ℕ) → n ≤ i → i < length (front ++ x ∷ back) → is_before x (get_or (front ++ x ∷ back) i x) ≡ false
+        no-more i l m = elim (cases_lt n i) [
+          | inl lt ↦ ap (is_before x) (behind i lt m) ∙ behind-fails x (get_or back (i - (n + 1)) x) (not-after x (get_or back (i - (n + 1)) x) (around.1 (i - (n + 1)) x (omega (arith, long, length-append front (x ∷ back)))))
+          | inr ge ↦ (let one : i ≡ n = omega arith in ap (λ j. is_before x (get_or (front ++ x ∷ back) j x)) one ∙ ap (is_before x) middle ∙ self-fails x)
+        ]
 
     apart : HaveOwnPlaces (front ++ x ∷ back)
     apart = own-permuted (λ (e : Listed). e.place) group (front ++ x ∷ back) moved own
 
     many : n ≤ count_by (is_before x) (front ++ x ∷ back)
-    many = many-pass (is_before x) (front ++ x ∷ back) n x (omega (arith, long, length-append front (x ∷ back))) (λ i l.
-    let here : get_or (front ++ x ∷ back) i x ≡ get_or front i x = get_or-append front (x ∷ back) x i (omega (arith, long)) in
-    let other = apart.apart i n x l (omega (arith, long, length-append front (x ∷ back))) in
-    front-passes x (get_or (front ++ x ∷ back) i x) (apart-precedes (get_or (front ++ x ∷ back) i x) x
-    (subst (λ e. NotAfter e x) (sym here) (not-after (get_or front i x) x (around.0 i x (omega (arith, long)))))
-    (λ same. other (same ∙ ap (λ (e : Listed). e.place) (sym middle)))))
+    many = many-pass (is_before x) (front ++ x ∷ back) n x (omega (arith, long, length-append front (x ∷ back))) in-front
+      where
+        in-front : (i : ℕ) → i < n → is_before x (get_or (front ++ x ∷ back) i x) ≡ true
+        in-front i l =
+            let here : get_or (front ++ x ∷ back) i x ≡ get_or front i x = get_or-append front (x ∷ back) x i (omega (arith, long)) in
+            let other = apart.apart i n x l (omega (arith, long, length-append front (x ∷ back))) in
+            front-passes x (get_or (front ++ x ∷ back) i x) (apart-precedes (get_or (front ++ x ∷ back) i x) x
+            (subst (λ e. NotAfter e x) (sym here) (not-after (get_or front i x) x (around.0 i x (omega (arith, long)))))
+            (λ same. other (same ∙ ap (λ (e : Listed). e.place) (sym middle))))
 
 -- its value is the one in its place
 pub nth-value : (group : List Listed) (n : ℕ) (e : Listed) → n < length group → IsNth group n e → e.value ≡ value_at (values (entries_of group)) n

@@ -18,5 +18,5 @@ loop-i-preserved c =
     record {
       long = search rules;
       answers = marked-more (λ e. int_max (to_z w64 (of_z w64 c.args.least)) (int_min (to_z w64 (of_z w64 c.args.greatest)) e.value)) c.args.group.now c.loop-i.answers c.loop-i.i blank c.max.result fits c.loop-i.invariant.long c.loop-i-test.true c.loop-i.invariant.answers
-          (rw (to_z-of_z w64 c.args.least c.ranges.least, to_z-of_z w64 c.args.greatest c.ranges.greatest) (over ∙ ap (int_max c.args.least) under));
+          (over ∙ ap (int_max (to_z w64 (of_z w64 c.args.least))) under);
     }

@@ -20,5 +20,5 @@ loop-i-preserved c =
     record {
       long = search rules;
       answers = marked-more (λ e. truth (int_le (to_z w128 (of_z w128 c.args.low)) (e.value *ℤ pos 10000) && int_le (e.value *ℤ pos 10000) (to_z w128 (of_z w128 c.args.high)))) c.args.group.now c.loop-i.answers c.loop-i.i blank c.mark.result fits c.loop-i.invariant.long c.loop-i-test.true c.loop-i.invariant.answers
-          (rw (to_z-of_z w128 c.args.low c.ranges.low, to_z-of_z w128 c.args.high c.ranges.high) (c.mark.ensures ∙ ap truth (tested ∙ ap (λ v. int_le c.args.low v && int_le v c.args.high) scaled)));
+          (c.mark.ensures ∙ ap truth (tested ∙ ap (λ v. int_le (to_z w128 (of_z w128 c.args.low)) v && int_le v (to_z w128 (of_z w128 c.args.high))) scaled));
     }
