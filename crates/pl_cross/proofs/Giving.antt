@@ -1,5 +1,5 @@
 -- Groups that are given their answers, one after the other.
-use Rattle.std.proofs.Common.{◌≡◌, ◌≢◌, ℕ, ◌+◌, ◌-◌, ◌<◌, ◌≤◌, Bool, true, false, ◌||◌, ℤ, pos, List, length, get_or, take, drop, refl, sym, ◌∙◌, ap, subst, arith, inl, inr, IsPermutation}
+use Rattle.std.proofs.Common.{◌≡◌, ◌≢◌, ℕ, ◌+◌, ◌-◌, ◌<◌, ◌≤◌, Bool, true, false, ◌||◌, ℤ, pos, List, length, get_or, refl, sym, ◌∙◌, ap, subst, arith, inl, inr, IsPermutation}
 use Rattle.std.proofs.lemmas.Bool.{cases_lt}
 use Rattle.std.proofs.lemmas.List.{get_or_default}
 use Rattle.std.proofs.lemmas.List.Elements.{Contains-get_or}
@@ -10,14 +10,14 @@ use Rattle.pl_pipeline.specs.declared.RankOrder.TheVariants.{Ascending}
 use Rattle.pl_pipeline.specs.declared.Summary.{Summary}
 use Rattle.pl_pipeline.specs.Kind.{CrossKind}
 use Rattle.pl_pipeline.specs.Kind.CrossKind.{Summarize}
-use Rattle.pl_pipeline.specs.Cross.{array_at, values, summary, cross, cross_at, is_for_all}
+use Rattle.pl_pipeline.specs.Cross.{array_at, values, summary, cross, is_for_all}
 use Rattle.pl_cross.specs.declared.listing.Listed.{Listed}
 use Rattle.pl_cross.specs.declared.listing.Member.{Member}
 use Rattle.pl_cross.specs.declared.listing.Session.{Session}
 use Rattle.pl_cross.specs.declared.section.Section.{Section}
 use Rattle.pl_cross.specs.declared.section.Section.TheVariants as code
 use Rattle.pl_cross.specs.Section.{cross_of, order_of, upright, turned}
-use Rattle.pl_cross.specs.Listing.{labels_in, group_at, belongs, member_at, enrolled, enrolled_in, mates, AreGrouped, HaveOwnSeats, listed_at, gathered, entry_of, entries_of, answer_at, AreAnswers}
+use Rattle.pl_cross.specs.Listing.{labels_in, belongs, enrolled_in, mates, AreGrouped, HaveOwnSeats, listed_at, gathered, entry_of, entries_of, answer_at, AreAnswers}
 use Rattle.pl_cross.specs.Giving.{gives, is_given, given, none_at}
 use Rattle.pl_cross.proofs.Grouping.{IsBetweenGroups, part, length-part, part-at, mates-part}
 use Rattle.pl_cross.proofs.Sums.{one-sum-map, one-sum-permuted, one-cross}

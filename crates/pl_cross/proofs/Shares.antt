@@ -1,19 +1,16 @@
 -- Winsorized values, shares and summaries of groups.
-use Rattle.std.proofs.Common.{◌&&◌, ◌≡◌, ◌≢◌, ℕ, suc, ◌+◌, ◌-◌, ◌*◌, ◌/◌, ◌<◌, ◌≤◌, Bool, true, false, cond, ℤ, pos, ◌*ℤ◌, ◌≤ℤ◌, unsigned_abs, List, [], ◌∷◌, length, filter, get_or, refl, sym, ◌∙◌, ap, arith, inl, inr, sum_by, set, w64, to_z, of_z, FitsSigned, get_or-set_other, get_or-set_same}
-use Rattle.std.specs.List.Sorted.{IsPartitionedBy, IsPartitionPoint}
+use Rattle.std.proofs.Common.{◌&&◌, ◌≡◌, ◌≢◌, ℕ, ◌+◌, ◌-◌, ◌*◌, ◌/◌, ◌<◌, ◌≤◌, ℤ, pos, ◌*ℤ◌, unsigned_abs, List, [], ◌∷◌, length, get_or, refl, sym, ◌∙◌, ap, arith, inl, inr, sum_by, set, w64, to_z, of_z, FitsSigned, get_or-set_other, get_or-set_same}
 use Rattle.std.specs.Int.{int_max, int_min}
 use Rattle.std.specs.Int.RustNames.{int_le}
-use Rattle.std.specs.Ordering.{int_eq}
 use Rattle.std.proofs.lemmas.Bool.{cases_lt}
 use Rattle.std.specs.Int.{w128}
-use Rattle.std.proofs.lemmas.Int.{ints, to_z-of_z, fits_signed_from_abs, fits_signed_mul}
+use Rattle.std.proofs.lemmas.Int.{to_z-of_z, fits_signed_from_abs, fits_signed_mul}
 use Rattle.std.proofs.lemmas.List.{get_or_default}
 use Rattle.pl_spec.specs.Limits.{most_assets}
 use Rattle.pl_spec.specs.Rounding.{MISSING, LIMIT, MILLION, quot}
 use Rattle.pl_spec.specs.Cells.{truth}
-use Rattle.pl_pipeline.specs.declared.Summary.{Summary}
 use Rattle.pl_pipeline.specs.Kind.CrossKind.{Winsorize, Scale, PercentileBetween}
-use Rattle.pl_pipeline.specs.Cross.{array_at, values, if_some, summary, cross}
+use Rattle.pl_pipeline.specs.Cross.{array_at, values, if_some, cross}
 use Rattle.pl_pipeline.specs.Order.{value_at, edge}
 use Rattle.pl_cross.specs.declared.listing.Listed.{Listed}
 use Rattle.pl_cross.specs.Listing.{entries_of}

@@ -1,4 +1,4 @@
-use Rattle.std.proofs.Common.{rules, pos, arith, w64, FitsSigned, get_or, length, ◌*◌, sym, ◌∙◌, ap}
+use Rattle.std.proofs.Common.{pos, arith, w64, get_or, length, ◌*◌, sym, ◌∙◌, ap}
 use Rattle.std.proofs.lemmas.Int.{to_z_pos}
 use Rattle.std.proofs.lemmas.List.{length-map}
 use Rattle.pl_spec.specs.Rounding.{MILLION}

@@ -1,6 +1,5 @@
 use Rattle.std.proofs.Common.{rules, arith, w64, FitsSigned, get_or, pos, length, ◌<◌, ◌≡◌, take, ◌+◌, ◌≤◌, to_z, of_z, ◌∙◌, sym, ap, refl}
 use Rattle.std.proofs.lemmas.Int.{to_z-of_z}
-use Rattle.std.proofs.lemmas.List.{take_all}
 use Rattle.pl_spec.specs.Rounding.{is_present}
 use Rattle.pl_pipeline.specs.Cross.{array_at}
 use Rattle.pl_cross.specs.declared.listing.Member.{Member}

@@ -1,5 +1,4 @@
 use Rattle.std.proofs.Common.{rules, w64, FitsSigned, pos, get_or, arith, to_z, of_z, ap, ◌∙◌, length, ◌<◌, ◌≡◌, if◌then◌else◌}
-use Rattle.std.proofs.lemmas.Int.{to_z-of_z}
 use Rattle.pl_spec.specs.Cells.{is_true}
 use Rattle.pl_pipeline.specs.Cross.{array_at}
 use Rattle.pl_cross.proofs.Listings.{read-cell}

@@ -1,4 +1,4 @@
-use Rattle.std.proofs.Common.{rules, arith, subst, sym, ap, ◌∙◌, length, take, ◌<◌, ◌≡◌, w64, FitsSigned, All}
+use Rattle.std.proofs.Common.{rules, subst, sym, ap, ◌∙◌, length, take, ◌<◌, ◌≡◌, w64, FitsSigned, All}
 use Rattle.std.proofs.lemmas.Int.{to_z-of_z}
 use Rattle.pl_pipeline.specs.declared.RankOrder.TheVariants.{Ascending}
 use Rattle.pl_cross.specs.Section.{cross_of, order_of}
