@@ -40,6 +40,13 @@ pub value_joined : (b t a day v : List ℕ) (known : List ℤ)
     ≡ b ++ (join_by (λ f. f) (32 ∷ []) (codes "value" ∷ t ∷ a ∷ day ∷ v ∷ map date_text known) ++ 10 ∷ [])
 value_joined b t a day v known = joined b (codes "value") (t ∷ a ∷ day ∷ v ∷ []) known date_text
 
+pub seen_value_joined : (b t a own day v : List ℕ)
+    → ((((((b ++ codes "seen-value") ++ ((32 ∷ []) ++ t)) ++ ((32 ∷ []) ++ a)) ++ ((32 ∷ []) ++ own)) ++ ((32 ∷ []) ++ day)) ++ ((32 ∷ []) ++ v)) ++ 10 ∷ []
+    ≡ b ++ (join_by (λ f. f) (32 ∷ []) (codes "seen-value" ∷ t ∷ a ∷ own ∷ day ∷ v ∷ []) ++ 10 ∷ [])
+seen_value_joined b t a own day v =
+    ap (λ x. x ++ 10 ∷ []) (sym (append-nil _))
+    ∙ joined b (codes "seen-value") (t ∷ a ∷ own ∷ day ∷ v ∷ []) [] number_text
+
 pub text_begun : text_of [] ≡ []
 unfolding text_of
 text_begun = refl
