@@ -120,19 +120,17 @@ module _ (w : World) (p : Pipeline) where
   told_number Own t a d = refl
   told_number (From v) t a d = by_term (is_steady (tree t)) refl
     where
-      abbrev Told : Type 0
-      Told = number_in w p (told_fact p.graph t a d (From v)) ≡ in_array w.texts (seen w p.names (tree t) (From v) a d)
-
-      own : seen w p.names (tree t) (From v) a d ≡ value w p.names (tree t) a d → (is_steady (tree t) || int_eq d v) ≡ true → Told
+      own : seen w p.names (tree t) (From v) a d ≡ value w p.names (tree t) a d → (is_steady (tree t) || int_eq d v) ≡ true
+          → number_in w p (told_fact p.graph t a d (From v)) ≡ in_array w.texts (seen w p.names (tree t) (From v) a d)
       own same e = rw e (ap (in_array w.texts) (sym same))
 
-      by_session : (b : Bool) → int_eq d v ≡ b → is_steady (tree t) ≡ false → Told
+      by_session : (b : Bool) → int_eq d v ≡ b → is_steady (tree t) ≡ false → number_in w p (told_fact p.graph t a d (From v)) ≡ in_array w.texts (seen w p.names (tree t) (From v) a d)
       by_session true e moves =
           let here : d ≡ v = int_eq-true d v e in
           own (ap (λ s. seen w p.names (tree t) (From s) a d) (sym here) ∙ from-itself w p.names (tree t) a d) (rw (moves, e) refl)
       by_session false e moves = rw (moves, e) refl
 
-      by_term : (b : Bool) → is_steady (tree t) ≡ b → Told
+      by_term : (b : Bool) → is_steady (tree t) ≡ b → number_in w p (told_fact p.graph t a d (From v)) ≡ in_array w.texts (seen w p.names (tree t) (From v) a d)
       by_term true e = own (steady-own w p.names (tree t) e (From v) a d) (rw e refl)
       by_term false e = by_session (int_eq d v) refl e
 

@@ -2,4 +2,5 @@ pub mod Runs
 pub mod Rows
 pub mod Views
 pub mod Costs
+pub mod Seen
 pub mod Parts
