@@ -225,7 +225,10 @@ fn is_right_seen(
     let Some(t) = used_term(checked, line.term) else {
         return Ok(false);
     };
-    if session >= view || is_steady(checked, t) {
+    if session >= view {
+        return Ok(false);
+    }
+    if is_steady(checked, t) {
         return Ok(false);
     }
     let basis = Basis {

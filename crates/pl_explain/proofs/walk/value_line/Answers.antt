@@ -1,0 +1,1 @@
+use Rattle.pl_explain.proofs.walk.value_line.Goals as goal
