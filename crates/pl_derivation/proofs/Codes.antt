@@ -93,16 +93,20 @@ module _ (w : World) (known : HasTexts w) (names : List (List ℕ)) where
   now_kept (node k size x y z m g) a d h = h
 
   -- the code of what a term is worth stands for that, from wherever it is seen
-  pub kept : (x : Term) (view : View) (a : ℕ) (d : ℤ) → IsKept w.texts (sort_kind x) (seen w names x view a d)
+  pub seen_kept : (x : Term) (view : View) (a : ℕ) (d : ℤ) → IsKept w.texts (sort_kind x) (seen w names x view a d)
   unfolding value seen kind_value
-  kept absent view a d = refl
-  kept (column c) view a d = refl
-  kept (node (Label n) size x y z m g) view a d = label_kept w.texts n _ (labels-coded w known names n size x y z m g a d)
-  kept (node (LabelTest k) size x y z m g) view a d = gate (LabelTest k) (is_open m a d) _ (test_kept w.texts k (value_of_part (part_of x (value w names x)) a d))
-  kept (node (Cross k) size x y z m g) view a d = gate (Cross k) (is_open m a d) _ (section_kept k size (seen_operands w names (node (Cross k) size x y z m g) view d) a d)
-  kept (node (Downsample f) size x y z m g) view a d =
-      gate (sort_kind x) (is_open m a d) _ (now_kept x a (period_start f w.days d) (kept x Own a (period_start f w.days d)))
-  kept (node k size x y z m g) view a d = gate k (is_open m a d) _ refl
+  seen_kept absent view a d = refl
+  seen_kept (column c) view a d = refl
+  seen_kept (node (Label n) size x y z m g) view a d = label_kept w.texts n _ (labels-coded w known names n size x y z m g a d)
+  seen_kept (node (LabelTest k) size x y z m g) view a d = gate (LabelTest k) (is_open m a d) _ (test_kept w.texts k (value_of_part (part_of x (value w names x)) a d))
+  seen_kept (node (Cross k) size x y z m g) view a d = gate (Cross k) (is_open m a d) _ (section_kept k size (seen_operands w names (node (Cross k) size x y z m g) view d) a d)
+  seen_kept (node (Downsample f) size x y z m g) view a d =
+      gate (sort_kind x) (is_open m a d) _ (now_kept x a (period_start f w.days d) (seen_kept x Own a (period_start f w.days d)))
+  seen_kept (node k size x y z m g) view a d = gate k (is_open m a d) _ refl
+
+  pub kept : (x : Term) (a : ℕ) (d : ℤ) → IsKept w.texts (sort_kind x) (value w names x a d)
+  unfolding value
+  kept x a d = seen_kept x Own a d
 
 no_term : (g : Graph) (t : ℕ) → slice_get g t ≡ None → term_at g t ≡ absent
 no_term g t e = elim (cases_lt t (length g)) [
@@ -137,7 +141,7 @@ module _ (w : World) (p : Pipeline) where
 module _ (w : World) (p : Pipeline) (known : HasTexts w) (ok : IsGraph p.graph) where
   -- what that number stands for is the value
   seen_code : (view : View) (t a : ℕ) (d : ℤ) → term_read w p (number_in w p) view t a d ≡ seen w p.names (term_at p.graph t) view a d
-  seen_code view t a d = ap (value_from w.texts (kind_at p.graph t)) (told_number w p view t a d) ∙ kept w known p.names (term_at p.graph t) view a d
+  seen_code view t a d = ap (value_from w.texts (kind_at p.graph t)) (told_number w p view t a d) ∙ seen_kept w known p.names (term_at p.graph t) view a d
 
   pub from_code : (t a : ℕ) (d : ℤ) → term_read w p (number_in w p) Own t a d ≡ value_of w p t a d
   unfolding value

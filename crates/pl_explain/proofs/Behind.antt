@@ -38,8 +38,8 @@ use Rattle.pl_world.specs.declared.world.World.{World}
 use Rattle.pl_world.specs.Worlds.{world_of, IsMade}
 use Rattle.pl_world.specs.Evaluations.{IsAsked, IsAskedInput}
 use Rattle.pl_explain.specs.Reading.{AreInGraph, ArePut, IsInGraph, IsRoomy}
-use Rattle.pl_model.specs.Views.{view_at, seen_in}
-use Rattle.pl_model.proofs.Views.{own-cell}
+use Rattle.pl_world.specs.Views.{view_at, seen_in}
+use Rattle.pl_world.proofs.Views.{own-cell}
 use Rattle.pl_explain.specs.Given.{own_facts}
 use Rattle.pl_explain.specs.Walking.{HasDay, MayBeDerived, CanBeDerivedWithin}
 use Rattle.pl_explain.proofs.Values.{over-read}

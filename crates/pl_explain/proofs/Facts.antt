@@ -18,7 +18,7 @@ use Rattle.pl_terms.specs.Checked.{Parts, pipeline_of}
 use Rattle.pl_values.specs.Views.{seen_of}
 use Rattle.pl_world.specs.declared.world.World.{World}
 use Rattle.pl_world.specs.Worlds.{world_of}
-use Rattle.pl_model.specs.Views.{seen_in, window_seen_in}
+use Rattle.pl_world.specs.Views.{seen_in, window_seen_in}
 use Rattle.pl_world.proofs.Windowing.{cells-all}
 use Rattle.pl_derivation.specs.Facts.{Fact, number_in, value_fact, window_facts}
 use Rattle.pl_derivation.specs.Facts.Fact.{Seen}

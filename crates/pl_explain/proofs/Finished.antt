@@ -31,7 +31,7 @@ use Rattle.pl_spec.proofs.Columns.{no_asset, sid-there}
 use Rattle.pl_spec.proofs.Each.{Each, each_front, each_back, each_of_map, each_at}
 use Rattle.pl_derivation.specs.Facts.{Fact, known_day, number_in, number_facts, premises, value_fact}
 use Rattle.pl_derivation.specs.Facts.Fact.{Seen, TermValue, SeenValue}
-use Rattle.pl_model.specs.Views.{view_at}
+use Rattle.pl_world.specs.Views.{view_at}
 use Rattle.pl_derivation.specs.Laws as laws
 use Rattle.pl_derivation.specs.Right.{after_each, has_sid, is_fitting, seen_cells}
 use Rattle.pl_derivation.specs.Walks.{is_in, line_for, depth_of, derivation}

@@ -23,8 +23,8 @@ use Rattle.pl_derivation.specs.Facts.Fact.{Seen, TermValue, SeenValue}
 use Rattle.pl_derivation.specs.Right.{session_of, fact_of, has_sid, is_fitting, seen_cells, last_cell}
 use Rattle.pl_world.specs.declared.world.World.{World}
 use Rattle.pl_world.specs.Worlds.{world_of}
-use Rattle.pl_model.specs.Views.{seen_in}
-use Rattle.pl_model.proofs.Views.{own-cell}
+use Rattle.pl_world.specs.Views.{seen_in}
+use Rattle.pl_world.proofs.Views.{own-cell}
 use Rattle.pl_explain.specs.declared.fact_numbers.FactNumbers.{FactNumbers}
 use Rattle.pl_explain.specs.declared.rows.Rows.{Rows}
 use Rattle.pl_explain.specs.Looking.{look, IsInsertionOf}

@@ -34,9 +34,9 @@ use Rattle.pl_derivation.proofs.Codes.{from_code}
 use Rattle.pl_world.specs.declared.world.World.{World}
 use Rattle.pl_world.specs.Worlds.{world_of}
 use Rattle.pl_world.proofs.Asked.{inputs-at}
-use Rattle.pl_model.specs.Views.{view_at, window_view, operand_view}
-use Rattle.pl_model.proofs.Views.{window-view, operand-view}
-use Rattle.pl_model.proofs.Seen.{seen-unkept}
+use Rattle.pl_world.specs.Views.{view_at, window_view, operand_view}
+use Rattle.pl_world.proofs.Views.{window-view, operand-view}
+use Rattle.pl_world.proofs.Seen.{seen-unkept}
 use Rattle.pl_world.proofs.Evaluated.{cell-kept, kept-mask, windowed-is, point-is, label-test-is, section-is, sids-is, code-node}
 use Rattle.pl_explain.specs.declared.basis.Basis.{Basis}
 use Rattle.pl_explain.specs.declared.fact_numbers.FactNumbers.{FactNumbers}

@@ -22,9 +22,9 @@ use Rattle.pl_derivation.specs.Facts.{Fact, over_inputs, facts_now, window_facts
 use Rattle.pl_world.specs.Worlds.{world_of}
 use Rattle.pl_world.specs.Evaluations.{input_cell_in}
 use Rattle.pl_values.specs.Views.{keeps_kind}
-use Rattle.pl_model.specs.Views.{view_at, window_view, operand_view, input_seen_in, window_seen_in}
-use Rattle.pl_model.proofs.Views.{own-input}
-use Rattle.pl_model.proofs.Seen.{seen-stays, seen-windows, seen-point}
+use Rattle.pl_world.specs.Views.{view_at, window_view, operand_view, input_seen_in, window_seen_in}
+use Rattle.pl_world.proofs.Views.{own-input}
+use Rattle.pl_world.proofs.Seen.{seen-stays, seen-windows, seen-point}
 use Rattle.pl_world.proofs.Asked.{inputs-at}
 use Rattle.pl_world.proofs.Evaluated.{windowed-is, point-is, constant-given, sid-given, label-given, number-given, label-test-given, start-given}
 use Rattle.pl_explain.specs.declared.basis.Basis.{Basis}

@@ -18,7 +18,7 @@ use Rattle.pl_lifetimes.specs.Assets.{AreAssets}
 use Rattle.pl_world.specs.declared.world.World.{World}
 use Rattle.pl_world.specs.Worlds.{world_of, IsMade}
 use Rattle.pl_world.specs.Evaluations.{row_in, as_input, cell_in, input_cell_in, lets_pass, IsKept}
-use Rattle.pl_model.specs.Views.{view_at, seen_in}
+use Rattle.pl_world.specs.Views.{view_at, seen_in}
 use Rattle.pl_derivation.specs.Facts.{Fact, number_in, entry_facts, kind_facts, value_facts}
 use Rattle.pl_derivation.specs.Facts.Fact.{TermValue}
 use Rattle.pl_explain.specs.declared.basis.Basis.{Basis}

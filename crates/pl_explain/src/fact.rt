@@ -4,7 +4,7 @@ ghost use Rattle.std.specs.Prelude.{◌≡◌, ◌+◌, ◌<◌, ◌≤◌, pos,
 ghost use Rattle.pl_spec.specs.World.{column_number};
 ghost use Rattle.pl_terms.specs.Nodes.{input_of};
 ghost use Rattle.pl_derivation.specs.Facts.{value_fact};
-ghost use Rattle.pl_model.specs.Views.{view_at};
+ghost use Rattle.pl_world.specs.Views.{view_at};
 ghost use Rattle.pl_explain.specs.Keys.{fact_key, fact_of, packed};
 ghost use Rattle.pl_explain.specs.Reading.{end_of, fact_at, told_by};
 

@@ -6,7 +6,7 @@ ghost use Rattle.pl_pipeline.specs.Value.{From};
 ghost use Rattle.pl_terms.specs.Checked.{pipeline_of};
 ghost use Rattle.pl_derivation.specs.Facts.{facts_now, number_facts, told_fact, window_facts};
 ghost use Rattle.pl_derivation.specs.Facts.Fact.{TermValue};
-ghost use Rattle.pl_model.specs.Views.{input_seen_in, view_at, window_seen_in};
+ghost use Rattle.pl_world.specs.Views.{input_seen_in, view_at, window_seen_in};
 ghost use Rattle.pl_explain.specs.Given.{given, mask_passes, seen_value_in, sid_in, value_in, IsAskedAt, IsGiven};
 ghost use Rattle.pl_explain.specs.Reading.{IsInGraph};
 

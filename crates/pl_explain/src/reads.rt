@@ -7,7 +7,7 @@ ghost use Rattle.pl_terms.specs.Nodes.{input_of, node_of, number_of};
 ghost use Rattle.pl_pipeline.specs.Value.{From};
 ghost use Rattle.pl_terms.specs.Checked.{pipeline_of};
 ghost use Rattle.pl_derivation.specs.Facts.{entry_facts, facts_now, number_facts, over_inputs, told_fact, window_facts};
-ghost use Rattle.pl_model.specs.Views.{view_at};
+ghost use Rattle.pl_world.specs.Views.{view_at};
 ghost use Rattle.pl_world.specs.Worlds.{world_of};
 ghost use Rattle.pl_world.specs.Evaluations.{IsAsked};
 ghost use Rattle.pl_explain.specs.Given.{facts_read, IsReady};

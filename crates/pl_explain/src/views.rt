@@ -6,7 +6,7 @@ ghost use Rattle.pl_pipeline.specs.Value.{is_steady};
 ghost use Rattle.pl_terms.specs.Checked.{pipeline_of};
 ghost use Rattle.pl_terms.specs.Kinds.{kind_of};
 ghost use Rattle.pl_terms.specs.Nodes.{input_of};
-ghost use Rattle.pl_model.specs.Views.{operand_view, window_view};
+ghost use Rattle.pl_world.specs.Views.{operand_view, window_view};
 ghost use Rattle.pl_explain.specs.Reading.{is_steady_input, IsInGraph};
 
 use pl_planner::steady_terms;

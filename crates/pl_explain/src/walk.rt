@@ -10,7 +10,7 @@ ghost use Rattle.pl_cross.specs.Section.{is_section};
 ghost use Rattle.pl_derivation.specs.Facts.{value_fact};
 ghost use Rattle.pl_derivation.specs.Facts.Fact.{Seen, TermValue};
 ghost use Rattle.pl_derivation.specs.Texts.{IsWritable};
-ghost use Rattle.pl_model.specs.Views.{seen_in, view_at};
+ghost use Rattle.pl_world.specs.Views.{seen_in, view_at};
 ghost use Rattle.pl_derivation.specs.Laws.{IsDerivation};
 ghost use Rattle.pl_derivation.specs.Lean.{IsLean};
 ghost use Rattle.pl_derivation.specs.Walks.{depth_of, derivation, facts_for, line_for};

@@ -2,5 +2,4 @@ pub mod Runs
 pub mod Rows
 pub mod Views
 pub mod Costs
-pub mod Seen
 pub mod Parts

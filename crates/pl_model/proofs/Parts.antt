@@ -12,7 +12,7 @@ use Rattle.pl_spec.specs.Periods.{period_start}
 use Rattle.pl_pipeline.specs.Pointwise.{label_test}
 use Rattle.pl_spec.specs.Rounding.{IsCell, is_missing}
 use Rattle.pl_pipeline.specs.Term.{term_at}
-use Rattle.pl_pipeline.specs.Value.{Own, view_of, keeps_point, number_of as number_in, empty, sort_kind, name_at}
+use Rattle.pl_pipeline.specs.Value.{Own, number_of as number_in, empty, sort_kind, name_at}
 use Rattle.pl_spec.specs.World.{exists, known_number, label_at}
 use Rattle.pl_pipeline.proofs.Cells.{zero-cell, truth-cell, chosen-cell, empty-cell}
 use Rattle.pl_terms.specs.declared.node.TermId.{TermId}
@@ -20,31 +20,28 @@ use Rattle.pl_terms.specs.declared.node.Input.{Input}
 use Rattle.pl_terms.specs.declared.node.Input.TheVariants as input
 use Rattle.pl_terms.specs.declared.node.Node.{Node}
 use Rattle.pl_terms.specs.Kinds.{kind_of}
-use Rattle.pl_terms.specs.Nodes.{graph_of, node_of, input_of, number_of}
+use Rattle.pl_terms.specs.Nodes.{graph_of, node_of, number_of}
 use Rattle.pl_terms.specs.Checked.{Parts, pipeline_of, IsChecked}
 use Rattle.pl_terms.specs.Sorts.{is_windowed}
-use Rattle.pl_terms.proofs.Graphs.{graph-at}
 use Rattle.pl_pointwise.specs.Operands.{IsOperation, AreOperands, operation}
 use Rattle.pl_cross.specs.Arrays.{HasTexts}
 use Rattle.pl_cross.specs.Section.{is_section}
-use Rattle.pl_values.specs.Arrays.{cell_of, empty_cell, is_kept, chosen}
-use Rattle.pl_values.specs.Views.{seen_of, input_seen, operand_seen, keeps_kind, AreWindowsSeen}
+use Rattle.pl_values.specs.Arrays.{is_kept}
+use Rattle.pl_values.specs.Views.{keeps_kind}
 use Rattle.pl_terms.specs.declared.row.Family.TheVariants as family
 use Rattle.pl_values.specs.Families.{IsOf, IsCode, TakesWindows, windowed, sid_flag, label_code, code_flag, is_point}
-use Rattle.pl_values.specs.Laws.{IsNode}
-use Rattle.pl_values.proofs.Viewed.{unkept-seen, kept-cell, seen-window-cell, seen-point-cell}
 use Rattle.pl_world.specs.declared.world.World.{World}
 use Rattle.pl_world.specs.Worlds.{world_of}
 use Rattle.pl_world.specs.Evaluations.{IsAsked, HasKind, as_input, lets_pass, cell_in, input_cell_in, IsAskedInput, IsAskedOption, above, above_option}
-use Rattle.pl_world.proofs.Asked.{inputs-at, first-asked, second-asked, third-asked, start-asked, mask-asked, group-asked, input-below, mask-below, group-below, window-one}
-use Rattle.pl_world.proofs.Evaluated.{windowed-is, point-is, label-test-is, section-is, sids-is, kept-mask, window-early, constant-given, sid-given, label-given, number-given, label-test-given, start-given, point-given, downsampled-plain}
+use Rattle.pl_world.proofs.Asked.{first-asked, second-asked, third-asked, start-asked, mask-asked, group-asked, input-below, mask-below, group-below, window-one}
+use Rattle.pl_world.proofs.Evaluated.{windowed-is, point-is, label-test-is, section-is, sids-is, kept-mask, window-early, constant-given, sid-given, label-given, number-given, label-test-given, start-given, downsampled-plain}
 use Rattle.pl_model.specs.declared.evaluation.Request.{Request}
 use Rattle.pl_model.specs.Costs.{cost_in, input_cost_in, window_cost_in, row_cost_in, input_row_cost_in, optional_cost_in, given_cost_of}
 use Rattle.pl_model.specs.Requests.{IsRequestOf, IsKeptFor, asset_of, asked_cell, asked_cost, given_cost, IsRequest}
 use Rattle.pl_model.specs.Gives.{IsCellOf, AreCellsOf, IsVerdict}
-use Rattle.pl_model.specs.Views.{view_at, window_view, operand_view, seen_in, input_seen_in, window_seen_in}
-use Rattle.pl_model.proofs.Views.{window-view, window-seen-from, operand-seen-from, own-cell, own-input}
-use Rattle.pl_model.proofs.Seen.{seen-unkept, seen-stays, seen-windows, seen-point}
+use Rattle.pl_world.specs.Views.{window_view, operand_view, seen_in, input_seen_in, window_seen_in}
+use Rattle.pl_world.proofs.Views.{window-seen-from, operand-seen-from, own-cell, own-input}
+use Rattle.pl_world.proofs.Seen.{seen-unkept, seen-stays, seen-windows, seen-point}
 use Rattle.pl_model.proofs.Costs.{cost-lacks, cost-barred, cost-kept, start-cost}
 
 -- three inputs are evaluated one after the other

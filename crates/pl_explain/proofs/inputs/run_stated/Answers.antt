@@ -6,7 +6,7 @@ use Rattle.pl_terms.specs.Nodes.{input_of}
 use Rattle.pl_pipeline.specs.Value.{From}
 use Rattle.pl_derivation.specs.Facts.{number_in, window_facts}
 use Rattle.pl_world.specs.Worlds.{world_of}
-use Rattle.pl_model.specs.Views.{window_seen_in}
+use Rattle.pl_world.specs.Views.{window_seen_in}
 use Rattle.pl_world.proofs.Evaluated.{sid-of}
 use Rattle.pl_world.proofs.Windowing.{cells-more, all-more}
 use Rattle.pl_explain.specs.Keys.{fact_of}

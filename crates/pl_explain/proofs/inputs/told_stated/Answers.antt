@@ -6,8 +6,8 @@ use Rattle.pl_derivation.specs.Facts.{number_in, told_fact}
 use Rattle.pl_derivation.proofs.Codes.{told_number}
 use Rattle.pl_world.specs.Worlds.{world_of}
 use Rattle.pl_world.proofs.Evaluated.{sid-of}
-use Rattle.pl_model.specs.Views.{view_at}
-use Rattle.pl_model.proofs.Views.{own-cell}
+use Rattle.pl_world.specs.Views.{view_at}
+use Rattle.pl_world.proofs.Views.{own-cell}
 use Rattle.pl_explain.specs.Keys.{fact_of}
 use Rattle.pl_explain.specs.Looking.{look}
 use Rattle.pl_explain.specs.Given.{seen_value_in, sid_in, IsGiven}

@@ -8,7 +8,7 @@ use Rattle.pl_values.specs.Families.{IsOf, is_point}
 use Rattle.pl_pipeline.specs.Value.{From}
 use Rattle.pl_terms.specs.Checked.{pipeline_of}
 use Rattle.pl_derivation.specs.Facts.{facts_now, over_inputs, window_facts}
-use Rattle.pl_model.specs.Views.{view_at}
+use Rattle.pl_world.specs.Views.{view_at}
 use Rattle.pl_world.proofs.Asked.{first-asked, second-asked, third-asked}
 use Rattle.pl_world.proofs.Evaluated.{sid-of}
 use Rattle.pl_explain.proofs.Behind.{roomy}

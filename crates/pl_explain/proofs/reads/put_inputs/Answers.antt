@@ -2,7 +2,7 @@ use Rattle.std.proofs.Common.{pos, arith}
 use Rattle.std.proofs.lemmas.Result.{on_ok_weaker}
 use Rattle.pl_terms.specs.Checked.{pipeline_of}
 use Rattle.pl_derivation.specs.Facts.{facts_now}
-use Rattle.pl_model.specs.Views.{view_at}
+use Rattle.pl_world.specs.Views.{view_at}
 use Rattle.pl_explain.proofs.Behind.{in-place, inputs-put}
 use Rattle.pl_explain.proofs.reads.put_inputs.Goals as goal
 

@@ -12,7 +12,7 @@ use Rattle.pl_spec.proofs.Each.{Each}
 use Rattle.pl_derivation.specs.Facts.{number_in, value_fact}
 use Rattle.pl_derivation.specs.Facts.Fact.{TermValue, SeenValue}
 use Rattle.pl_derivation.specs.Walks.{depth_of, line_for}
-use Rattle.pl_model.specs.Views.{view_at, seen_in}
+use Rattle.pl_world.specs.Views.{view_at, seen_in}
 use Rattle.pl_world.specs.Worlds.{world_of}
 use Rattle.pl_world.proofs.Evaluated.{sid-of}
 use Rattle.pl_explain.specs.declared.fact.Fact.{Fact}

@@ -24,8 +24,8 @@ use Rattle.pl_world.specs.Worlds.{world_of}
 use Rattle.pl_world.specs.Evaluations.{IsKept, cell_in}
 use Rattle.pl_world.proofs.Asked.{inputs-at}
 use Rattle.pl_world.proofs.Evaluated.{point-given}
-use Rattle.pl_model.specs.Views.{view_at, window_view, operand_view, seen_in, input_seen_in, window_seen_in}
-use Rattle.pl_model.proofs.Views.{window-view, own-input}
+use Rattle.pl_world.specs.Views.{view_at, window_view, operand_view, seen_in, input_seen_in, window_seen_in}
+use Rattle.pl_world.proofs.Views.{window-view, own-input}
 
 operand-read : (w : World) (p : Parts) (o : Option Input) (from : Option ℕ) (a s : ℕ)
     → input_seen_in w p o from a s ≡ operand_seen (world_of w) (pipeline_of p) (a ∷ []) (option_map input_of o) (view_at from) 0 s
