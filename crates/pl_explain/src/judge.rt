@@ -237,10 +237,10 @@ fn is_right_seen(
         stated,
     };
     let seen = value_stated(alloc, &basis, rows, t, col, session, Some(view as u32))?;
-    let Some(number) = seen else {
+    let Some(found) = seen else {
         return Ok(false);
     };
-    if !same_number(line.value, number) {
+    if !same_number(line.value, found) {
         return Ok(false);
     }
     let fact = Fact::SeenValue {
