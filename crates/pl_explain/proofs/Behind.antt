@@ -185,12 +185,8 @@ module _ (w : World) (c : Parts) (checked : IsChecked (pipeline_of c)) (t a s : 
   pub worth-day : s < length w.sessions.now
   worth-day = within-days w s seen.day
 
-  pub worth-view : IfSome view (λ v. v < length w.sessions.now)
-  worth-view = there view seen.from
-    where
-      there : (o : Option ℕ) → IfSome o (λ v. HasDay (world_of w) (pos v)) → IfSome o (λ v. v < length w.sessions.now)
-      there None h = tt
-      there (Some v) h = within-days w v h
+  pub view-within : (v : ℕ) → view ≡ Some v → v < length w.sessions.now
+  view-within v e = within-days w v (subst (λ o. IfSome o (λ v. HasDay (world_of w) (pos v))) e seen.from)
 
   pub worth-sid : has_sid (world_of w) a ≡ true
   worth-sid = seen.sid
