@@ -172,7 +172,6 @@ module _ (w : World) (p : Pipeline) where
   states_number r (SeenLine c' a' bar day cells) f h = absurd (true≢false (sym h))
   states_number r (ValueLine t a day v known) f h =
       int_eq-true v (single_step w p r f) (and_parts (int_eq v (single_step w p r f)) (option_eq int_eq known (known_day w p f)) h).0
-
   states_number r (SeenValueLine t a own day v) f h = int_eq-true v (single_step w p r f) h
 
   -- the day that a line of a value states
@@ -214,7 +213,6 @@ module _ (w : World) (p : Pipeline) where
             let parts = and3 (is_fitting w p f) (list_all (is_stated w lines) (premises w p r f)) (states_step w p r (ValueLine t a day v known) f) e in
             let stated : known ≡ known_day w p f = states_known r t a day v known f parts.2 in
             (at.0, session_is w day at.0 at.1, rw fact at n, rw fact at stated)
-
         true_line (SeenValueLine t a own day v) f i e n =
             let first = then_some _ (session_of w own) f i in
             let last = map_some _ (session_of w day) f first.2 in

@@ -95,7 +95,6 @@ module _ (w : World) (p : Pipeline) (ok : IsWorld w) (known : HasTexts w) (graph
   states_step_of r (TermValue t a d) e =
       and_from (int_eq (number_in w p (TermValue t a d)) (single_step w p r (TermValue t a d))) (option_eq int_eq (known_day w p (TermValue t a d)) (known_day w p (TermValue t a d)))
       ((Decides-int_eq (number_in w p (TermValue t a d)) (single_step w p r (TermValue t a d))).1 (sym e)) (same_day (known_day w p (TermValue t a d)))
-
   states_step_of r (SeenValue t a s d) e = (Decides-int_eq (number_in w p (SeenValue t a s d)) (single_step w p r (SeenValue t a s d))).1 (sym e)
 
   -- a fact's line is right after those of its premises

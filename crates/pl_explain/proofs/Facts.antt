@@ -71,11 +71,11 @@ module _ (stated : FactNumbers) where
   low-bar c a (negsuc s) d h = refl
 
   low-term : (steady : Bool) (t a : ℕ) (d v : ℤ) → d <ℤ pos 0 → has stated (told_by steady t a d v) ≡ false
+  unfolding look
   low-term steady t a (pos d) v h = absurd (omega (arith, ints, h))
   low-term steady t a (negsuc d) v h = here (steady || int_eq (negsuc d) v)
     where
       here : (b : Bool) → has stated (value_fact t a (negsuc d) (if b then Own else From v)) ≡ false
-      unfolding look
       here true = refl
       here false = refl
 

@@ -142,7 +142,13 @@ fn section_read(
     let mut facts = Vec::new(alloc);
     for col in 0..world.assets.len() {
         if exists(world, col, session) {
-            put_entry(checked, node, world.assets.sid(col), session as u32, &mut facts)?;
+            put_entry(
+                checked,
+                node,
+                world.assets.sid(col),
+                session as u32,
+                &mut facts,
+            )?;
         }
     }
     Ok(facts)
@@ -275,12 +281,7 @@ fn put_window(
 }
 
 // The bars before the session, or a term on the sessions up to it.
-fn put_run(
-    checked: &Checked,
-    input: Input,
-    span: Span,
-    facts: &mut Vec<Fact>,
-) -> Result<(), Memory>
+fn put_run(checked: &Checked, input: Input, span: Span, facts: &mut Vec<Fact>) -> Result<(), Memory>
     requires input { IsInGraph checked.now (Some input) }
     requires room { span.size ≤ end_of (input_of input) span.session }
     ensures { OnOk result (ArePut facts.old.items facts.new.items

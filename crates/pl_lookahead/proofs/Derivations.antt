@@ -252,7 +252,6 @@ module _ (w v : World) (d day : ℤ) (ok : IsWorld w) (ok' : IsWorld v) (agree :
       ∙ ap (λ x. ValueLine t a (date_of v e) (in_array w.texts x) (known_day w p (TermValue t a e)))
       (value-same t a e h ∙ sym (kept v coded' p.names (term_at p.graph t) a e))
       ∙ ap (ValueLine t a (date_of v e) (in_array w.texts (term_read v p (number_in v p) Own t a e))) (known-same t a e h)
-
   line-same (SeenValue t a s e) h =
       let from : s ≤ℤ e = h.0 in
       let by : e ≤ℤ d = h.1 in
@@ -283,7 +282,6 @@ module _ (w v : World) (d day : ℤ) (ok : IsWorld w) (ok' : IsWorld v) (agree :
         ap (λ x. ValueLine t a x (in_array w.texts (value_of w p t a e)) (known_day w p (TermValue t a e))) (date-same e h)
         ∙ ap (λ x. ValueLine t a (date_of v e) x (known_day w p (TermValue t a e))) (codes t a e h ∙ ap (in_array v.texts) (value-same t a e h))
         ∙ ap (ValueLine t a (date_of v e) (in_array v.texts (value_of v p t a e))) (known-same t a e h)
-
     line-one (SeenValue t a s e) h =
         let from : s ≤ℤ e = h.0 in
         let by : e ≤ℤ d = h.1 in
