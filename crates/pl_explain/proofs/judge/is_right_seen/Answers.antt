@@ -48,8 +48,8 @@ value_stated-requires-clause-at c =
 pub value_stated-requires-clause-rows : goal.value_stated-requires-clause-rows
 value_stated-requires-clause-rows c = c.requires.table.kept
 
-pub returns-in_default-2 : goal.returns-in_default-2
-returns-in_default-2 c =
+pub returns-in_default-seen : goal.returns-in_default-seen
+returns-in_default-seen c =
     let l = c.args.line.now in
     let own : FitsSigned w32 l.own_day = search rules in
     let day : FitsSigned w32 l.day = search rules in
@@ -59,7 +59,7 @@ returns-in_default-2 c =
     let used = c.in-Some-used_term.ensures.some in
     let moves = sym c.is_steady.ensures ∙ c.if-is_steady.false in
     told-lacks c.requires.table l.term l.sid l.own_day l.day l.value c.in-Some-index_of.session c.in-Some-index_of-2.view own_is day_is c.in-Some-used_term.t.0 _ used.same place.sid_is place.known used.used moves c.if-session-view.false
-    c.value_stated.new.rows c.in_ok-seen.ensures.rows (as-read c.in_ok-seen.ensures.given (none-of c.in_ok-seen.field-0 c.in_default-2.not-Some))
+    c.value_stated.new.rows c.in_ok-seen.ensures.rows (as-read c.in_ok-seen.ensures.given (none-of c.in_ok-seen.field-0 c.in_default-seen.not-Some))
 
 pub returns-then-not-same_number : goal.returns-then-not-same_number
 returns-then-not-same_number c =
@@ -67,14 +67,14 @@ returns-then-not-same_number c =
     let own : FitsSigned w32 l.own_day = search rules in
     let day : FitsSigned w32 l.day = search rules in
     let value : FitsSigned w64 l.value = search rules in
-    let number : FitsSigned w64 c.in-Some-2.found = search rules in
+    let number : FitsSigned w64 c.in-Some-seen.found = search rules in
     let own_is = sym (simp to_z-of_z at c.in-Some-index_of.ensures.exact) in
     let day_is = sym (simp to_z-of_z at c.in-Some-index_of-2.ensures.exact) in
     let place = c.in-Some.ensures.some in
     let used = c.in-Some-used_term.ensures.some in
     let moves = sym c.is_steady.ensures ∙ c.if-is_steady.false in
     told-other c.requires.table l.term l.sid l.own_day l.day l.value c.in-Some-index_of.session c.in-Some-index_of-2.view own_is day_is c.in-Some-used_term.t.0 _ used.same place.sid_is place.known used.used moves c.if-session-view.false
-    c.value_stated.new.rows c.in_ok-seen.ensures.rows c.in-Some-2.found (as-read c.in_ok-seen.ensures.given c.in-Some-2.is) (sym c.if-not-same_number.true ∙ simp to_z-of_z at c.same_number.ensures)
+    c.value_stated.new.rows c.in_ok-seen.ensures.rows c.in-Some-seen.found (as-read c.in_ok-seen.ensures.given c.in-Some-seen.is) (sym c.if-not-same_number.true ∙ simp to_z-of_z at c.same_number.ensures)
 
 pub returns : goal.returns
 returns c =
@@ -82,11 +82,11 @@ returns c =
     let own : FitsSigned w32 l.own_day = search rules in
     let day : FitsSigned w32 l.day = search rules in
     let value : FitsSigned w64 l.value = search rules in
-    let number : FitsSigned w64 c.in-Some-2.found = search rules in
+    let number : FitsSigned w64 c.in-Some-seen.found = search rules in
     let own_is = sym (simp to_z-of_z at c.in-Some-index_of.ensures.exact) in
     let day_is = sym (simp to_z-of_z at c.in-Some-index_of-2.ensures.exact) in
     let place = c.in-Some.ensures.some in
     let used = c.in-Some-used_term.ensures.some in
     let moves = sym c.is_steady.ensures ∙ c.if-is_steady.false in
     told-right c.requires.table l.term l.sid l.own_day l.day l.value c.in-Some-index_of.session c.in-Some-index_of-2.view own_is day_is c.in-Some-used_term.t.0 _ used.same place.sid_is place.known used.used moves c.if-session-view.false
-    c.value_stated.new.rows c.in_ok-seen.ensures.rows c.in-Some-2.found (as-read c.in_ok-seen.ensures.given c.in-Some-2.is) (sym c.if-not-same_number.false ∙ simp to_z-of_z at c.same_number.ensures) c.requires.cell c.insert.new.self (simp to_z-of_z at c.in_ok-insert.ensures)
+    c.value_stated.new.rows c.in_ok-seen.ensures.rows c.in-Some-seen.found (as-read c.in_ok-seen.ensures.given c.in-Some-seen.is) (sym c.if-not-same_number.false ∙ simp to_z-of_z at c.same_number.ensures) c.requires.cell c.insert.new.self (simp to_z-of_z at c.in_ok-insert.ensures)

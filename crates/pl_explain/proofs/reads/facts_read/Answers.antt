@@ -45,6 +45,15 @@ returns-in-Window c =
 pub inputs_read-requires : goal.inputs_read-requires
 inputs_read-requires c = inputs-within c.args.checked.now c.requires.ready.checked c.args.t.0 c.node_in-node.result.now c.node_in-node.ensures
 
+pub inputs_read-requires-in-LabelTest : goal.inputs_read-requires-in-LabelTest
+inputs_read-requires-in-LabelTest c = inputs-within c.args.checked.now c.requires.ready.checked c.args.t.0 c.node_in-node.result.now c.node_in-node.ensures
+
+pub inputs_read-requires-in-Downsample : goal.inputs_read-requires-in-Downsample
+inputs_read-requires-in-Downsample c = inputs-within c.args.checked.now c.requires.ready.checked c.args.t.0 c.node_in-node.result.now c.node_in-node.ensures
+
+pub section_read-requires-clause-inputs : goal.section_read-requires-clause-inputs
+section_read-requires-clause-inputs c = inputs-within c.args.checked.now c.requires.ready.checked c.args.t.0 c.node_in-node.result.now c.node_in-node.ensures
+
 pub returns-in-Point : goal.returns-in-Point
 returns-in-Point c =
     let w = c.args.world.now in

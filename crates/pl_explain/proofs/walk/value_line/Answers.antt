@@ -41,7 +41,7 @@ returns-in-None-clause-line c =
     let fits : FitsSigned w64 c.args.value = c.ranges.value in
     let fits_day : FitsSigned w32 c.day-day.result = search rules in
     let place = sid-of w.assets.now c.args.col c.sid-sid.result c.sid-sid.ensures in
-    let value = (simp to_z-of_z at c.requires.value) ∙ ap (λ v. seen_in w p t0 v a s) c.in-None.is ∙ own-cell w p t0 a s in
+    let value = c.requires.value ∙ ap (λ v. seen_in w p t0 v a s) c.in-None.is ∙ own-cell w p t0 a s in
     let line = ap (λ b. ValueLine t0 b day x c.known_day.result) place ∙ value-line w p t0 a s day x c.known_day.result c.day-day.ensures.exact value c.known_day.ensures.exact in
     simp to_z-of_z (subst (λ v. ValueLine t0 c.sid-sid.result day x c.known_day.result ≡ line_for (world_of w) (pipeline_of p) (value_fact t0 a (pos s) (view_at v))) (sym c.in-None.is) line)
 
@@ -60,6 +60,6 @@ returns-in-Some-clause-line c =
     let fits_own : FitsSigned w32 c.day-day.result = search rules in
     let fits_day : FitsSigned w32 c.day.result = search rules in
     let place = sid-of w.assets.now c.args.col c.sid-sid.result c.sid-sid.ensures in
-    let value = (simp to_z-of_z at c.requires.value) ∙ ap (λ o. seen_in w p t0 o a s) c.in-Some.is in
+    let value = c.requires.value ∙ ap (λ o. seen_in w p t0 o a s) c.in-Some.is in
     let line = ap (λ b. SeenValueLine t0 b own day x) place ∙ seen-line w p t0 a s v own day x c.day-day.ensures.exact c.day.ensures.exact value in
     simp to_z-of_z (subst (λ o. SeenValueLine t0 c.sid-sid.result own day x ≡ line_for (world_of w) (pipeline_of p) (value_fact t0 a (pos s) (view_at o))) (sym c.in-Some.is) line)
