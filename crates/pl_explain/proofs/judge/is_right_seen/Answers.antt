@@ -59,7 +59,7 @@ returns-in_default-seen c =
     let used = c.in-Some-used_term.ensures.some in
     let moves = sym c.is_steady.ensures ∙ c.if-is_steady.false in
     told-lacks c.requires.table l.term l.sid l.own_day l.day l.value c.in-Some-index_of.session c.in-Some-index_of-2.view own_is day_is c.in-Some-used_term.t.0 _ used.same place.sid_is place.known used.used moves c.if-session-view.false
-    c.value_stated.new.rows c.in_ok-seen.ensures.rows (as-read c.in_ok-seen.ensures.given (none-of c.in_ok-seen.field-0 c.in_default-seen.not-Some))
+    c.value_stated.new.rows c.in_ok-seen.ensures.rows (as-read c.in_ok-seen.ensures.given (none-of c.in_ok-seen.seen c.in_default-seen.not-Some))
 
 pub returns-then-not-same_number : goal.returns-then-not-same_number
 returns-then-not-same_number c =

@@ -58,8 +58,8 @@ finish-finish_value-requires g t c =
     let smaller : 8 * (v.term + 2) + 4 < 8 * depth_of (fact_of c.args.fact) + 6 = subst (λ f. 8 * (v.term + 2) + 4 < 8 * depth_of (fact_of f) + 6) (sym v.is) (omega arith) in
     search rules
 
-pub finish-finish_value-in-SeenValue-requires : goal.finish-finish_value-in-SeenValue-requires
-finish-finish_value-in-SeenValue-requires g t c =
+pub finish-finish_value-requires-in-SeenValue : goal.finish-finish_value-requires-in-SeenValue
+finish-finish_value-requires-in-SeenValue g t c =
     let w = c.args.source.now.world in
     let p = c.args.source.now.checked.now in
     let v = c.in-SeenValue in
@@ -196,8 +196,8 @@ finish_value-value_now-requires-clause-premises g t c =
     let w = c.args.source.now.world in
     stated-now w c.args.source.now.checked.now c.args.term c.args.walk.now c.finish_premises.new.walk (own_facts w c.args.source.now.checked.now c.args.term (sid_at w.assets.now c.in-Some.col) c.args.session c.args.view) c.requires.stands c.in_ok-finish_premises.ensures.finished
 
-pub finish_value-value_line-requires-clause-fact : goal.finish_value-value_line-requires-clause-fact
-finish_value-value_line-requires-clause-fact g t c =
+pub finish_value-value_line-line-requires-clause-fact : goal.finish_value-value_line-line-requires-clause-fact
+finish_value-value_line-line-requires-clause-fact g t c =
     let w = c.args.source.now.world in
     let p = c.args.source.now.checked.now in
     subst (λ a. MayBeDerived w p (value_fact c.args.term a (pos c.args.session) (view_at c.args.view))) (sym c.in-Some.ensures.some.sid_is) c.requires.fact
@@ -225,11 +225,11 @@ finish_value-returns g t c =
     let x = c.in_ok-value.value in
     let fits : FitsSigned w64 c.in_ok-value.value = search rules in
     let value : x ≡ number_in (world_of w) (pipeline_of p) f = c.in_ok-value.ensures.value ∙ ap (λ b. seen_in w p t0 view b s) place.sid_is ∙ number-of w p t0 a s view in
-    let line = c.value_line.ensures.line ∙ ap (λ b. line_for (world_of w) (pipeline_of p) (value_fact t0 b (pos s) (view_at view))) place.sid_is in
+    let line = c.value_line-line.ensures.line ∙ ap (λ b. line_for (world_of w) (pipeline_of p) (value_fact t0 b (pos s) (view_at view))) place.sid_is in
     let stands = other-stands w p before mid c.in_ok-value.ensures.stated c.in_ok-value.ensures.lines c.in_ok-finish_premises.ensures.stands c.in_ok-value.ensures.rows in
-    let put = subst (λ h. IsPut h (to_z w64 (of_z w64 x)) c.value_line.result mid c.put.new.walk c.put.result) c.value_fact.ensures c.put.ensures in
-    put-walked w p (t0 + 1) f walk mid c.put.new.walk c.requires.fresh behind c.value_line.result x line (t0 + 2) (omega arith) c.put.result c.requires.stands stands
-    c.value_line.ensures.writable value c.in_ok-value.ensures.cell (worth-fits w p ok t0 a s view c.requires.fact) (simp to_z-of_z at put)
+    let put = subst (λ h. IsPut h (to_z w64 (of_z w64 x)) c.value_line-line.result mid c.put.new.walk c.put.result) c.value_fact.ensures c.put.ensures in
+    put-walked w p (t0 + 1) f walk mid c.put.new.walk c.requires.fresh behind c.value_line-line.result x line (t0 + 2) (omega arith) c.put.result c.requires.stands stands
+    c.value_line-line.ensures.writable value c.in_ok-value.ensures.cell (worth-fits w p ok t0 a s view c.requires.fact) (simp to_z-of_z at put)
 
 -- ---- the premises
 

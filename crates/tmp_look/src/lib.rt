@@ -1,0 +1,7 @@
+//! A trial.
+#![tactic(auto)]
+
+/// One.
+pub fn one() -> u8 {
+    1
+}
