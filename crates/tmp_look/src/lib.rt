@@ -1,7 +1,0 @@
-//! A trial.
-#![tactic(auto)]
-
-/// One.
-pub fn one() -> u8 {
-    1
-}
