@@ -104,6 +104,7 @@ impl<'a> BarsReader<'a> {
 impl<'a> Taker for BarsReader<'a> {
     ghost use Rattle.std.proofs.Common.{ap, sym, append_assoc, ◌∙◌};
     ghost use Rattle.std.proofs.lemmas.List.{append-nil};
+    ghost use Rattle.pl_bars.specs.InPieces.{TextSoFar};
 
     ghost after = { λ old bytes new. new ≡ record old { text = old.text ++ bytes } };
 
@@ -114,7 +115,7 @@ impl<'a> Taker for BarsReader<'a> {
 
     ghost none = { λ t. ap (λ text. record t { text = text }) (sym (append-nil t.text)) };
 
-    ghost joined = { λ a b c xs ys first second. second ∙ ap (λ t. record t { text = t.text ++ ys }) first
+    ghost joined = { λ a b c xs ys first second. second ∙ ap (λ (t : TextSoFar). record t { text = t.text ++ ys }) first
         ∙ ap (λ text. record a { text = text }) (append_assoc a.text xs ys) };
 }
 
