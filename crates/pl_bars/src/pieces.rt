@@ -19,8 +19,8 @@ use pl_records::{has_no_quote, last_line_end};
 use std::alloc::Global;
 use std::marker::Model;
 
-/// The bars of a file that is given in pieces. Records are judged as soon as their lines are whole, so that of
-/// the text only the last line is kept; from a piece with a quote on, all that follows is.
+/// The bars of a file that is given in pieces. Records are judged as soon as their lines are whole, so that
+/// of the text only the last line is kept; from a piece with a quote on, all that follows is.
 #[derive(Drop)]
 pub struct BarsReader<'a> {
     alloc: Global,
@@ -115,7 +115,8 @@ impl<'a> Taker for BarsReader<'a> {
 
     ghost none = { λ t. ap (λ text. record t { text = text }) (sym (append-nil t.text)) };
 
-    ghost joined = { λ a b c xs ys first second. second ∙ ap (λ (t : TextSoFar). record t { text = t.text ++ ys }) first
+    ghost joined = { λ a b c xs ys first second.
+        second ∙ ap (λ (t : TextSoFar). record t { text = t.text ++ ys }) first
         ∙ ap (λ text. record a { text = text }) (append_assoc a.text xs ys) };
 }
 
