@@ -6,6 +6,7 @@ pub mod BarSearch
 pub mod BarFilling
 pub mod BarOnward
 pub mod BarOrder
+pub mod BarPieces
 pub mod BarRange
 pub mod BarStretch
 pub mod BarWorlds

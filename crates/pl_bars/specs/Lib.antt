@@ -5,3 +5,5 @@ pub mod BarSet
 pub mod Rules
 pub mod Faults
 pub mod Worlds
+pub mod InPieces
+pub mod ReaderInside

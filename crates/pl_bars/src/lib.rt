@@ -2,13 +2,14 @@
 //! a place among the assets, and by its session, a place among the sessions.
 #![tactic(auto)]
 
-ghost use Rattle.std.specs.Prelude.{◌≡◌, ℕ, ◌+◌, ◌*◌, ◌^◌, ◌<◌, ◌≤◌, length, pos, slice_get, slice_index, slice_index_or, Some, IfOk, All};
-ghost use Rattle.pl_records.specs.Reading.{Answers};
+ghost use Rattle.std.specs.Prelude.{◌≡◌, ℕ, ◌+◌, ◌*◌, ◌^◌, ◌<◌, ◌≤◌, ◌++◌, List, length, pos, slice_get, slice_index, slice_index_or, Some, IfOk, All};
+ghost use Rattle.pl_records.specs.Reading.{Answers, Record};
 ghost use Rattle.pl_spec.specs.AsOf.{bars_before};
 ghost use Rattle.pl_spec.specs.Rounding.{IsCell};
 ghost use Rattle.pl_records.specs.Records.{csv_records};
 ghost use Rattle.pl_bars.specs.Bars.{AreBars, bars_of, cell_at, cells_at};
 ghost use Rattle.pl_bars.specs.Faults.{fault_of};
+ghost use Rattle.pl_bars.specs.InPieces.{AreKept, AreRowsOf};
 
 mod bar_set;
 mod cut;
@@ -16,8 +17,10 @@ mod dates;
 mod error;
 mod fields;
 mod filling;
+mod judged;
 pub mod laws;
 mod onward;
+mod pieces;
 mod places;
 mod reading;
 mod search;
@@ -25,17 +28,23 @@ mod starts;
 
 pub use error::BarsError;
 pub use fields::{is_below_0, read_cell, read_column};
+use judged::Judged;
+pub use pieces::BarsReader;
 use pl_calendar::Sessions;
 use pl_fixed::Memory;
 use pl_lifetimes::Assets;
 pub use pl_spec::BarRow;
 use pl_spec::Column;
+use reading::ordered;
 use starts::Starts;
 use std::alloc::Global;
 use std::marker::Model;
 
 /// How many bars there may be. The limit is this project's own.
 pub const MOST_BARS: usize = 4_000_000;
+
+// The fewest bytes that a bar takes: one digit, a date, six commas and the end of the line.
+const FEWEST_BYTES: usize = 18;
 
 /// The bars, at most 4,000,000 of them, by ascending column and then session. Their cells are millionths,
 /// missing or at least 0.
@@ -77,7 +86,36 @@ impl Bars {
         ensures cols { IfOk result (All (λ b. b.col < length assets.now)) }
         ensures sessions { IfOk result (All (λ b. b.session < length sessions.now)) }
     {
-        let rows = reading::read_bars(alloc, bytes, sessions, assets)?;
+        let room = (bytes.len() / FEWEST_BYTES).min(MOST_BARS);
+        let judged = Judged::new(alloc, room, sessions, assets)?;
+        Bars::behind(alloc, judged, bytes, sessions, assets)
+    }
+
+    // The bars of the records that were judged and then those of a text.
+    fn behind(
+        alloc: Global,
+        mut judged: Judged,
+        text: &[u8],
+        sessions: &Sessions,
+        assets: &Assets,
+    ) -> Result<Bars, BarsError>
+        requires kept { AreKept sessions.now assets.now judged }
+        requires rows { (front : List Record)
+            × AreRowsOf sessions.now assets.now judged.headed judged.rows.items front }
+        ensures exact { (front : List Record)
+            → AreRowsOf sessions.now assets.now judged.headed judged.rows.items front
+            → Answers (λ b. b) fault_of result
+            (bars_of sessions.now assets.now (front ++ csv_records text.now)) }
+        ensures bars { IfOk result AreBars }
+        ensures cols { IfOk result (All (λ b. b.col < length assets.now)) }
+        ensures sessions { IfOk result (All (λ b. b.session < length sessions.now)) }
+    {
+        let _count = sessions.len();
+        judged.judge(alloc, text, sessions, assets)?;
+        if !judged.headed {
+            return Err(BarsError::BadHeader);
+        }
+        let rows = ordered(judged.rows, judged.rise);
         let starts = Starts::new(alloc, &rows, assets.len())?;
         Ok(Bars { rows, starts })
     }

@@ -17,7 +17,7 @@ use Rattle.pl_records.proofs.TakenRecords.{took-go, Took}
 
 -- ---- where a record may begin, the state does not matter
 
-same-records : (s t : State) (xs ys : List ℕ) → ends_at_end s ≡ false → ends_at_end t ≡ false
+pub same-records : (s t : State) (xs ys : List ℕ) → ends_at_end s ≡ false → ends_at_end t ≡ false
     → next_record default_config s [] [] xs ≡ next_record default_config t [] [] ys → records_left s (Some xs) ≡ records_left t (Some ys)
 unfolding records_from
 same-records s t xs ys e f same =
@@ -35,17 +35,17 @@ skip-end c rest e = rw e refl
 pub behind-end : (c : ℕ) (rest : List ℕ) → is_line_end c ≡ true → records default_config (c ∷ rest) ≡ records default_config rest
 behind-end c rest e = same-records st.StartRecord st.StartRecord (c ∷ rest) rest refl refl (skip-end c rest e)
 
-step-cr : (c : ℕ) → step default_config st.AfterCr c ≡ step default_config st.StartRecord c
+pub step-cr : (c : ℕ) → step default_config st.AfterCr c ≡ step default_config st.StartRecord c
 step-cr c = grind (arith, common_steps, nat_tests)
 
-after-cr : (rest : List ℕ) → next_record default_config st.AfterCr [] [] rest ≡ next_record default_config st.StartRecord [] [] rest
+pub after-cr : (rest : List ℕ) → next_record default_config st.AfterCr [] [] rest ≡ next_record default_config st.StartRecord [] [] rest
 unfolding next_record
 after-cr [] = refl
 after-cr (c ∷ rest) = rw (step-cr c) refl
 
 -- ---- no byte order mark
 
-unmarked : (c : ℕ) (rest : List ℕ) → (c == 0xEF) ≡ false → strip_bom (c ∷ rest) ≡ c ∷ rest
+pub unmarked : (c : ℕ) (rest : List ℕ) → (c == 0xEF) ≡ false → strip_bom (c ∷ rest) ≡ c ∷ rest
 unfolding strip_bom
 unmarked c [] e = refl
 unmarked c (a ∷ []) e = refl
@@ -79,19 +79,19 @@ no_line text line e same n =
 
 -- ---- a record up to some place
 
-step-comma : (s : State) → IsInside s → step default_config s 44 ≡ (st.StartField, act.EndField)
+pub step-comma : (s : State) → IsInside s → step default_config s 44 ≡ (st.StartField, act.EndField)
 step-comma s (inl e) = rw e refl
 step-comma s (inr e) = rw e refl
 
-step-byte : (s : State) (c : ℕ) → IsInside s → (c == 44) ≡ false → (c == 34) ≡ false → is_line_end c ≡ false → step default_config s c ≡ (st.InField, act.Copy)
+pub step-byte : (s : State) (c : ℕ) → IsInside s → (c == 44) ≡ false → (c == 34) ≡ false → is_line_end c ≡ false → step default_config s c ≡ (st.InField, act.Copy)
 step-byte s c (inl e) comma quote end = rw (e, quote, comma, end) refl
 step-byte s c (inr e) comma quote end = rw (e, comma, end) refl
 
-step-lf : (s : State) → IsInside s → step default_config s 10 ≡ (st.StartRecord, act.EndRecord)
+pub step-lf : (s : State) → IsInside s → step default_config s 10 ≡ (st.StartRecord, act.EndRecord)
 step-lf s (inl e) = rw e refl
 step-lf s (inr e) = rw e refl
 
-step-return : (s : State) → IsInside s → step default_config s 13 ≡ (st.AfterCr, act.EndRecord)
+pub step-return : (s : State) → IsInside s → step default_config s 13 ≡ (st.AfterCr, act.EndRecord)
 step-return s (inl e) = rw e refl
 step-return s (inr e) = rw e refl
 
@@ -136,10 +136,10 @@ first_record : (text left : List ℕ) (fields : List (List ℕ)) (s : State) →
 first_record text left fields s e =
     let it : Took st.StartRecord s text (Some left) fields = took-go st.StartRecord s text left fields _ e refl (refl, refl, refl, refl) in it.left
 
-lf-first : (left : List ℕ) → records_left st.StartRecord (Some left) ≡ csv_records (10 ∷ left)
+pub lf-first : (left : List ℕ) → records_left st.StartRecord (Some left) ≡ csv_records (10 ∷ left)
 lf-first left = sym (behind-end 10 left refl) ∙ sym (unmarked_records (10 ∷ left) refl)
 
-return-first : (left : List ℕ) → records_left st.AfterCr (Some left) ≡ csv_records (13 ∷ left)
+pub return-first : (left : List ℕ) → records_left st.AfterCr (Some left) ≡ csv_records (13 ∷ left)
 return-first left =
     same-records st.AfterCr st.StartRecord left left refl refl (after-cr left) ∙ sym (behind-end 13 left refl) ∙ sym (unmarked_records (13 ∷ left) refl)
 

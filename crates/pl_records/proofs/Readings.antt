@@ -141,13 +141,26 @@ read_back {Row} {R} first says (r ∷ rs) done before rows h e =
     let next : take (length (done ++ r ∷ [])) rows ≡ before ++ it.0 ∷ [] = rw (length-append done (r ∷ []), add-one (length done)) (take_one_more rows (length done) it.0 it.1 ∙ ap (λ xs. xs ++ it.0 ∷ []) e) in
     rw was (read_back first says rs (done ++ r ∷ []) (before ++ it.0 ∷ []) rows (rw append_assoc h) next)
 
-rows-append : {Row R : Type 0} (first : ℕ) (says : List Row → Record → Result Row R) (xs ys : List Record) (before rows : List Row)
+pub rows-append : {Row R : Type 0} (first : ℕ) (says : List Row → Record → Result Row R) (xs ys : List Record) (before rows : List Row)
     → rows_behind first says before xs ≡ Ok rows → rows_behind first says before (xs ++ ys) ≡ rows_behind first says rows ys
 unfolding rows_behind
 rows-append first says [] ys before rows e = let same : before ≡ rows = cc in ap (λ b. rows_behind first says b ys) same
 rows-append first says (r ∷ rs) ys before rows e =
     let it = went_on first says before r rs rows e in
     rw it.1 (rows-append first says rs ys (before ++ it.0 ∷ []) rows it.2)
+
+-- and the first fault is that of the records before more of them
+pub rows-fail : {Row R : Type 0} (first : ℕ) (says : List Row → Record → Result Row R) (xs ys : List Record) (before : List Row) (fault : Fault R)
+    → rows_behind first says before xs ≡ Err fault → rows_behind first says before (xs ++ ys) ≡ Err fault
+unfolding rows_behind
+rows-fail first says [] ys before fault e = absurd (cc)
+rows-fail {Row} {R} first says (r ∷ rs) ys before fault e = here (says before r) (λ row. rows-fail first says rs ys (before ++ row ∷ []) fault) e
+  where
+    here : (x : Result Row R) → ((row : Row) → rows_behind first says (before ++ row ∷ []) rs ≡ Err fault → rows_behind first says (before ++ row ∷ []) (rs ++ ys) ≡ Err fault)
+        → (at_line (first + length before) x >>= λ row. rows_behind first says (before ++ row ∷ []) rs) ≡ Err fault
+        → (at_line (first + length before) x >>= λ row. rows_behind first says (before ++ row ∷ []) (rs ++ ys)) ≡ Err fault
+    here (Ok row) more e = more row e
+    here (Err rule) more e = e
 
 said_rows : {Row R : Type 0} (first : ℕ) (says : List Row → Record → Result Row R) (records : List Record) (rows : List Row)
     → (rows_of first says records ≡ Ok rows) ↔ AreRows (Says says) records rows
@@ -235,22 +248,25 @@ same_record-false r names h = sym (not_true _ (λ e. h ((same_record r names).0 
 -- ---- for a loop that reads a record at a time
 
 -- these rows, which are few, are of the records so far: with them what is left gives what all records give
-pub record AreReadSoFar {Row R : Type 0} (first most : ℕ) (says : List Row → Record → Result Row R)
-    (all : List Record) (records : RecordsView) (rows : List Row) : Type 0 where
-  pub same : rows_behind first says rows records.left ≡ rows_of first says all
+pub record AreReadFrom {Row R : Type 0} (first most : ℕ) (says : List Row → Record → Result Row R)
+    (start : List Row) (all : List Record) (records : RecordsView) (rows : List Row) : Type 0 where
+  pub same : rows_behind first says rows records.left ≡ rows_behind first says start all
   pub few : length rows ≤ most
+
+abbrev pub AreReadSoFar : {Row R : Type 0} → ℕ → ℕ → (List Row → Record → Result Row R) → List Record → RecordsView → List Row → Type 0
+AreReadSoFar first most says all records rows = AreReadFrom first most says [] all records rows
 
 module _ {Row R : Type 0} {first most : ℕ} {says : List Row → Record → Result Row R} where
   pub none_read : {records : RecordsView} {rows : List Row} → rows ≡ []
       → AreReadSoFar first most says records.left records rows
   none_read e = rw e (record { same = refl; few = omega arith })
 
-  pub goes_on : {all : List Record} {old new : RecordsView} {found : Bool} {before rows : List Row}
-      {row : Row} → AreReadSoFar first most says all old before → GivesNext old new found → found ≡ true
+  pub goes_on : {start : List Row} {all : List Record} {old new : RecordsView} {found : Bool} {before rows : List Row}
+      {row : Row} → AreReadFrom first most says start all old before → GivesNext old new found → found ≡ true
       → length before < most → at_line (first + length before) (says before new.fields) ≡ Ok row
-      → rows ≡ before ++ row ∷ [] → AreReadSoFar first most says all new rows
+      → rows ≡ before ++ row ∷ [] → AreReadFrom first most says start all new rows
   unfolding rows_behind
-  goes_on {all} {old} {new} {found} {before} {rows} {row} so_far next there room was more =
+  goes_on {start} {all} {old} {new} {found} {before} {rows} {row} so_far next there room was more =
       let left : old.left ≡ new.fields ∷ new.left = rw there at next in
       let one : rows_behind first says before (new.fields ∷ new.left)
       ≡ rows_behind first says (before ++ row ∷ []) new.left = rw was refl in
@@ -259,12 +275,12 @@ module _ {Row R : Type 0} {first most : ℕ} {says : List Row → Record → Res
         few = omega (arith, length-append before (row ∷ []));
       })
 
-  module _ {all : List Record} {old : RecordsView} {found : Bool} {before : List Row} (new : RecordsView)
-      (so_far : AreReadSoFar first most says all old before) (next : GivesNext old new found) where
+  module _ {start : List Row} {all : List Record} {old : RecordsView} {found : Bool} {before : List Row} (new : RecordsView)
+      (so_far : AreReadFrom first most says start all old before) (next : GivesNext old new found) where
     pub stops : found ≡ true → {X E : Type 0} (view : X → List Row) (fault_of : E → Option (Fault R))
         (result : Result X E) (error : E) → IsErrAnd result (λ e. e ≡ error)
         → IfSome (fault_of error) (λ f. at_line (first + length before) (says before new.fields) ≡ Err f)
-        → Answers view fault_of result (rows_of first says all)
+        → Answers view fault_of result (rows_behind first says start all)
     unfolding rows_behind
     stops there view fault_of result error is was =
         let left : old.left ≡ new.fields ∷ new.left = rw there at next in
@@ -272,7 +288,7 @@ module _ {Row R : Type 0} {first most : ℕ} {says : List Row → Record → Res
         rw (err.1, err.2) (IfSome_then (fault_of error) was (λ f told.
         sym so_far.same ∙ ap (rows_behind first says before) left ∙ rw told refl))
 
-    pub is_done : found ≡ false → rows_of first says all ≡ Ok before
+    pub is_done : found ≡ false → rows_behind first says start all ≡ Ok before
     unfolding rows_behind
     is_done none =
         let left = rw none at next in

@@ -1,3 +1,4 @@
+use Rattle.std.proofs.Common.{refl}
 use Rattle.pl_records.proofs.Readings.{goes_on, stops, is_done}
 use Rattle.pl_bars.proofs.BarOrder.{rise_more}
 use Rattle.pl_bars.proofs.reading.put_rows.Goals as goal
@@ -6,6 +7,13 @@ pub returns-in_err-bar-clause-exact : goal.returns-in_err-bar-clause-exact
 returns-in_err-bar-clause-exact c =
     stops _ c.rows.invariant.read c.in_ok-next.ensures.ok c.if-branch.true _ _ _ _
     c.from_residual-in_err-bar.ensures.1 (rw c.deref.ensures.value at c.in_err-bar.ensures.exact)
+
+pub rows-init : goal.rows-init
+rows-init c = record {
+  read = record { same = refl; few = c.requires.few };
+  seen = c.requires.seen;
+  rises = c.requires.rises;
+}
 
 pub rows-preserved : goal.rows-preserved
 rows-preserved c =
