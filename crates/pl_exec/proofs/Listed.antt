@@ -3,7 +3,7 @@ use Rattle.std.proofs.Common.{◌≡◌, ℕ, suc, ◌+◌, ◌<◌, Bool, true,
 use Rattle.std.specs.List.{range_with_len, count_by}
 use Rattle.std.proofs.lemmas.List.Sums.{sum_by-append, sum_by-cons}
 use Rattle.pl_pipeline.specs.Term.{Graph}
-use Rattle.pl_pipeline.specs.Graph.{contains, used_terms, is_live, live_terms, columns_at, bound}
+use Rattle.pl_pipeline.specs.Graph.{contains, mentions_at, used_terms, is_live, live_terms, columns_at, bound}
 use Rattle.pl_planner.proofs.Live.{turned, bound_held, contains-filter, filtered}
 use Rattle.pl_exec.proofs.Counts.{range_suc}
 
@@ -21,7 +21,7 @@ module _ (g : Graph) (outputs : List ℕ) (used : ℕ → Bool) (reads : ℕ →
   same_at k t h = ap (λ b. b && is_live g outputs k t) (is t) ∙ sym (contains-filter (is_live g outputs k) (used_terms g outputs) t) ∙ sym (live k t h) ∙ turned (used t) (nat_le t k) (reads k t)
 
   pub held_bound : fold max 0 (map held (range_with_len 0 (length g))) ≡ bound g outputs
-  held_bound = bound_held g outputs used (λ k t. used t && reads k t) (used_listed g outputs used is) same_at
+  held_bound = bound_held (mentions_at g) (columns_at g) g outputs used (λ k t. used t && reads k t) (used_listed g outputs used is) same_at
 
 -- ---- sums over the used terms
 

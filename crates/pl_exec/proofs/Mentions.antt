@@ -23,6 +23,7 @@ use Rattle.pl_planner.specs.Plans.{IsAsked, IsLive, AreLastUsers, is_read_by, is
 use Rattle.pl_planner.specs.Laws.{IsCovered}
 use Rattle.pl_planner.proofs.Pipelines.{IsPipeline, is-pipeline, used-inside}
 use Rattle.pl_planner.proofs.Covers.{reads-covered}
+use Rattle.pl_planner.proofs.Held.{columns-same}
 use Rattle.pl_values.proofs.Typed.{has-input}
 use Rattle.pl_values.proofs.Formulas.{first-place}
 use Rattle.pl_workspace.specs.Slots.{Slots, Free, Begun, slot_at, with_slot}
@@ -191,7 +192,8 @@ module _ (t : Task) (is : IsTask t) where
     pub columns_free : (v : Slots) → v ≡ with_slot w (slot_of t.plan k) Begun → columns_at g k ≤ 3 → AreFree t v k 0
     columns_free v e few m from below =
         let lowest = is.plan.slots.columns k m used (omega arith) in
-        let room' = is.plan.slots.columns_room k m used below in
+        let same = columns-same g is.checked.steady k in
+        let room' = is.plan.slots.columns_room k m used (omega arith) in
         let l = long w v (slot_of t.plan k) Begun e in
         let never : (u : ℕ) → u < k + 1 → kept_in t k u ≡ true → slot_of t.plan u ≡ column_slot t.plan k m → ⊥ = λ u h l' s. lowest.free (inl (record { term = u; below = h; live = kept_live k u (used_known k used) (omega arith) l'; has = s })) in
         let inside : column_slot t.plan k m < length w.slots = omega arith in

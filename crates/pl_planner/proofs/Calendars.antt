@@ -21,6 +21,7 @@ plan-same days other k p plan same last within is =
         bars = is.lows.bars;
       };
       held = is.held;
+      most = is.most;
       last = is.last;
       live = is.live;
       slots = is.slots;

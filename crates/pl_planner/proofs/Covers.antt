@@ -1,5 +1,5 @@
 -- What a plan says is what the definitions say.
-use Rattle.std.proofs.Common.{◌≡◌, ℕ, ◌+◌, ◌-◌, ◌*◌, ◌<◌, ◌≤◌, Bool, true, false, ◌&&◌, max, nat_le, nat_lt, if◌then◌else◌, ℤ, pos, ◌-ℤ◌, ◌≤ℤ◌, ◌<ℤ◌, List, [], length, map, fold, AllPairs, Option, Some, None, refl, sym, ◌∙◌, ap, subst, arith, inl, inr, ◌⊎◌, slice_get, get_or, leb-true, FitsSigned, w64, to_z, of_z}
+use Rattle.std.proofs.Common.{◌≡◌, ℕ, ◌+◌, ◌-◌, ◌*◌, ◌<◌, ◌≤◌, Bool, true, false, ◌&&◌, max, nat_le, nat_lt, if◌then◌else◌, ℤ, pos, ◌-ℤ◌, ◌≤ℤ◌, ◌<ℤ◌, List, [], length, map, fold, AllPairs, Some, None, refl, sym, ◌∙◌, ap, subst, arith, inl, inr, ◌⊎◌, slice_get, get_or, leb-true, FitsSigned, w64, to_z, of_z}
 use Rattle.std.specs.List.{list_any, range_with_len, count_by}
 use Rattle.std.proofs.lemmas.Bool.{true≢false, cases_lt, or_right, and_from, and_parts}
 use Rattle.std.proofs.lemmas.Bool.Decides.{nat_tests}
@@ -10,7 +10,7 @@ use Rattle.std.proofs.lemmas.List.FromFn.{get_or-map-range_with_len, length-map-
 use Rattle.pl_spec.specs.Limits.{most_terms, most_extra_rows}
 use Rattle.pl_pipeline.specs.Table.{Pipeline}
 use Rattle.pl_pipeline.specs.Term.{Node, Graph}
-use Rattle.pl_pipeline.specs.Graph.{reads_at, contains, mentions_at, Used, used_terms, is_live, live_terms, columns_at, bound}
+use Rattle.pl_pipeline.specs.Graph.{reads_at, contains, mentions_at, Used, used_terms, is_live, live_terms}
 use Rattle.pl_pipeline.specs.Cones.{cone_depths}
 use Rattle.pl_pipeline.specs.Lows.{Needs, IsLow, least_reach}
 use Rattle.pl_spec.specs.Window.{before}
@@ -23,7 +23,7 @@ use Rattle.pl_terms.specs.Uses.{outputs}
 use Rattle.pl_planner.specs.declared.uses.Use.{Use}
 use Rattle.pl_planner.specs.declared.slots.TermSlots.{TermSlots}
 use Rattle.pl_planner.specs.Uses.{use_at, is_kept, IsLast, AreUses}
-use Rattle.pl_planner.specs.Columns.{held_at}
+use Rattle.pl_planner.specs.Columns.{columns_held, held_at, most_held}
 use Rattle.pl_planner.specs.Rows.{extra_at, IsRow, AreRows, most_extra}
 use Rattle.pl_planner.specs.Slotting.{slots_at, own_slot, kept_below, one, IsHad, IsHadBefore, IsLowest, IsSlotted, AreSlotted}
 use Rattle.pl_planner.specs.Plans as plans
@@ -31,8 +31,8 @@ use Rattle.pl_planner.specs.Plans.{Planned, is_used, low_at, last_user, is_read_
 use Rattle.pl_planner.specs.Laws.{ReadsAreCovered}
 use Rattle.pl_planner.proofs.Pipelines.{IsPipeline, is-pipeline}
 use Rattle.pl_planner.proofs.Mentions.{needs-used, reads-mention}
-use Rattle.pl_planner.proofs.Counting.{count_more, most_in, columns-few}
-use Rattle.pl_planner.proofs.Held.{reads-same}
+use Rattle.pl_planner.proofs.Counting.{count_more, most_in, held-few}
+use Rattle.pl_planner.proofs.Held.{reads-same, most-bound, read-too}
 use Rattle.pl_planner.proofs.Live.{turned, contains-filter, some_holds, used_within, live_is, bound_is}
 use Rattle.pl_planner.proofs.Lows.{needs-rise}
 use Rattle.pl_planner.proofs.Tables.{ReachedAt, most-at, most-in, extra-used, extra-some}
@@ -121,7 +121,7 @@ module _ (days : List ℤ) (rise : AllPairs (λ a b. a <ℤ b) days) (p : Pipeli
 
   module _ (slots : List TermSlots) (slotted : AreSlotted uses slots) (long : length slots ≡ length uses) (from to : ℕ) (order : from ≤ to) (within : to < length days)
       (extras : List ℕ) (rows : AreRows days p.graph (outputs p) from (to + 1 - from) extras)
-      (reach : ℤ) (held : ℕ) (least : reach ≡ least_reach days p.graph (outputs p) (pos from)) (early : pos 0 ≤ℤ reach) (held_is : held ≡ bound p.graph (outputs p)) (shallow : most_extra extras ≤ most_extra_rows)
+      (reach : ℤ) (held : ℕ) (least : reach ≡ least_reach days p.graph (outputs p) (pos from)) (early : pos 0 ≤ℤ reach) (held_is : held ≡ most_held p.graph (outputs p)) (shallow : most_extra extras ≤ most_extra_rows)
       (cones : List (List (ℕ × ℕ))) (listed : cones ≡ map (cone_depths p.graph) (range_with_len 0 (length p.graph))) where
     abbrev plan : Planned
     plan = record { from = from; to = to; reach = reach; bound = held; uses = uses; extras = extras; slots = slots; cones = cones }
@@ -341,14 +341,14 @@ module _ (days : List ℤ) (rise : AllPairs (λ a b. a <ℤ b) days) (p : Pipeli
       had-out i s (inl h) = inl (had-or-own s h)
       had-out i s (inr r) = inr (r.0, r.1, sym (column-is k r.0) ∙ r.2)
 
-      pub column-lowest : (i : ℕ) → i < 3 → IsLowest (λ s. HasSlot p plan k (k + 1) s ⊎ HasColumn plan k i s) (column_slot plan k i)
+      pub column-lowest : (i : ℕ) → i < 5 → IsLowest (λ s. HasSlot p plan k (k + 1) s ⊎ HasColumn plan k i s) (column_slot plan k i)
       column-lowest i h = subst (IsLowest (Taken i)) (sym (column-is k i)) (same-lowest (IsHadBefore uses slots k (slots_at slots k) i) (Taken i) (had-in i) (had-out i) _ (slotted-here.columns i h))
 
-      held-here : kept_below uses k + 1 + columns_at g k ≤ held
+      held-here : kept_below uses k + 1 + columns_held g k ≤ held
       held-here =
-          let b : fold max 0 (map (held_at g uses) (range_with_len 0 (length g))) ≡ bound g outs = bound_is g outs uses ok.graph are in
+          let b : fold max 0 (map (held_at g uses) (range_with_len 0 (length g))) ≡ most_held g outs = bound_is g outs uses ok.graph (read-too g outs uses checked.steady are) in
           let m : held_at g uses k ≤ fold max 0 (map (held_at g uses) (range_with_len 0 (length g))) = most_in (held_at g uses) (length g) k inside in
-          let is : held_at g uses k ≡ count_by (is_kept uses k) (range_with_len 0 (k + 1)) + columns_at g k = rw used refl in
+          let is : held_at g uses k ≡ count_by (is_kept uses k) (range_with_len 0 (k + 1)) + columns_held g k = rw used refl in
           let c : count_by (is_kept uses k) (range_with_len 0 (k + 1)) ≡ count_by (is_kept uses k) (range_with_len 0 k) + one (is_kept uses k k) = count_more (is_kept uses k) k in
           let itself : one (is_kept uses k k) ≡ 1 = ap one (kept-self k used) in
           let e = held_is in
@@ -357,7 +357,7 @@ module _ (days : List ℤ) (rise : AllPairs (λ a b. a <ℤ b) days) (p : Pipeli
       pub own-room : slot_of plan k < held
       own-room = let s = slot-is k in let b = slotted-here.below in let r = held-here in omega arith
 
-      pub column-room : (i : ℕ) → i < 3 → i < columns_at g k → column_slot plan k i < held
+      pub column-room : (i : ℕ) → i < 5 → i < columns_held g k → column_slot plan k i < held
       column-room i h l = let s = column-is k i in let b = slotted-here.columns_below i h in let r = held-here in omega arith
 
     apart-below : (k t u : ℕ) → k < length g → t < u → IsLive p k t → IsLive p k u → slot_of plan t ≡ slot_of plan u → ⊥
@@ -379,13 +379,6 @@ module _ (days : List ℤ) (rise : AllPairs (λ a b. a <ℤ b) days) (p : Pipeli
     used-of : (t : ℕ) → is_used plan t ≡ true → (use_at uses t).used ≡ true
     used-of t h = sym (used-here t) ∙ h
 
-    few-columns : (k : ℕ) → k < length g → columns_at g k ≤ 3
-    few-columns k h = here (slice_get g k) refl
-      where
-        here : (o : Option Node) → slice_get g k ≡ o → columns_at g k ≤ 3
-        here None e = rw e (omega arith)
-        here (Some n) e = rw e (let l = columns-few n in let f = ok.graph.few k n e in omega arith)
-
     cone-is : (t : ℕ) → t < length g → cone plan t ≡ cone_depths g t
     unfolding cone
     cone-is t h = ap (λ cs. get_or cs t []) listed ∙ get_or-map-range_with_len (cone_depths g) 0 (length g) t t [] h (let z : 0 + t ≡ t = omega arith in z)
@@ -398,7 +391,8 @@ module _ (days : List ℤ) (rise : AllPairs (λ a b. a <ℤ b) days) (p : Pipeli
       least = least;
       early = early;
       lows = lows;
-      held = held_is;
+      held = held_is ∙ most-bound g outs checked.steady;
+      most = held_is;
       last = last-is;
       live = live-plan;
       slots = record {
@@ -406,7 +400,7 @@ module _ (days : List ℤ) (rise : AllPairs (λ a b. a <ℤ b) days) (p : Pipeli
         columns = λ k i h l. column-lowest k (used-of k h) i l;
         apart = λ k t u h a b e. apart k t u (used-of k h) a b e;
         room = λ k h. own-room k (used-of k h);
-        columns_room = λ k i h l. column-room k (used-of k h) i (let f = few-columns k (inside k (used-of k h)) in omega arith) l;
+        columns_room = λ k i h l. column-room k (used-of k h) i (let f = held-few g k in omega arith) l;
       };
       cones = λ t h. cone-is t h;
       kept = subst (λ by. AreKeptBy by p plan) (sym (reads-same g checked.steady)) (record { live = live-plan; apart = λ k t u h a b e. apart k t u (used-of k h) a b e });

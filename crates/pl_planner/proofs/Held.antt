@@ -1,19 +1,19 @@
 -- What cones read is kept as it is defined.
-use Rattle.std.proofs.Common.{◌≡◌, ◌≢◌, ℕ, suc, ◌+◌, ◌<◌, ◌≤◌, ◌==◌, cond, not, max, Bool, true, false, List, [], ◌∷◌, ◌++◌, length, map, filter, filter_map, flat_map, get_or, Option, Some, None, option_to_list, slice_get, refl, sym, ◌∙◌, ap, subst, arith, inl, inr, ◌⊎◌, length-set, get_or-set_same, get_or-set_other}
-use Rattle.std.specs.List.{range_with_len}
+use Rattle.std.proofs.Common.{◌≡◌, ◌≢◌, ℕ, suc, ◌+◌, ◌<◌, ◌≤◌, ◌==◌, cond, not, max, Bool, true, false, List, [], ◌∷◌, ◌++◌, length, map, filter, filter_map, flat_map, get_or, Option, Some, None, option_to_list, slice_get, refl, sym, ◌∙◌, ap, subst, arith, append-nil, fold, inl, inr, ◌⊎◌, length-set, get_or-set_same, get_or-set_other}
+use Rattle.std.specs.List.{range_with_len, count_by}
 use Rattle.std.proofs.lemmas.Bool.{cases_eq, cases_lt, true≢false, or_cases, or_left, or_right, eqb-true, eq-eqb}
 use Rattle.std.proofs.lemmas.List.{set_past}
 use Rattle.std.proofs.lemmas.List.Sums.{fold-append}
 use Rattle.std.proofs.lemmas.List.FromFn.{get_or-map-range_with_len, length-map-range_with_len}
 use Rattle.pl_pipeline.specs.Term.{Node, Graph, Input, IsGraph}
 use Rattle.pl_pipeline.specs.Term.Input.{BarColumn, TermInput}
-use Rattle.pl_pipeline.specs.Graph.{contains, input_number, mentions_at, Used}
+use Rattle.pl_pipeline.specs.Graph.{contains, input_number, mentions_at, Used, used_terms, live_terms, columns_at, bound}
 use Rattle.pl_pipeline.specs.Cones.{moves_at, masks_at, steady_inputs, cone_depths, cone_terms, border_terms, reads_of}
 use Rattle.pl_pipeline.specs.Value.{is_steady}
 use Rattle.pl_pipeline.specs.Term.{term_at}
 use Rattle.pl_pipeline.proofs.Contained.{in-front, in-back}
 use Rattle.pl_laws.proofs.ConeInputs.{in_either}
-use Rattle.pl_laws.proofs.ConeLists.{reads-mentions}
+use Rattle.pl_laws.proofs.ConeLists.{no-cone-at, reads-mentions}
 use Rattle.pl_pipeline.specs.NodeValue.{AllReadSteady}
 use Rattle.std.proofs.Math.Path.{fun_ext}
 use Rattle.std.proofs.lemmas.Option.{slice_get_within, slice_get_past}
@@ -25,7 +25,8 @@ use Rattle.pl_planner.specs.declared.uses.Use.{Use}
 use Rattle.pl_planner.specs.Cones.{pair_of, pairs_of, cones_of}
 use Rattle.pl_planner.proofs.Coned.{cones-long, listed-at}
 use Rattle.pl_planner.specs.Steady.{AreSteady}
-use Rattle.pl_planner.specs.Holds.{later, held, all_held, border_in, border_at, borders_of, all_bordered}
+use Rattle.pl_planner.specs.Columns.{bars_at, columns_with, columns_held, most_held}
+use Rattle.pl_planner.specs.Holds.{live_terms_by, later, held, all_held, border_in, border_at, borders_of, all_bordered}
 use Rattle.pl_planner.specs.Uses.{unused, use_at, AreUses, AreUsesBy}
 use Rattle.pl_planner.proofs.Live.{used_within}
 
@@ -293,3 +294,27 @@ pub kept-mentioned : (ns ms : List code.Node) → ns ≡ ms → AllReadSteady (g
     → ((outs : List ℕ) → AreUses (graph_of ns) outs us → AreUsesBy (reads_of (graph_of ns)) (graph_of ns) outs vs) → AreUses (graph_of ms) outputs us → AreUses (graph_of ms) outputs vs
 kept-mentioned ns ms e steady outputs us vs h are =
     mentioned (graph_of ms) outputs vs steady (subst (λ l. AreUses (graph_of l) outputs us → AreUsesBy (reads_of (graph_of l)) (graph_of l) outputs vs) e (h outputs) are)
+
+no-more-bars : (g : Graph) (t : ℕ) → columns_with g t [] ≡ columns_at g t
+no-more-bars g t = ap (λ bs. count_by (contains bs) (0 ∷ 1 ∷ 2 ∷ 3 ∷ 4 ∷ [])) (append-nil (bars_at g t)) ∙ here (slice_get g t) refl
+  where
+    here : (o : Option Node) → slice_get g t ≡ o → count_by (contains (bars_at g t)) (0 ∷ 1 ∷ 2 ∷ 3 ∷ 4 ∷ []) ≡ columns_at g t
+    here None e = rw e refl
+    here (Some n) e = rw e refl
+
+pub columns-same : (g : Graph) → AllReadSteady g → (t : ℕ) → columns_held g t ≡ columns_at g t
+columns-same g steady t = ap (columns_with g t) (no-cone-at g steady t) ∙ no-more-bars g t
+
+pub most-bound : (g : Graph) (outputs : List ℕ) → AllReadSteady g → most_held g outputs ≡ bound g outputs
+most-bound g outputs steady =
+    ap (λ f. fold max 0 (map f (used_terms g outputs)))
+    (fun_ext (λ k. ap (λ by. length (live_terms_by by g outputs k) + columns_held g k) (reads-same g steady) ∙ ap (λ n. length (live_terms g outputs k) + n) (columns-same g steady k)))
+
+pub read-too : (g : Graph) (outputs : List ℕ) (us : List Use) → AllReadSteady g → AreUses g outputs us → AreUsesBy (reads_of g) g outputs us
+read-too g outputs us steady are = subst (λ by. AreUsesBy by g outputs us) (sym (reads-same g steady)) are
+
+pub most-listed : (ns ms : List code.Node) → ns ≡ ms → (outputs : List ℕ) (us vs : List Use) (n : ℕ) → vs ≡ us → AllReadSteady (graph_of ms)
+    → ((outs : List ℕ) → AreUsesBy (reads_of (graph_of ns)) (graph_of ns) outs vs → n ≡ most_held (graph_of ns) outs) → AreUses (graph_of ms) outputs us → n ≡ most_held (graph_of ms) outputs
+most-listed ns ms e outputs us vs n f steady h are =
+    subst (λ l. AreUsesBy (reads_of (graph_of l)) (graph_of l) outputs vs → n ≡ most_held (graph_of l) outputs) e (h outputs)
+    (subst (AreUsesBy (reads_of (graph_of ms)) (graph_of ms) outputs) (sym f) (read-too (graph_of ms) outputs us steady are))

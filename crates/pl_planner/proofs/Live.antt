@@ -8,14 +8,16 @@ use Rattle.std.proofs.lemmas.List.Elements.{filter-append}
 use Rattle.std.proofs.lemmas.List.Sums.{length-filter}
 use Rattle.std.proofs.lemmas.List.Folds.{list_any-append}
 use Rattle.pl_pipeline.specs.Term.{Graph, IsGraph}
-use Rattle.pl_pipeline.specs.Graph.{contains, mentions_at, Used, used_below, used_terms, is_live, live_terms, columns_at, bound}
+use Rattle.pl_pipeline.specs.Graph.{contains, mentions_at, Used, used_below, used_terms}
+use Rattle.pl_pipeline.specs.Cones.{reads_of}
 use Rattle.pl_spec.proofs.Ranges.{range-next}
 use Rattle.pl_spec.proofs.Lists.{filter-twice}
 use Rattle.pl_pipeline.proofs.Contained.{not-in-back, alone-in, not-in-alone}
 use Rattle.pl_laws.proofs.Uses.{used_terms-sound, used_terms-complete}
 use Rattle.pl_planner.specs.declared.uses.Use.{Use}
-use Rattle.pl_planner.specs.Uses.{unused, use_at, is_kept, AreUses, IsLast}
-use Rattle.pl_planner.specs.Columns.{held_at}
+use Rattle.pl_planner.specs.Uses.{unused, use_at, is_kept, AreUsesBy, IsLastBy}
+use Rattle.pl_planner.specs.Holds.{is_live_by, live_terms_by}
+use Rattle.pl_planner.specs.Columns.{columns_held, held_at, most_held}
 use Rattle.pl_planner.proofs.Counting.{count_cut, count_same, most_chosen, most_same}
 
 -- ---- the used terms are a filter of all terms
@@ -88,8 +90,8 @@ some_holds f (x ∷ xs) t h e = elim (or_cases (x == t) (contains xs t) h) [
 le_not : (a b : ℕ) → nat_le a b ≡ false → a ≤ b → ⊥
 le_not a b h l = grind (arith, nat_tests)
 
-pub used_within : (g : Graph) (outputs : List ℕ) (ok : IsGraph g) {uses : List Use} → AreUses g outputs uses → (t : ℕ) → Used g outputs t → t < length g
-used_within g outputs ok {uses} are t u = elim (cases_lt t (length g)) [
+pub used_within : (g : Graph) (outputs : List ℕ) (ok : IsGraph g) {by : ℕ → List ℕ} {uses : List Use} → AreUsesBy by g outputs uses → (t : ℕ) → Used g outputs t → t < length g
+used_within g outputs ok {by} {uses} are t u = elim (cases_lt t (length g)) [
   | inl p ↦ p
   | inr p ↦ absurd (true≢false (sym ((are.used t).1 u) ∙ ap (λ (x : Use). x.used) (get_or_past uses t unused (let s = are.size in omega arith))))
 ]
@@ -102,27 +104,27 @@ turned true false c = refl
 turned false true c = refl
 turned false false c = refl
 
--- by which terms are used, and which are kept with a term
-module _ (g : Graph) (outputs : List ℕ) (used : ℕ → Bool) (kept : ℕ → ℕ → Bool) (listed : used_terms g outputs ≡ filter used (range_with_len 0 (length g)))
-    (lives : (k t : ℕ) → k < length g → (used t && is_live g outputs k t) ≡ (nat_le t k && kept k t)) where
-  live_count : (k : ℕ) → k < length g → length (live_terms g outputs k) ≡ count_by (kept k) (range_with_len 0 (k + 1))
+-- by what each term reads and how many columns it holds, which terms are used, and which are kept with a term
+module _ (by : ℕ → List ℕ) (columns : ℕ → ℕ) (g : Graph) (outputs : List ℕ) (used : ℕ → Bool) (kept : ℕ → ℕ → Bool) (listed : used_terms g outputs ≡ filter used (range_with_len 0 (length g)))
+    (lives : (k t : ℕ) → k < length g → (used t && is_live_by by g outputs k t) ≡ (nat_le t k && kept k t)) where
+  live_count : (k : ℕ) → k < length g → length (live_terms_by by g outputs k) ≡ count_by (kept k) (range_with_len 0 (k + 1))
   live_count k h =
       let long : length g ≡ k + 1 + (length g - (k + 1)) = omega arith in
-      ap (λ l. length (filter (is_live g outputs k) l)) listed
-      ∙ ap length (filter-twice (is_live g outputs k) used (range_with_len 0 (length g)))
-      ∙ length-filter (λ t. used t && is_live g outputs k t) (range_with_len 0 (length g))
-      ∙ count_same (λ t. used t && is_live g outputs k t) (λ t. nat_le t k && kept k t) (λ t. lives k t h) (range_with_len 0 (length g))
+      ap (λ l. length (filter (is_live_by by g outputs k) l)) listed
+      ∙ ap length (filter-twice (is_live_by by g outputs k) used (range_with_len 0 (length g)))
+      ∙ length-filter (λ t. used t && is_live_by by g outputs k t) (range_with_len 0 (length g))
+      ∙ count_same (λ t. used t && is_live_by by g outputs k t) (λ t. nat_le t k && kept k t) (λ t. lives k t h) (range_with_len 0 (length g))
       ∙ ap (λ n. count_by (λ t. nat_le t k && kept k t) (range_with_len 0 n)) long
       ∙ count_cut (kept k) k (length g - (k + 1))
 
-  pub bound_held : fold max 0 (map (λ k. if used k then count_by (kept k) (range_with_len 0 (k + 1)) + columns_at g k else 0) (range_with_len 0 (length g))) ≡ bound g outputs
+  pub bound_held : fold max 0 (map (λ k. if used k then count_by (kept k) (range_with_len 0 (k + 1)) + columns k else 0) (range_with_len 0 (length g))) ≡ fold max 0 (map (λ k. length (live_terms_by by g outputs k) + columns k) (used_terms g outputs))
   bound_held =
-      most_same (λ k. if used k then count_by (kept k) (range_with_len 0 (k + 1)) + columns_at g k else 0) (λ k. if used k then length (live_terms g outputs k) + columns_at g k else 0) (length g)
-      (λ k h. ap (λ n. if used k then n + columns_at g k else 0) (sym (live_count k h)))
-      ∙ sym (most_chosen (λ k. length (live_terms g outputs k) + columns_at g k) used (range_with_len 0 (length g)) 0)
-      ∙ ap (λ l. fold max 0 (map (λ k. length (live_terms g outputs k) + columns_at g k) l)) (sym listed)
+      most_same (λ k. if used k then count_by (kept k) (range_with_len 0 (k + 1)) + columns k else 0) (λ k. if used k then length (live_terms_by by g outputs k) + columns k else 0) (length g)
+      (λ k h. ap (λ n. if used k then n + columns k else 0) (sym (live_count k h)))
+      ∙ sym (most_chosen (λ k. length (live_terms_by by g outputs k) + columns k) used (range_with_len 0 (length g)) 0)
+      ∙ ap (λ l. fold max 0 (map (λ k. length (live_terms_by by g outputs k) + columns k) l)) (sym listed)
 
-module _ (g : Graph) (outputs : List ℕ) (uses : List Use) (ok : IsGraph g) (are : AreUses g outputs uses) where
+module _ (g : Graph) (outputs : List ℕ) {by : ℕ → List ℕ} (uses : List Use) (ok : IsGraph g) (are : AreUsesBy by g outputs uses) where
   abbrev used : ℕ → Bool
   used t = (use_at uses t).used
 
@@ -138,39 +140,40 @@ module _ (g : Graph) (outputs : List ℕ) (uses : List Use) (ok : IsGraph g) (ar
       same t false e l = e ∙ no t (contains (used_terms g outputs) t) refl e
 
   -- what is live with term k is kept up to it
-  pub live_is : (k t : ℕ) → k < length g → (used t && is_live g outputs k t) ≡ (nat_le t k && is_kept uses k t)
+  pub live_is : (k t : ℕ) → k < length g → (used t && is_live_by by g outputs k t) ≡ (nat_le t k && is_kept uses k t)
   live_is k t in_graph = here (used t) refl (nat_le t k) refl
     where
-      kept : Used g outputs t → t ≤ k → (contains outputs t || list_any (λ u. nat_le k u && contains (mentions_at g u) t) (used_terms g outputs)) ≡ nat_le k (use_at uses t).last
+      kept : Used g outputs t → t ≤ k → (contains outputs t || list_any (λ u. nat_le k u && contains (by u) t) (used_terms g outputs)) ≡ nat_le k (use_at uses t).last
       kept u low = last (nat_le k (use_at uses t).last) refl (contains outputs t) refl
         where
-          is : IsLast g outputs t (use_at uses t).last
+          is : IsLastBy by g outputs t (use_at uses t).last
           is = are.last t u
 
           last : (b : Bool) → nat_le k (use_at uses t).last ≡ b → (o : Bool) → contains outputs t ≡ o
-              → (contains outputs t || list_any (λ u. nat_le k u && contains (mentions_at g u) t) (used_terms g outputs)) ≡ nat_le k (use_at uses t).last
+              → (contains outputs t || list_any (λ u. nat_le k u && contains (by u) t) (used_terms g outputs)) ≡ nat_le k (use_at uses t).last
           last true e true o = rw (e, o) refl
           last true e false o =
               let r = is.reader o in
               let within : (use_at uses t).last < length g = used_within g outputs ok are (use_at uses t).last r.0 in
-              rw (e, o) (some_holds (λ u. nat_le k u && contains (mentions_at g u) t) (used_terms g outputs) (use_at uses t).last (used_terms-complete g outputs ok (use_at uses t).last within r.0) (and_from _ _ e r.1))
+              rw (e, o) (some_holds (λ u. nat_le k u && contains (by u) t) (used_terms g outputs) (use_at uses t).last (used_terms-complete g outputs ok (use_at uses t).last within r.0) (and_from _ _ e r.1))
           last false e true o = let z = is.output o in absurd (le_not k (use_at uses t).last e (omega arith))
-          last false e false o = rw (e, o) (none (list_any (λ u. nat_le k u && contains (mentions_at g u) t) (used_terms g outputs)) refl)
+          last false e false o = rw (e, o) (none (list_any (λ u. nat_le k u && contains (by u) t) (used_terms g outputs)) refl)
             where
-              none : (c : Bool) → list_any (λ u. nat_le k u && contains (mentions_at g u) t) (used_terms g outputs) ≡ c → list_any (λ u. nat_le k u && contains (mentions_at g u) t) (used_terms g outputs) ≡ false
+              none : (c : Bool) → list_any (λ u. nat_le k u && contains (by u) t) (used_terms g outputs) ≡ c → list_any (λ u. nat_le k u && contains (by u) t) (used_terms g outputs) ≡ false
               none false f = f
               none true f =
-                  let r = find_some (λ u. nat_le k u && contains (mentions_at g u) t) (used_terms g outputs) f in
-                  let two = and_parts (nat_le k r.it) (contains (mentions_at g r.it) t) r.holds in
+                  let r = find_some (λ u. nat_le k u && contains (by u) t) (used_terms g outputs) f in
+                  let two = and_parts (nat_le k r.it) (contains (by r.it) t) r.holds in
                   let later : k ≤ r.it = leb-true k r.it two.0 in
                   let most = is.most r.it (used_terms-sound g outputs ok r.it r.in_list) two.1 in
                   absurd (le_not k (use_at uses t).last e (omega arith))
 
-      here : (b : Bool) → used t ≡ b → (l : Bool) → nat_le t k ≡ l → (used t && is_live g outputs k t) ≡ (nat_le t k && is_kept uses k t)
+      here : (b : Bool) → used t ≡ b → (l : Bool) → nat_le t k ≡ l → (used t && is_live_by by g outputs k t) ≡ (nat_le t k && is_kept uses k t)
       here true e true l = rw (e, l) (kept ((are.used t).0 e) (leb-true t k l))
       here true e false l = rw (e, l) refl
       here false e true l = rw (e, l) refl
       here false e false l = rw (e, l) refl
 
-  pub bound_is : fold max 0 (map (held_at g uses) (range_with_len 0 (length g))) ≡ bound g outputs
-  bound_is = bound_held g outputs used (is_kept uses) used_listed live_is
+module _ (g : Graph) (outputs : List ℕ) (uses : List Use) (ok : IsGraph g) (are : AreUsesBy (reads_of g) g outputs uses) where
+  pub bound_is : fold max 0 (map (held_at g uses) (range_with_len 0 (length g))) ≡ most_held g outputs
+  bound_is = bound_held (reads_of g) (columns_held g) g outputs (λ t. (use_at uses t).used) (is_kept uses) (used_listed g outputs uses ok are) (live_is g outputs uses ok are)

@@ -12,14 +12,14 @@ use Rattle.pl_planner.specs.Uses.{is_kept}
 use Rattle.pl_planner.specs.Slotting.{no_slots, slots_at, own_slot, kept_below, one, IsHad, IsHadBefore, IsLowest, IsSlotted, AreSlotted, Takes, AreMarksOf, IsTaken}
 use Rattle.pl_planner.proofs.Counting.{all_same, count_more, one-or}
 
-pub none_taken : (uses : List Use) (slots : List TermSlots) (k : ℕ) (taken : List Bool) → taken ≡ replicate (most_terms + 4) false → IsTaken uses slots k 0 taken
+pub none_taken : (uses : List Use) (slots : List TermSlots) (k : ℕ) (taken : List Bool) → taken ≡ replicate (most_terms + 6) false → IsTaken uses slots k 0 taken
 none_taken uses slots k taken e = record {
-  size = ap length e ∙ length-replicate (most_terms + 4) false;
+  size = ap length e ∙ length-replicate (most_terms + 6) false;
   tells = record {
     yes = λ s h. (let l = h.below in absurd (omega arith));
-    no = λ s h. absurd (true≢false (sym h ∙ ap (λ l. get_or l s false) e ∙ all_same (most_terms + 4) s false));
+    no = λ s h. absurd (true≢false (sym h ∙ ap (λ l. get_or l s false) e ∙ all_same (most_terms + 6) s false));
   };
-  few = (let z : sum_by one taken ≡ (most_terms + 4) * 0 = ap (sum_by one) e ∙ sum_by-replicate one (most_terms + 4) false in omega arith);
+  few = (let z : sum_by one taken ≡ (most_terms + 6) * 0 = ap (sum_by one) e ∙ sum_by-replicate one (most_terms + 6) false in omega arith);
 }
 
 module _ (uses : List Use) (slots : List TermSlots) (k t : ℕ) (taken : List Bool) (so_far : IsTaken uses slots k t taken) (low : own_slot slots t ≤ most_terms) where
@@ -130,7 +130,7 @@ tells_more T taken slot tells inside = record {
 -- the marks tell which slots are taken, n at most
 record Stand (T : ℕ → Type 0) (taken : List Bool) (n : ℕ) : Type 0 where
   pub tells : AreMarksOf T taken
-  pub size : length taken ≡ most_terms + 4
+  pub size : length taken ≡ most_terms + 6
   pub few : sum_by one taken ≤ n
 
 module _ (T : ℕ → Type 0) (taken new : List Bool) (n slot : ℕ) (is : Stand T taken n) (takes : Takes taken new slot) where
@@ -143,7 +143,7 @@ module _ (T : ℕ → Type 0) (taken new : List Bool) (n slot : ℕ) (is : Stand
     lowest = λ s l. is.tells.no s (takes.before s l);
   }
 
-  next : n < most_terms + 4 → Stand (λ s. T s ⊎ (slot ≡ s)) new (n + 1)
+  next : n < most_terms + 6 → Stand (λ s. T s ⊎ (slot ≡ s)) new (n + 1)
   next few = record {
     tells = subst (AreMarksOf (λ s. T s ⊎ (slot ≡ s))) (sym takes.taken) (tells_more T taken slot is.tells (let l = low in let z = is.size in omega arith));
     size = takes.size ∙ is.size;
@@ -174,42 +174,49 @@ module _ (uses : List Use) (slots : List TermSlots) (k : ℕ) (new : TermSlots) 
   ]
 
   -- the i-th column takes its slot
-  column_taken : (i n : ℕ) (taken after : List Bool) → Stand (Before i) taken n → Takes taken after (get_or new.columns i 0) → n < most_terms + 4 → Stand (Before (i + 1)) after (n + 1)
+  column_taken : (i n : ℕ) (taken after : List Bool) → Stand (Before i) taken n → Takes taken after (get_or new.columns i 0) → n < most_terms + 6 → Stand (Before (i + 1)) after (n + 1)
   column_taken i n taken after is takes few =
       stands_as (λ s. Before i s ⊎ (get_or new.columns i 0 ≡ s)) (Before (i + 1)) after (n + 1) (one_before i) (last_before i) (next (Before i) taken after n (get_or new.columns i 0) is takes few)
 
-pub slotted : (uses : List Use) (slots : List TermSlots) (k : ℕ) (taken t1 t2 t3 t4 : List Bool) (own first second third : ℕ) → IsTaken uses slots k k taken → k < most_terms
-    → Takes taken t1 own → Takes t1 t2 first → Takes t2 t3 second → Takes t3 t4 third → IsSlotted uses slots k (record { own = own; columns = first ∷ second ∷ third ∷ [] })
-slotted uses slots k taken t1 t2 t3 t4 own first second third is few a b c d =
-    let new : TermSlots = record { own = own; columns = first ∷ second ∷ third ∷ [] } in
+pub slotted : (uses : List Use) (slots : List TermSlots) (k : ℕ) (taken t1 t2 t3 t4 t5 t6 : List Bool) (own first second third fourth fifth : ℕ) → IsTaken uses slots k k taken → k < most_terms
+    → Takes taken t1 own → Takes t1 t2 first → Takes t2 t3 second → Takes t3 t4 third → Takes t4 t5 fourth → Takes t5 t6 fifth
+    → IsSlotted uses slots k (record { own = own; columns = first ∷ second ∷ third ∷ fourth ∷ fifth ∷ [] })
+slotted uses slots k taken t1 t2 t3 t4 t5 t6 own first second third fourth fifth is few a b c d e f =
+    let new : TermSlots = record { own = own; columns = first ∷ second ∷ third ∷ fourth ∷ fifth ∷ [] } in
     let n = kept_below uses k in
     let m = count_few uses k k in
     let s0 : Stand (IsHad uses slots k k) taken (kept_below uses k) = record { tells = is.tells; size = is.size; few = is.few } in
     let s1 : Stand (IsHadBefore uses slots k new 0) t1 (n + 1) = stands_as _ _ t1 (n + 1) (λ s h. inl h) (none_before uses slots k new) (next _ taken t1 n own s0 a (omega (arith, m))) in
     let s2 : Stand (IsHadBefore uses slots k new 1) t2 (n + 1 + 1) = column_taken uses slots k new 0 (n + 1) t1 t2 s1 b (omega (arith, m)) in
     let s3 : Stand (IsHadBefore uses slots k new 2) t3 (n + 1 + 1 + 1) = column_taken uses slots k new 1 (n + 1 + 1) t2 t3 s2 c (omega (arith, m)) in
+    let s4 : Stand (IsHadBefore uses slots k new 3) t4 (n + 1 + 1 + 1 + 1) = column_taken uses slots k new 2 (n + 1 + 1 + 1) t3 t4 s3 d (omega (arith, m)) in
+    let s5 : Stand (IsHadBefore uses slots k new 4) t5 (n + 1 + 1 + 1 + 1 + 1) = column_taken uses slots k new 3 (n + 1 + 1 + 1 + 1) t4 t5 s4 e (omega (arith, m)) in
     record {
       own = lowest _ _ _ _ _ s0 a;
-      columns = columns (IsHadBefore uses slots k new) (lowest _ _ _ _ _ s1 b) (lowest _ _ _ _ _ s2 c) (lowest _ _ _ _ _ s3 d);
+      columns = columns (IsHadBefore uses slots k new) (lowest _ _ _ _ _ s1 b) (lowest _ _ _ _ _ s2 c) (lowest _ _ _ _ _ s3 d) (lowest _ _ _ _ _ s4 e) (lowest _ _ _ _ _ s5 f);
       below = low _ _ _ _ _ s0 a;
-      columns_below = below n (low _ _ _ _ _ s1 b) (low _ _ _ _ _ s2 c) (low _ _ _ _ _ s3 d);
+      columns_below = below n (low _ _ _ _ _ s1 b) (low _ _ _ _ _ s2 c) (low _ _ _ _ _ s3 d) (low _ _ _ _ _ s4 e) (low _ _ _ _ _ s5 f);
     }
   where
-    columns : (T : ℕ → ℕ → Type 0) → IsLowest (T 0) first → IsLowest (T 1) second → IsLowest (T 2) third → (i : ℕ) → i < 3 → IsLowest (T i) (get_or (first ∷ second ∷ third ∷ []) i 0)
-    columns T l1 l2 l3 zero h = l1
-    columns T l1 l2 l3 (suc zero) h = l2
-    columns T l1 l2 l3 (suc (suc zero)) h = l3
-    columns T l1 l2 l3 (suc (suc (suc i))) h = absurd (omega arith)
+    columns : (T : ℕ → ℕ → Type 0) → IsLowest (T 0) first → IsLowest (T 1) second → IsLowest (T 2) third → IsLowest (T 3) fourth → IsLowest (T 4) fifth → (i : ℕ) → i < 5 → IsLowest (T i) (get_or (first ∷ second ∷ third ∷ fourth ∷ fifth ∷ []) i 0)
+    columns T l1 l2 l3 l4 l5 zero h = l1
+    columns T l1 l2 l3 l4 l5 (suc zero) h = l2
+    columns T l1 l2 l3 l4 l5 (suc (suc zero)) h = l3
+    columns T l1 l2 l3 l4 l5 (suc (suc (suc zero))) h = l4
+    columns T l1 l2 l3 l4 l5 (suc (suc (suc (suc zero)))) h = l5
+    columns T l1 l2 l3 l4 l5 (suc (suc (suc (suc (suc i))))) h = absurd (omega arith)
 
-    below : (n : ℕ) → first ≤ n + 1 → second ≤ n + 1 + 1 → third ≤ n + 1 + 1 + 1 → (i : ℕ) → i < 3 → get_or (first ∷ second ∷ third ∷ []) i 0 ≤ n + 1 + i
-    below n l1 l2 l3 zero h = omega arith
-    below n l1 l2 l3 (suc zero) h = omega arith
-    below n l1 l2 l3 (suc (suc zero)) h = omega arith
-    below n l1 l2 l3 (suc (suc (suc i))) h = absurd (omega arith)
+    below : (n : ℕ) → first ≤ n + 1 → second ≤ n + 1 + 1 → third ≤ n + 1 + 1 + 1 → fourth ≤ n + 1 + 1 + 1 + 1 → fifth ≤ n + 1 + 1 + 1 + 1 + 1 → (i : ℕ) → i < 5 → get_or (first ∷ second ∷ third ∷ fourth ∷ fifth ∷ []) i 0 ≤ n + 1 + i
+    below n l1 l2 l3 l4 l5 zero h = omega arith
+    below n l1 l2 l3 l4 l5 (suc zero) h = omega arith
+    below n l1 l2 l3 l4 l5 (suc (suc zero)) h = omega arith
+    below n l1 l2 l3 l4 l5 (suc (suc (suc zero))) h = omega arith
+    below n l1 l2 l3 l4 l5 (suc (suc (suc (suc zero)))) h = omega arith
+    below n l1 l2 l3 l4 l5 (suc (suc (suc (suc (suc i))))) h = absurd (omega arith)
 
--- there is room for four slots more
-pub four_free : (uses : List Use) (slots : List TermSlots) (k : ℕ) (taken : List Bool) → IsTaken uses slots k k taken → k < most_terms → sum_by one taken + 3 < length taken
-four_free uses slots k taken is few = omega (arith, is.few, is.size, few, count_few uses k k)
+-- there is room for six slots more
+pub six_free : (uses : List Use) (slots : List TermSlots) (k : ℕ) (taken : List Bool) → IsTaken uses slots k k taken → k < most_terms → sum_by one taken + 5 < length taken
+six_free uses slots k taken is few = omega (arith, is.few, is.size, few, count_few uses k k)
 
 -- ---- the slots of the terms before stay
 

@@ -10,6 +10,7 @@ use Rattle.pl_pipeline.specs.Term.Input.{BarColumn, TermInput}
 use Rattle.pl_pipeline.specs.Cones.{is_windowed}
 use Rattle.pl_pipeline.specs.Value.{is_steady, is_bars, keeps_window, keeps_point}
 use Rattle.pl_pipeline.proofs.Trees.{term_at-node}
+use Rattle.pl_terms.specs.Rows.{kind_row}
 use Rattle.pl_planner.specs.Steady.{follows_inputs, is_still_input, is_still, AreSteady}
 
 -- three places, each steady and no bars
@@ -125,3 +126,15 @@ one-more g k steady b are inside is j h = elim (cases_eq j k) [
 
 pub all-told : (g : Graph) (n m : ℕ) (steady : List Bool) → AreSteady g n steady → m ≤ n → AreSteady g m steady
 all-told g n m steady are h k l = are k (omega arith)
+
+-- a formula or an operation that keeps no values
+pub follows-kept : (k : Kind) → not (kind_row k).keeps_values ≡ follows_inputs k
+follows-kept (kind.Constant cell) = refl
+follows-kept (kind.Label name) = refl
+follows-kept (kind.Number name) = refl
+follows-kept (kind.StaticSids sids) = refl
+follows-kept (kind.Window w) = refl
+follows-kept (kind.Point o) = refl
+follows-kept (kind.LabelTest l) = refl
+follows-kept (kind.Cross c) = refl
+follows-kept (kind.Downsample f) = refl

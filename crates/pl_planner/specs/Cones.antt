@@ -14,6 +14,9 @@ pair_of c = (c.term.0, c.depth)
 unfoldable pub pairs_of : List ConeTerm → List (ℕ × ℕ)
 pairs_of cs = map pair_of cs
 
+abbrev pub terms_of : List (ℕ × ℕ) → List ℕ
+terms_of ps = map (λ p. p.0) ps
+
 unfoldable pub cones_of : List Cone → List (List (ℕ × ℕ))
 cones_of cs = map (λ c. pairs_of c.terms.items) cs
 

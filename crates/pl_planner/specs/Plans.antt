@@ -3,7 +3,7 @@ use Rattle.std.specs.Prelude.{◌≡◌, ℕ, ◌<◌, ◌≤◌, ◌+◌, ◌-�
 use Rattle.pl_spec.specs.Limits.{most_extra_rows, most_terms}
 use Rattle.pl_spec.specs.Window.{before}
 use Rattle.pl_pipeline.specs.Term.{Graph, Node}
-use Rattle.pl_pipeline.specs.Graph.{Used, contains, mentions_at, live_terms, columns_at, bound}
+use Rattle.pl_pipeline.specs.Graph.{Used, contains, mentions_at, live_terms, bound}
 use Rattle.pl_pipeline.specs.Cones.{cone_depths, reads_of}
 use Rattle.pl_pipeline.specs.Lows.{IsLow, least_reach}
 use Rattle.pl_pipeline.specs.Table.{Pipeline}
@@ -14,6 +14,7 @@ use Rattle.pl_planner.specs.declared.uses.Use.{Use}
 use Rattle.pl_planner.specs.declared.slots.TermSlots.{TermSlots}
 use Rattle.pl_planner.specs.declared.plans.PlanError.{PlanError}
 use Rattle.pl_planner.specs.declared.plans.PlanError.TheVariants.{TooEarly, TooDeep, Memory}
+use Rattle.pl_planner.specs.Columns.{columns_held, most_held}
 use Rattle.pl_planner.specs.Holds.{live_terms_by}
 use Rattle.pl_planner.specs.Rows.{extra_at}
 use Rattle.pl_planner.specs.Uses.{use_at}
@@ -63,7 +64,7 @@ is_live plan k t = is_used plan t && nat_le t k && is_read_by (last_user plan t)
 unfoldable pub slot_of : Planned → ℕ → ℕ
 slot_of plan t = (slots_at plan.slots t).own
 
--- the slot of the i-th distinct bar column among its inputs while it is computed
+-- the slot of the i-th distinct bar column that it or its cone reads while it is computed
 unfoldable pub column_slot : Planned → ℕ → ℕ → ℕ
 column_slot plan t i = get_or (slots_at plan.slots t).columns i 0
 
@@ -115,12 +116,12 @@ HasColumn plan k i slot = (j : ℕ) × (j < i) × (column_slot plan k j ≡ slot
 -- lowest ones that no live term has. So no two that are live together share one, and bound slots are enough.
 pub record AreSlots (p : Pipeline) (plan : Planned) : Type 0 where
   pub own : (k : ℕ) → is_used plan k ≡ true → IsLowest (HasSlot p plan k k) (slot_of plan k)
-  pub columns : (k i : ℕ) → is_used plan k ≡ true → i < 3
+  pub columns : (k i : ℕ) → is_used plan k ≡ true → i < 5
       → IsLowest (λ s. HasSlot p plan k (k + 1) s ⊎ HasColumn plan k i s) (column_slot plan k i)
   pub apart : (k t u : ℕ) → is_used plan k ≡ true → IsLive p k t → IsLive p k u
       → slot_of plan t ≡ slot_of plan u → t ≡ u
   pub room : (k : ℕ) → is_used plan k ≡ true → slot_of plan k < plan.bound
-  pub columns_room : (k i : ℕ) → is_used plan k ≡ true → i < columns_at p.graph k
+  pub columns_room : (k i : ℕ) → is_used plan k ≡ true → i < columns_held p.graph k
       → column_slot plan k i < plan.bound
 
 -- Who is live with whom, and the last user, where by says what each term reads. So no two terms share a slot
@@ -140,6 +141,7 @@ pub record IsPlanOf (days : List ℤ) (p : Pipeline) (plan : Planned) : Type 0 w
   pub early : pos 0 ≤ℤ plan.reach
   pub lows : AreLows days p plan
   pub held : plan.bound ≡ bound p.graph (outputs p)
+  pub most : plan.bound ≡ most_held p.graph (outputs p)
   pub last : (t : ℕ) → is_used plan t ≡ true → AreLastUsers p.graph (outputs p) t (last_user plan t)
   pub live : (k t : ℕ) → k < length p.graph → is_live plan k t ≡ contains (live_terms p.graph (outputs p) k) t
   pub slots : AreSlots p plan

@@ -43,9 +43,9 @@ IsHadBefore uses slots k new i slot = (IsHad uses slots k k slot ⊎ (new.own �
 -- more taken than such terms.
 pub record IsSlotted (uses : List Use) (slots : List TermSlots) (k : ℕ) (new : TermSlots) : Type 0 where
   pub own : IsLowest (IsHad uses slots k k) new.own
-  pub columns : (i : ℕ) → i < 3 → IsLowest (IsHadBefore uses slots k new i) (get_or new.columns i 0)
+  pub columns : (i : ℕ) → i < 5 → IsLowest (IsHadBefore uses slots k new i) (get_or new.columns i 0)
   pub below : new.own ≤ kept_below uses k
-  pub columns_below : (i : ℕ) → i < 3 → get_or new.columns i 0 ≤ kept_below uses k + 1 + i
+  pub columns_below : (i : ℕ) → i < 5 → get_or new.columns i 0 ≤ kept_below uses k + 1 + i
 
 -- the terms have their slots
 pub record AreSlotted (uses : List Use) (slots : List TermSlots) : Type 0 where
@@ -59,7 +59,7 @@ pub record AreMarksOf (IsTaken : ℕ → Type 0) (taken : List Bool) : Type 0 wh
 
 -- the slots of the terms below n that are kept up to term k are taken, and no more than there are such terms
 pub record IsTaken (uses : List Use) (slots : List TermSlots) (k n : ℕ) (taken : List Bool) : Type 0 where
-  pub size : length taken ≡ most_terms + 4
+  pub size : length taken ≡ most_terms + 6
   pub tells : AreMarksOf (IsHad uses slots k n) taken
   pub few : sum_by one taken ≤ count_by (is_kept uses k) (range_with_len 0 n)
 

@@ -1,22 +1,24 @@
 //! How many arrays are held at once, and how far back bars are read.
 
-ghost use Rattle.std.specs.Prelude.{◌≡◌, ◌||◌, if◌then◌else◌, ◌+◌, ◌*◌, ◌<◌, ◌≤◌, count_by, filter_map, fold, length, map, max};
+ghost use Rattle.std.specs.Prelude.{◌≡◌, ◌||◌, if◌then◌else◌, ℕ, List, ◌+◌, ◌*◌, ◌<◌, ◌≤◌, count_by, filter_map, flat_map, fold, length, map, max};
 ghost use Rattle.std.specs.List.{list_any, range_with_len};
 ghost use Rattle.pl_spec.specs.Limits.{most_terms, most_window};
 ghost use Rattle.pl_spec.specs.World.{column_number};
-ghost use Rattle.pl_pipeline.specs.Graph.{bound, columns_at, contains, input_column};
+ghost use Rattle.pl_pipeline.specs.Cones.{cone_depths, reads_of};
+ghost use Rattle.pl_pipeline.specs.Graph.{contains, input_column};
 ghost use Rattle.pl_terms.specs.Checked.{pipeline_of};
-ghost use Rattle.pl_terms.specs.Nodes.{input_of, node_of};
-ghost use Rattle.pl_terms.specs.Uses.{outputs};
+ghost use Rattle.pl_terms.specs.Nodes.{graph_of, input_of, node_of, number_of};
 ghost use Rattle.pl_planner.specs.Asked.{AreAsked};
-ghost use Rattle.pl_planner.specs.Uses.{AreForOutputs, AreUses, is_kept, use_at};
-ghost use Rattle.pl_planner.specs.Columns.{bars_back, is_bar, columns_in, held_at, most_back, reads_back};
+ghost use Rattle.pl_planner.specs.Cones.{cones_of, pairs_of, terms_of};
+ghost use Rattle.pl_planner.specs.Uses.{AreForOutputs, AreUsesBy, is_kept, use_at};
+ghost use Rattle.pl_planner.specs.Columns.{bars_at, bars_back, bars_with, columns_with, is_bar, held_at, most_back, most_held, reads_back};
 
+use crate::cones::{Cone, ConeTerm};
 use crate::pipeline::{count, node_at};
 use crate::uses::{Use, back_from};
 use pl_calendar::Sessions;
 use pl_spec::Column;
-use pl_terms::{Checked, Input, Node};
+use pl_terms::{Checked, Graph, Input, Node, TermId};
 
 fn one_if(holds: bool) -> usize
     ensures { result ≡ (if holds then 1 else 0) }
@@ -68,41 +70,85 @@ fn reads(node: &Node, column: Column) -> bool
     has_column(node.inputs.as_slice(), column)
 }
 
-fn columns_of(node: &Node) -> usize
-    ensures value { result ≡ columns_in (node_of node.now) }
+fn term_reads(graph: &Graph, t: TermId, column: Column) -> bool
+    ensures { result ≡ contains (bars_at (graph_of graph.now) (number_of t)) (column_number column) }
+{
+    if (t.0 as usize) < graph.len() {
+        reads(graph.node(t), column)
+    } else {
+        false
+    }
+}
+
+// Does a term of a cone read the bar column?
+#[tactic(auto, unfolding(crate::specs::Cones::pairs_of))]
+fn cone_reads(graph: &Graph, cone: &[ConeTerm], column: Column) -> bool
+    ensures { result ≡ contains
+        (flat_map (bars_at (graph_of graph.now)) (terms_of (pairs_of cone.now))) (column_number column) }
+{
+    match cone {
+        [] => false,
+        [first, rest @ ..] => {
+            either(
+                term_reads(graph, first.term, column),
+                cone_reads(graph, rest, column),
+            )
+        }
+    }
+}
+
+// Does a term or its cone read the bar column?
+fn holds(graph: &Graph, t: TermId, cone: &[ConeTerm], column: Column) -> bool
+    ensures { result ≡ contains
+        (bars_with (graph_of graph.now) (number_of t) (terms_of (pairs_of cone.now))) (column_number column) }
+{
+    either(
+        term_reads(graph, t, column),
+        cone_reads(graph, cone, column),
+    )
+}
+
+// How many bar columns a term and its cone read.
+fn columns_of(graph: &Graph, t: TermId, cone: &[ConeTerm]) -> usize
+    ensures value { result ≡ columns_with (graph_of graph.now) (number_of t) (terms_of (pairs_of cone.now)) }
     ensures few { result ≤ 5 }
 {
-    let open = one_if(reads(node, Column::OpenPrice));
-    let high = one_if(reads(node, Column::High));
-    let low = one_if(reads(node, Column::Low));
-    let close = one_if(reads(node, Column::Close));
-    let volume = one_if(reads(node, Column::Volume));
+    let open = one_if(holds(graph, t, cone, Column::OpenPrice));
+    let high = one_if(holds(graph, t, cone, Column::High));
+    let low = one_if(holds(graph, t, cone, Column::Low));
+    let close = one_if(holds(graph, t, cone, Column::Close));
+    let volume = one_if(holds(graph, t, cone, Column::Volume));
     open + high + low + close + volume
 }
 
-fn held_at(checked: &Checked, uses: &[Use], k: usize) -> usize
-    requires uses { AreUses (pipeline_of checked.now).graph (outputs (pipeline_of checked.now)) uses.now }
+fn held_at(graph: &Graph, uses: &[Use], cone: &[ConeTerm], k: usize) -> usize
+    requires uses { length uses.now ≡ length graph.now }
     requires within { k < length uses.now }
     requires few { length uses.now ≤ most_terms }
-    ensures value { result ≡ held_at (pipeline_of checked.now).graph uses.now k }
+    requires cone { pairs_of cone.now ≡ cone_depths (graph_of graph.now) k }
+    ensures value { result ≡ held_at (graph_of graph.now) uses.now k }
     ensures few { result ≤ most_terms + 5 }
 {
     if uses[k].used {
-        live_at(uses, k) + columns_of(node_at(checked, k))
+        live_at(uses, k) + columns_of(graph, TermId(k as u8), cone)
     } else {
         0
     }
 }
 
 /// The greatest number of results and bar columns that are held at once.
-pub(crate) fn bound_of(checked: &Checked, uses: &[Use]) -> usize
-    requires { AreUses (pipeline_of checked.now).graph (outputs (pipeline_of checked.now)) uses.now }
-    ensures value { result ≡ bound (pipeline_of checked.now).graph (outputs (pipeline_of checked.now)) }
+pub(crate) fn bound_of(graph: &Graph, uses: &[Use], cones: &[Cone]) -> usize
+    requires uses { length uses.now ≡ length graph.now }
+    requires cones { cones_of cones.now
+        ≡ map (cone_depths (graph_of graph.now)) (range_with_len 0 (length graph.now)) }
+    ensures value { (outputs : List ℕ) → AreUsesBy (reads_of (graph_of graph.now)) (graph_of graph.now) outputs uses.now
+        → result ≡ most_held (graph_of graph.now) outputs }
     ensures few { result ≤ most_terms + 5 }
 {
+    let _shared = graph.len();
     let mut bound = 0;
-    for k in 0..count(checked) {
-        bound = bound.max(held_at(checked, uses, k));
+    for k in 0..cones.len() {
+        bound = bound.max(held_at(graph, uses, &cones[k].terms, k));
     }
     bound
 }

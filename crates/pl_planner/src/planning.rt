@@ -55,7 +55,7 @@ pub fn plan(
         return Err(PlanError::Memory);
     };
     hold(&mut uses, checked.graph(), &cones);
-    let bound = bound_of(checked, &uses);
+    let bound = bound_of(checked.graph(), &uses, &cones);
     let Ok(slots) = slot_terms(alloc, &uses) else {
         return Err(PlanError::Memory);
     };

@@ -8,19 +8,19 @@ use crate::columns::{either, is_kept};
 use crate::uses::Use;
 use std::alloc::{AllocError, Global};
 
-// Room for the slots of all terms, and of one more with three bar columns.
-const MOST_TAKEN: usize = 260;
+// Room for the slots of all terms, and of one more with five bar columns.
+const MOST_TAKEN: usize = 262;
 
 /// The slots of the values of a term, and of its bar columns while it is computed.
 #[derive(Clone, Copy)]
 pub(crate) struct TermSlots {
     pub(crate) own: usize,
-    pub(crate) columns: [usize; 3],
+    pub(crate) columns: [usize; 5],
 }
 
 // The slots of the terms below k that are still to be read.
 fn mark_taken(uses: &[Use], slots: &[TermSlots], k: usize, taken: &mut [bool])
-    requires fresh { taken.old ≡ replicate (most_terms + 4) false }
+    requires fresh { taken.old ≡ replicate (most_terms + 6) false }
     requires uses { k ≤ length uses.now }
     requires slots { k ≤ length slots.now }
     requires few { (t : ℕ) → own_slot slots.now t ≤ most_terms }
@@ -69,9 +69,11 @@ fn slot_term(uses: &[Use], slots: &[TermSlots], k: usize) -> TermSlots
     let first = take_free(&mut taken);
     let second = take_free(&mut taken);
     let third = take_free(&mut taken);
+    let fourth = take_free(&mut taken);
+    let fifth = take_free(&mut taken);
     TermSlots {
         own,
-        columns: [first, second, third],
+        columns: [first, second, third, fourth, fifth],
     }
 }
 

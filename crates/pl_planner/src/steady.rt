@@ -1,14 +1,13 @@
 //! Which terms are the same from wherever they are seen.
 
-ghost use Rattle.std.specs.Prelude.{◌≡◌, ◌<◌, length, map, None};
+ghost use Rattle.std.specs.Prelude.{◌≡◌, ◌<◌, length, map};
 ghost use Rattle.std.specs.List.{list_all};
 ghost use Rattle.pl_pipeline.specs.Cones.{is_windowed};
 ghost use Rattle.pl_terms.specs.Kinds.{kind_of};
 ghost use Rattle.pl_terms.specs.Nodes.{graph_of, input_of, node_of};
-ghost use Rattle.pl_terms.specs.Windows.{window_in};
 ghost use Rattle.pl_planner.specs.Steady.{AreSteady, follows_inputs, is_still, is_still_input};
 
-use pl_terms::{Graph, Input, Node, TermId, TermKind, window_kind, window_row};
+use pl_terms::{Graph, Input, Node, TermId, TermKind, kind_row, window_kind};
 
 /// Is the kind a formula or a filter over a window?
 pub(crate) fn is_windowed(kind: &TermKind) -> bool
@@ -20,40 +19,11 @@ pub(crate) fn is_windowed(kind: &TermKind) -> bool
     }
 }
 
-// An operation that gives numbers, but a sign, moves where what it is of does.
-#[tactic(auto, unfolding(pl_terms::specs::Kinds::kind_of))]
-fn operation_follows(kind: &TermKind) -> bool
-    requires { window_in (kind_of kind.now) ≡ None }
-    ensures { result ≡ follows_inputs (kind_of kind.now) }
-{
-    match kind {
-        TermKind::Add
-        | TermKind::Sub
-        | TermKind::Mul
-        | TermKind::Div
-        | TermKind::Neg
-        | TermKind::Abs
-        | TermKind::Clip { .. }
-        | TermKind::FillNa
-        | TermKind::IfElse
-        | TermKind::Where
-        | TermKind::Log
-        | TermKind::Exp
-        | TermKind::Sqrt
-        | TermKind::Maximum
-        | TermKind::Minimum => true,
-        _ => false,
-    }
-}
-
 // Does a formula or an operation move where what it is of does?
 fn follows_inputs(kind: &TermKind) -> bool
     ensures { result ≡ follows_inputs (kind_of kind.now) }
 {
-    match window_kind(kind) {
-        Some(window) => !window_row(window).is_safe,
-        None => operation_follows(kind),
-    }
+    !kind_row(kind).keeps_values
 }
 
 fn are_still(steady: &[bool; 256], inputs: &[Input], windowed: bool) -> bool

@@ -3,17 +3,18 @@
 ghost use Rattle.std.specs.Prelude.{◌≡◌, ℕ, ◌<◌, ◌≤◌, ◌++◌, ◌∷◌, [], IfOk, OnOk, codes, decimal, flat_map, length, map, option_map};
 ghost use Rattle.std.specs.Fmt.{signed_decimal};
 ghost use Rattle.pl_terms.specs.Checked.{pipeline_of};
-ghost use Rattle.pl_terms.specs.Nodes.{input_of, node_of, number_of};
+ghost use Rattle.pl_terms.specs.Nodes.{graph_of, input_of, node_of, number_of};
 ghost use Rattle.pl_terms.specs.Uses as pipeline;
 ghost use Rattle.pl_planner.specs.Plans as plans;
-ghost use Rattle.pl_pipeline.specs.Cones.{cone_depths};
 ghost use Rattle.pl_planner.specs.Cones.{pair_of, pairs_of};
+ghost use Rattle.pl_planner.specs.Steady.{AreSteady};
 ghost use Rattle.pl_planner.specs.Text.{anew_text, behind_semicolon, depth_behind, depth_text, front_text, input_text, inputs_text, last_line};
 ghost use Rattle.pl_planner.specs.Text.{lines_text, number_text, numbers_text, places_text, plan_text, term_line, used_line};
 
-use crate::cones::ConeTerm;
+use crate::cones::{ConeTerm, cone_of};
 use crate::names::{column_name, kind_name};
 use crate::plans::Plan;
+use crate::steady::steady_terms;
 use itoa::Buffer;
 use pl_fixed::Memory;
 use pl_terms::{Checked, Input, Node, TermId};
@@ -180,29 +181,42 @@ fn put_last(out: &mut Vec<u8>, reach: i64, bound: usize) -> Result<(), AllocErro
 }
 
 // The line of a used term; nothing for another.
-fn put_term(out: &mut Vec<u8>, checked: &Checked, plan: &Plan, t: TermId) -> Result<(), AllocError>
+fn put_term(
+    alloc: Global,
+    out: &mut Vec<u8>,
+    checked: &Checked,
+    plan: &Plan,
+    steady: &[bool; 256],
+    t: TermId,
+) -> Result<(), AllocError>
     requires within { t.0 < length checked.now.graph }
     requires same { plans.is_used plan.now t.0 ≡ pipeline.is_used (pipeline_of checked.now) t.0 }
-    requires cone { plans.cone plan.now t.0 ≡ cone_depths (pipeline_of checked.now).graph t.0 }
+    requires steady { AreSteady (graph_of checked.now.graph) (length checked.now.graph) steady.now }
     ensures { OnOk result (out.new.items ≡ out.old.items
         ++ used_line (pipeline_of checked.now) (plans.extra plan.now) t.0) }
 {
     if !plan.is_used(t) {
         return Ok(());
     }
+    let cone = cone_of(alloc, checked.graph(), steady, t)?;
     let node = checked.graph().node(t);
-    put_line(out, t, node, plan.extra(t), checked.uses(t), plan.cone(t))
+    put_line(out, t, node, plan.extra(t), checked.uses(t), &cone.terms)
 }
 
-fn put_terms(out: &mut Vec<u8>, checked: &Checked, plan: &Plan) -> Result<(), AllocError>
+fn put_terms(
+    alloc: Global,
+    out: &mut Vec<u8>,
+    checked: &Checked,
+    plan: &Plan,
+    steady: &[bool; 256],
+) -> Result<(), AllocError>
     requires used { (t : ℕ) → plans.is_used plan.now t ≡ pipeline.is_used (pipeline_of checked.now) t }
-    requires cones { (t : ℕ) → t < length (pipeline_of checked.now).graph
-        → plans.cone plan.now t ≡ cone_depths (pipeline_of checked.now).graph t }
+    requires steady { AreSteady (graph_of checked.now.graph) (length checked.now.graph) steady.now }
     ensures { OnOk result (out.new.items ≡ out.old.items
         ++ lines_text (pipeline_of checked.now) (plans.extra plan.now)) }
 {
     for k in 0..checked.graph().len() {
-        put_term(out, checked, plan, TermId(k as u8))?;
+        put_term(alloc, out, checked, plan, steady, TermId(k as u8))?;
     }
     Ok(())
 }
@@ -216,14 +230,13 @@ fn put_terms(out: &mut Vec<u8>, checked: &Checked, plan: &Plan) -> Result<(), Al
 #[tactic(auto, unfolding(crate::specs::Text::plan_text))]
 pub fn plan_text(alloc: Global, checked: &Checked, plan: &Plan) -> Result<Vec<u8>, Memory>
     // The plan is one of this pipeline's.
-    requires used { (t : ℕ) → plans.is_used plan.now t ≡ pipeline.is_used (pipeline_of checked.now) t }
-    requires cones { (t : ℕ) → t < length (pipeline_of checked.now).graph
-        → plans.cone plan.now t ≡ cone_depths (pipeline_of checked.now).graph t }
+    requires { (t : ℕ) → plans.is_used plan.now t ≡ pipeline.is_used (pipeline_of checked.now) t }
     ensures { IfOk result (λ text. text.items
         ≡ plan_text (pipeline_of checked.now) (plans.extra plan.now) plan.now.reach plan.now.bound) }
 {
     let mut out = Vec::new(alloc);
-    put_terms(&mut out, checked, plan)?;
+    let steady = steady_terms(checked.graph());
+    put_terms(alloc, &mut out, checked, plan, &steady)?;
     put_last(&mut out, plan.reach(), plan.bound())?;
     Ok(out)
 }

@@ -19,7 +19,7 @@ returns-in_err-planned g c = λ keeper steps.
 pub plan_text-requires : goal.plan_text-requires
 plan_text-requires g c =
     let h = c.in_ok-planned.ensures (record { lists = None; loaded = []; sound = true; faults = 0; calls = 0 }) in
-    record { used = h.loaded.plan.used; cones = h.loaded.plan.cones }
+    h.loaded.plan.used
 
 pub returns-in_err-text : goal.returns-in_err-text
 unfolding work

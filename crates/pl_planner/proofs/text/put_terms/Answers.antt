@@ -1,4 +1,4 @@
-use Rattle.std.proofs.Common.{◌≡◌, ◌<◌, ◌++◌, length, ap, ◌∙◌, arith}
+use Rattle.std.proofs.Common.{◌≡◌, ◌++◌, length, ap, ◌∙◌, arith}
 use Rattle.std.proofs.lemmas.List.{append_assoc}
 use Rattle.pl_terms.specs.Checked.{pipeline_of}
 use Rattle.pl_terms.proofs.Graphs.{graph-long}
@@ -6,15 +6,6 @@ use Rattle.pl_planner.specs.Plans.{extra}
 use Rattle.pl_planner.specs.Text.{used_line}
 use Rattle.pl_planner.proofs.Lines.{lines_below, one-more, all-lines}
 use Rattle.pl_planner.proofs.text.put_terms.Goals as goal
-
-pub put_term-requires-clause-cone : goal.put_term-requires-clause-cone
-put_term-requires-clause-cone c =
-    let v = c.len-k-end.ensures.value in
-    let t = c.loop-k-test.true in
-    let e : length c.graph.result.now ≡ length c.args.checked.now.graph = ap (λ ns. length ns) c.graph.ensures.value in
-    let g = graph-long c.args.checked.now.graph in
-    let inside : c.loop-k.k < length (pipeline_of c.args.checked.now).graph = omega arith in
-    c.requires.cones c.loop-k.k inside
 
 pub loop-k-preserved : goal.loop-k-preserved
 loop-k-preserved c =
