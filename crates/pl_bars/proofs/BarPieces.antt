@@ -1,5 +1,5 @@
 -- Bars of a text that is read in pieces.
-use Rattle.std.proofs.Common.{◌≡◌, ℕ, ◌+◌, ◌-◌, Bool, true, false, ℤ, List, [], ◌∷◌, ◌++◌, length, take, drop, get_or, Option, Some, None, IfSome, Result, Ok, Err, IfOk, IfErr, IsErrAnd, refl, sym, ap, ◌∙◌, arith, append_assoc, length-drop, suc, ◌&&◌, drop-cons, take-append-drop}
+use Rattle.std.proofs.Common.{◌≡◌, ℕ, ◌+◌, ◌-◌, Bool, true, false, ℤ, List, [], ◌∷◌, ◌++◌, length, take, drop, get_or, Some, IfSome, Result, Ok, Err, IfOk, IfErr, IsErrAnd, refl, sym, ap, ◌∙◌, arith, append_assoc, length-drop, suc, ◌&&◌, drop-cons, take-append-drop}
 use lib.Seq.{take-append-add}
 use Rattle.std.specs.List.{list_all}
 use Rattle.std.proofs.lemmas.List.{append-nil, take_all}
@@ -18,7 +18,7 @@ use Rattle.pl_spec.specs.declared.BarRow.{BarRow}
 use Rattle.pl_bars.specs.Bars.{Rule, header, bar_or_rule, rows_in, bars_of, key_of}
 use Rattle.pl_bars.specs.Bars as rules
 use Rattle.pl_bars.specs.Faults.{fault_of}
-use Rattle.pl_bars.specs.InPieces.{AreRowsOf, IsFaultOf, IsFaulty, AreKept, IsReadTo, IsLeft, TextSoFar}
+use Rattle.pl_bars.specs.InPieces.{AreRowsOf, IsFaultOf, IsFaulty, AreKept, IsReadTo, TextSoFar}
 use Rattle.pl_bars.specs.ReaderInside.{view_of, IsReading}
 use Rattle.pl_bars.specs.declared.pieces.BarsReader.TheInside.{Inside}
 use Rattle.pl_bars.specs.declared.error.BarsError.{BarsError}

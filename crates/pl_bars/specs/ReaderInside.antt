@@ -1,5 +1,5 @@
 -- How a reader keeps what it was given: its bars so far, and the rest of the text; or the first fault.
-use Rattle.std.specs.Prelude.{Result, is_ok, IsTrue}
+use Rattle.std.specs.Prelude.{is_ok, IsTrue}
 use Rattle.pl_bars.specs.InPieces.{TextSoFar, Reads, IsLeft}
 use Rattle.pl_bars.specs.declared.pieces.BarsReader.TheInside.{Inside}
 

@@ -14,7 +14,7 @@ use crate::error::BarsError;
 use crate::judged::Judged;
 use pl_calendar::Sessions;
 use pl_lifetimes::Assets;
-use pl_outside::TakenLog;
+use pl_outside::{Memory, TakenLog, Taker};
 use pl_records::{has_no_quote, last_line_end};
 use std::alloc::Global;
 use std::marker::Model;
@@ -99,6 +99,23 @@ impl<'a> BarsReader<'a> {
         } = self;
         Bars::behind(alloc, judged?, &left.text, sessions, assets)
     }
+}
+
+impl<'a> Taker for BarsReader<'a> {
+    ghost use Rattle.std.proofs.Common.{ap, sym, append_assoc, ◌∙◌};
+    ghost use Rattle.std.proofs.lemmas.List.{append-nil};
+
+    ghost after = { λ old bytes new. new ≡ record old { text = old.text ++ bytes } };
+
+    fn take(&mut self, piece: &[u8]) -> Result<(), Memory> {
+        self.push(piece);
+        Ok(())
+    }
+
+    ghost none = { λ t. ap (λ text. record t { text = text }) (sym (append-nil t.text)) };
+
+    ghost joined = { λ a b c xs ys first second. second ∙ ap (λ t. record t { text = t.text ++ ys }) first
+        ∙ ap (λ text. record a { text = text }) (append_assoc a.text xs ys) };
 }
 
 // Nothing was judged yet.

@@ -19,10 +19,11 @@ use Rattle.pl_load.specs.Stages.{IsStop, IsRisen, StopsOutside}
 use Rattle.pl_load.proofs.Steps.{risen-inside}
 use Rattle.pl_outside.specs.Logs as logs
 use Rattle.pl_outside.specs.Reads.{IsGiven}
+use Rattle.pl_outside.specs.Takes.{IsTaken}
 use Rattle.pl_outside.specs.declared.reading.ReadError.{ReadError}
 use Rattle.pl_load.specs.Given.{IsCutBy, IsFileCut, IsFileGiven, given_file}
 use Rattle.pl_load.proofs.Given.{file-whole, file-fails, file-cut, cut-long}
-use Rattle.pl_load.specs.Reads.{IsRead, no_rule}
+use Rattle.pl_load.specs.Reads.{IsRead, IsPassedOn, no_rule}
 use Rattle.pl_load.specs.Views.{ShelfView, Change, change, ShelfLeft}
 use Rattle.pl_load.proofs.Calls.{shelf-same, begins-none}
 
@@ -142,31 +143,75 @@ is-read {c = c} f name bytes h few begun given kept =
       left = kept;
     }
 
--- a file that was read, and that its rule passes
-pub read-passes : {T : Type 0} {c : Change ShelfView} {name : Option (List ℕ)} {bytes : Vec ℕ Global} (f : InputFile) (rule : List ℕ → Option Fault) (Means : Option (List ℕ) → T → Type 0) (x : T)
-    → IsRead c name (λ held. read_step f no_rule held ∷ []) (λ held b. held ≡ Some b.items) (Ok bytes) → length bytes.items ≤ cap_of f
-    → rule bytes.items ≡ None → Means (Some bytes.items) x
+-- the same, of a file that was handed on
+taken-given : {B : Type 0} {y : B} {old new : List logs.Given} {cap : ℕ} {name : List ℕ} {Took Held : List ℕ → Type 0} (h : IsTaken cap old new name Took Held (Ok y)) → new ≡ given_file (Some name) (Some h.file.bytes) old
+taken-given {old = old} {name = name} h = h.added ∙ ap (λ g. g ∷ old) (same h.file.name h.file.ended h.named h.ended)
+  where
+    same : (n : List ℕ) (b : Bool) → n ≡ name → b ≡ true
+        → (let one : logs.Given = record { name = n; bytes = h.file.bytes; ended = b } in let other : logs.Given = record { name = name; bytes = h.file.bytes; ended = true } in one ≡ other)
+    same n b e g = rw (e, g) refl
+
+pub is-passed : {B : Type 0} {y : B} {c : Change ShelfView} {Took : List ℕ → Type 0} (f : InputFile) (name : List ℕ)
+    → IsTaken (cap_of f) c.before.gave c.after.gave name Took (λ bytes. ForSome c.before.holds (λ files. files name ≡ Some bytes)) (Ok y)
+    → BeginsAll c.before.begun c.after.begun (name ∷ []) → ShelfLeft c
+    → IsRead c (Some name) (λ held. read_step f no_rule held ∷ []) (λ held _. IsPassedOn Took (cap_of f) held) (Ok y)
+is-passed {c = c} f name h begun kept =
+    record {
+      file = Some h.file.bytes;
+      is_told = λ n is files f. let name' : name ≡ n = cc in rw (← name') (sym (h.held files f));
+      ends = record { passed = none-alone _ (ruled f no_rule (Some h.file.bytes) h.file.bytes refl h.within); stopped = tt };
+      means = (h.file.bytes, refl, h.within, h.taken);
+      begun = begun;
+      given = record { whole = taken-given h; up_to = tt };
+      risen = tt;
+      left = kept;
+    }
+
+pub front-taken : {B : Type 0} {old new : List logs.Given} {cap : ℕ} {name : List ℕ} {Took Held : List ℕ → Type 0} {e : ReadError} {fault : Fault} (h : IsTaken {T = B} cap old new name Took Held (Err e))
+    → IsCutBy fault h.file → IsFileCut (Some name) old new fault
+front-taken h cause = record { given = h.file; added = h.added; named = ap (λ n. Some n) (sym h.named); ended = h.ended; cause = cause }
+
+pub long-taken : {B : Type 0} {old new : List logs.Given} {name : List ℕ} {Took Held : List ℕ → Type 0} {e : ReadError} (f : InputFile) (h : IsTaken {T = B} (cap_of f) old new name Took Held (Err e))
+    → length h.file.bytes ≡ cap_of f + 1 → IsFileCut (Some name) old new (Passed (limit_of f))
+long-taken f h long = front-taken h (cut-long f h.file long)
+
+-- a file that was read or handed on, and that its rule passes
+pub file-passes : {B T : Type 0} {y : B} {c : Change ShelfView} {name : Option (List ℕ)} {M : Option (List ℕ) → B → Type 0} (f : InputFile) (rule : List ℕ → Option Fault) (Means : Option (List ℕ) → T → Type 0) (x : T)
+    → (h : IsRead c name (λ held. read_step f no_rule held ∷ []) M (Ok y)) (bytes : List ℕ) → h.file ≡ Some bytes → length bytes ≤ cap_of f
+    → rule bytes ≡ None → Means (Some bytes) x
     → IsRead c name (λ held. read_step f rule held ∷ []) Means (Ok x)
-read-passes {bytes = bytes} f rule Means x h few passes means =
+file-passes f rule Means x h bytes is few passes means =
     record {
       file = h.file;
       is_told = h.is_told;
-      ends = record { passed = none-alone _ (ruled f rule h.file bytes.items h.means few ∙ passes); stopped = tt };
-      means = rw h.means means;
+      ends = record { passed = none-alone _ (ruled f rule h.file bytes is few ∙ passes); stopped = tt };
+      means = rw is means;
       begun = h.begun;
       given = file-whole (Ok x) h.given;
       risen = tt;
       left = h.left;
     }
 
+pub read-passes : {T : Type 0} {c : Change ShelfView} {name : Option (List ℕ)} {bytes : Vec ℕ Global} (f : InputFile) (rule : List ℕ → Option Fault) (Means : Option (List ℕ) → T → Type 0) (x : T)
+    → IsRead c name (λ held. read_step f no_rule held ∷ []) (λ held b. held ≡ Some b.items) (Ok bytes) → length bytes.items ≤ cap_of f
+    → rule bytes.items ≡ None → Means (Some bytes.items) x
+    → IsRead c name (λ held. read_step f rule held ∷ []) Means (Ok x)
+read-passes {bytes = bytes} f rule Means x h few passes means = file-passes f rule Means x h bytes.items h.means few passes means
+
 -- ... or doesn't, or memory is wanted
+pub file-stops : {B T : Type 0} {y : B} {c : Change ShelfView} {name : Option (List ℕ)} {M : Option (List ℕ) → B → Type 0} (f : InputFile) (rule : List ℕ → Option Fault) (Means : Option (List ℕ) → T → Type 0) (fault : Fault)
+    → (h : IsRead c name (λ held. read_step f no_rule held ∷ []) M (Ok y)) (bytes : List ℕ) → h.file ≡ Some bytes → length bytes ≤ cap_of f
+    → (rule bytes ≡ Some fault) ⊎ (fault ≡ Memory) → IsRisen ⊥ ⊥ fault
+    → IsRead c name (λ held. read_step f rule held ∷ []) Means (Err fault)
+file-stops f rule Means fault h bytes is few stops inside =
+    fails-over {steps = λ held. read_step f rule held ∷ []} h.file h.is_told
+    (elim stops [ inl q ↦ inl (alone _ _ (ruled f rule h.file bytes is few ∙ q)) | inr q ↦ rw q (inr tt) ]) h.begun (file-whole (Err fault) h.given) (risen-inside _ _ fault inside) h.left
+
 pub read-stops : {T : Type 0} {c : Change ShelfView} {name : Option (List ℕ)} {bytes : Vec ℕ Global} (f : InputFile) (rule : List ℕ → Option Fault) (Means : Option (List ℕ) → T → Type 0) (fault : Fault)
     → IsRead c name (λ held. read_step f no_rule held ∷ []) (λ held b. held ≡ Some b.items) (Ok bytes) → length bytes.items ≤ cap_of f
     → (rule bytes.items ≡ Some fault) ⊎ (fault ≡ Memory) → IsRisen ⊥ ⊥ fault
     → IsRead c name (λ held. read_step f rule held ∷ []) Means (Err fault)
-read-stops {bytes = bytes} f rule Means fault h few stops inside =
-    fails-over {steps = λ held. read_step f rule held ∷ []} h.file h.is_told
-    (elim stops [ inl q ↦ inl (alone _ _ (ruled f rule h.file bytes.items h.means few ∙ q)) | inr q ↦ rw q (inr tt) ]) h.begun (file-whole (Err fault) h.given) (risen-inside _ _ fault inside) h.left
+read-stops {bytes = bytes} f rule Means fault h few stops inside = file-stops f rule Means fault h bytes.items h.means few stops inside
 
 -- no name is given, and no file is read
 pub not-asked : {T : Type 0} {a : ShelfView} {steps : Option (List ℕ) → List WorkStep} {Means : Option (List ℕ) → T → Type 0} {x : T} → steps None ≡ [] → Means None x
@@ -204,12 +249,17 @@ outside f rule sound file (Unloaded table) h = absurd (h.1 refl)
 outside f rule sound file Memory h = tt
 outside f rule sound file fault h = absurd h
 
+pub file-fails-alike : {B T : Type 0} {c : Change ShelfView} {name : Option (List ℕ)} {M : Option (List ℕ) → B → Type 0} (f : InputFile) (rule : List ℕ → Option Fault) (Means : Option (List ℕ) → T → Type 0) (fault : Fault)
+    → IsRead {T = B} c name (λ held. read_step f no_rule held ∷ []) M (Err fault)
+    → IsRead c name (λ held. read_step f rule held ∷ []) Means (Err fault)
+file-fails-alike {c = c} f rule Means fault h =
+    fails-over {steps = λ held. read_step f rule held ∷ []} h.file h.is_told
+    (elim h.ends.stopped [ inl p ↦ inl (other-file f rule h.file fault p) | inr q ↦ inr (outside f rule c.before.sound h.file fault q) ]) h.begun (file-fails h.given) h.risen h.left
+
 pub read-fails : {T : Type 0} {c : Change ShelfView} {name : Option (List ℕ)} (f : InputFile) (rule : List ℕ → Option Fault) (Means : Option (List ℕ) → T → Type 0) (fault : Fault)
     → IsRead c name (λ held. read_step f no_rule held ∷ []) (λ held (b : Vec ℕ Global). held ≡ Some b.items) (Err fault)
     → IsRead c name (λ held. read_step f rule held ∷ []) Means (Err fault)
-read-fails {c = c} f rule Means fault h =
-    fails-over {steps = λ held. read_step f rule held ∷ []} h.file h.is_told
-    (elim h.ends.stopped [ inl p ↦ inl (other-file f rule h.file fault p) | inr q ↦ inr (outside f rule c.before.sound h.file fault q) ]) h.begun (file-fails h.given) h.risen h.left
+read-fails f rule Means fault h = file-fails-alike f rule Means fault h
 
 -- the fault that an error of a reader tells
 pub reader-tells : {A R : Type 0} (says : ℕ → R → Fault) (read : Result A (reading.Fault R)) (o : Option (reading.Fault R)) (fault : Fault)

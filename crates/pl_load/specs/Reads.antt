@@ -1,5 +1,5 @@
 -- How a stage that reads a file, or the tables of the keeper, ends.
-use Rattle.std.specs.Prelude.{◌≡◌, ℕ, Bool, true, List, [], Option, None, option_to_list, Result, IfOk, IfErr, IsTrue, ⊤}
+use Rattle.std.specs.Prelude.{◌≡◌, ◌≤◌, ℕ, Bool, true, List, [], length, Option, Some, None, option_to_list, Result, IfOk, IfErr, IsTrue, ⊤}
 use Rattle.std.specs.Option.{ForSome}
 use Rattle.pl_spec.specs.declared.RawAdjust.{RawAdjust}
 use Rattle.pl_outside.specs.Counts.{Rose, count_plus}
@@ -18,6 +18,10 @@ use Rattle.pl_load.specs.Views.{ShelfView, KeeperView, Change, ShelfLeft, Keeper
 -- whatever the bytes are
 abbrev pub no_rule : List ℕ → Option Fault
 no_rule bytes = None
+
+-- the file is there, of at most so many bytes, which were taken
+abbrev pub IsPassedOn : (List ℕ → Type 0) → ℕ → Option (List ℕ) → Type 0
+IsPassedOn Took cap file = (bytes : List ℕ) × (file ≡ Some bytes) × (length bytes ≤ cap) × Took bytes
 
 -- The file that was given, which is the one that the shelf holds under the name where it tells. Over it the
 -- stage ends as its steps say, and its meaning is the value. The name was begun once, and a failure has

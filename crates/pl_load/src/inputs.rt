@@ -1,4 +1,4 @@
-//! The files of the shelf. Each stage reads one file whole and judges it, and ends as its steps say.
+//! The files of the shelf. Each stage reads one file to its end and judges it, and ends as its steps say.
 
 ghost use Rattle.std.specs.Prelude.{◌≡◌, ◌≤◌, ◌<◌, [], ◌∷◌, Some, length, All, IfOk, option_map};
 ghost use Rattle.pl_payouts.specs.Payouts.{AreKnown};
@@ -8,19 +8,19 @@ ghost use Rattle.pl_words.specs.declared.request.InputFile.TheVariants as files;
 ghost use Rattle.pl_load.specs.Held.{script_in, pipeline_in, days_in, assets_in, labels_asked, numbers_asked, bars_in, revised_asked, payouts_in, derivation_in};
 ghost use Rattle.pl_load.specs.Work.{cap_of, read_step, syntax_step, pipeline_steps, evaluated_steps, sessions_rule, assets_rule, labels_steps, numbers_steps, bars_rule, revisions_steps, payouts_rule, derivation_step};
 ghost use Rattle.pl_load.specs.Views.{shelf_change};
-ghost use Rattle.pl_load.specs.Reads.{IsRead, no_rule};
+ghost use Rattle.pl_load.specs.Reads.{IsRead, IsPassedOn, no_rule};
 
 use crate::fault::Fault;
 use crate::limits::{cap_of, limit_of};
 use crate::numbered::judge_numbers;
 use pl_adjust::Adjustments;
 use pl_assets::{Assets, Labels};
-use pl_bars::Bars;
+use pl_bars::{Bars, BarsReader};
 use pl_calendar::Sessions;
 use pl_check::check;
 use pl_derivation::{Derivation, read_lines};
 use pl_numbers::Numbers;
-use pl_outside::{ReadError, Shelf, read_file};
+use pl_outside::{ReadError, Shelf, Taker, read_file, read_pieces};
 use pl_payouts::Payouts;
 use pl_syntax::{Script, parse};
 use pl_terms::Checked;
@@ -42,6 +42,26 @@ fn read_input<S: Shelf>(
 {
     match read_file(alloc, shelf, name, cap_of(file)) {
         Ok(bytes) => Ok(bytes),
+        Err(ReadError::Failed) => Err(Fault::Unread(file)),
+        Err(ReadError::TooLong) => Err(Fault::Passed(limit_of(file))),
+        Err(ReadError::Memory) => Err(Fault::Memory),
+    }
+}
+
+// The whole bytes of a file, handed on piece by piece.
+fn pass_input<S: Shelf, T: Taker>(
+    shelf: &mut S,
+    name: &str,
+    file: InputFile,
+    into: &mut T,
+) -> Result<(), Fault>
+    ensures { IsRead (shelf_change S.Shelf shelf.old shelf.new)
+        (Some name.now)
+        (λ held. read_step file no_rule held ∷ [])
+        (λ held _. IsPassedOn (λ bytes. T.after into.old bytes into.new) (cap_of file) held) result }
+{
+    match read_pieces(shelf, name, cap_of(file), into) {
+        Ok(()) => Ok(()),
         Err(ReadError::Failed) => Err(Fault::Unread(file)),
         Err(ReadError::TooLong) => Err(Fault::Passed(limit_of(file))),
         Err(ReadError::Memory) => Err(Fault::Memory),
@@ -159,7 +179,8 @@ pub fn read_numbers<S: Shelf>(
     }
 }
 
-/// The bars of the bars file of that name, for these sessions and assets.
+/// The bars of the bars file of that name, for these sessions and assets. They are judged as they are read, and the
+/// file is not held.
 pub fn read_bars<S: Shelf>(
     alloc: Global,
     shelf: &mut S,
@@ -174,8 +195,9 @@ pub fn read_bars<S: Shelf>(
     ensures cols { IfOk result (All (λ b. b.col < length assets.now)) }
     ensures sessions { IfOk result (All (λ b. b.session < length sessions.now)) }
 {
-    let bytes = read_input(alloc, shelf, name, InputFile::Bars)?;
-    Ok(Bars::read(alloc, &bytes, sessions, assets)?)
+    let mut reader = BarsReader::new(alloc, sessions, assets);
+    pass_input(shelf, name, InputFile::Bars, &mut reader)?;
+    Ok(reader.end()?)
 }
 
 /// The adjustments with the revisions of the revisions file of that name; as they are where no name is given,

@@ -3,4 +3,5 @@ pub mod Held
 pub mod Keepers
 pub mod Pieces
 pub mod Takes
+pub mod HandedOn
 pub mod Walks

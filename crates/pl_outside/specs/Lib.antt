@@ -13,3 +13,4 @@ pub mod SinkState
 pub mod HeldFiles
 pub mod MemoryShelf
 pub mod MemoryKeeper
+pub mod Takes

@@ -22,6 +22,7 @@ mod parts;
 mod reading;
 mod shelf;
 mod sink;
+mod taking;
 mod writing;
 
 pub use faults::{Failed, Memory};
@@ -35,4 +36,5 @@ pub use pl_spec::RawAdjust;
 pub use reading::{ReadError, read_file};
 pub use shelf::Shelf;
 pub use sink::{NullSink, Sink};
+pub use taking::{Taker, read_pieces};
 pub use writing::write_bytes;

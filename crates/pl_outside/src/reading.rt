@@ -7,7 +7,7 @@ ghost use Rattle.pl_outside.specs.Files.{BeginsAll};
 ghost use Rattle.pl_outside.specs.Logs.{Given, begins};
 ghost use Rattle.pl_outside.specs.Reads.{IsGiven, IsReadWhole};
 
-use crate::faults::Failed;
+use crate::faults::{Failed, Memory};
 use crate::shelf::Shelf;
 use std::alloc::{AllocError, Global};
 
@@ -38,6 +38,16 @@ impl From<AllocError> for ReadError {
     ghost from_gives = { λ _ e. e ≡ Memory };
 
     fn from(_refused: AllocError) -> ReadError {
+        ReadError::Memory
+    }
+}
+
+impl From<Memory> for ReadError {
+    ghost use Rattle.pl_outside.specs.declared.reading.ReadError.TheVariants.{Memory};
+
+    ghost from_gives = { λ _ e. e ≡ Memory };
+
+    fn from(_refused: Memory) -> ReadError {
         ReadError::Memory
     }
 }
