@@ -4,6 +4,7 @@ use Rattle.pl_spec.specs.Rounding.{MISSING}
 use Rattle.pl_spec.specs.declared.Column.TheVariants.{Close}
 use Rattle.pl_spec.specs.Numbers.{NumberRow}
 use Rattle.pl_spec.specs.World.{World}
+use Rattle.pl_spec.specs.declared.Figure.TheVariants as figure
 use Rattle.pl_pipeline.specs.Kind as kind
 use Rattle.pl_pipeline.specs.Kind.{PointKind}
 use Rattle.pl_pipeline.specs.declared.WindowKind.TheVariants as WindowKind
@@ -25,7 +26,7 @@ reported : World
 reported = record plain { numbers = known_from 19725 (units 3) ∷ known_from 19731 MISSING ∷ known_from 19727 (units 4) ∷ [] }
 
 number : ℕ → Term
-number n = node (kind.Number n) 1 absent absent absent absent absent
+number n = node (kind.Number figure.Value n) 1 absent absent absent absent absent
 
 -- a term of asset 1 on some sessions, with two names
 of_earnings : Term → List ℕ → List Value
