@@ -1,5 +1,5 @@
 //! The member `age`: how long ago a number beside bars was known.
-ghost use Rattle.std.specs.Prelude.{◌≡◌, ◌∷◌, [], List, ℕ, option_map, OnErr, IfOk, Err};
+ghost use Rattle.std.specs.Prelude.{◌≡◌, ◌∷◌, [], option_map, OnErr, IfOk, Err};
 ghost use Rattle.pl_terms.specs.Kinds.{kind_of};
 ghost use Rattle.pl_check.specs.Typed as spec;
 ghost use Rattle.pl_check.specs.Values.{bound};
@@ -59,7 +59,7 @@ fn number_named<'t>(terms: &'t Terms, object: Value) -> Option<&'t [u8]>
 // The same, copied.
 fn copied_name(terms: &Terms, object: Value) -> Result<Option<Text>, CheckError>
     requires { IsInGraph (terms_of terms.now).graph (value_of object) }
-    ensures ok { IfOk result (λ name. spec.name_or_none (option_map (λ (n : List ℕ). n) name)
+    ensures ok { IfOk result (λ name. spec.name_or_none name
         ≡ spec.number_named (terms_of terms.now) (value_of object.entry)) }
     ensures err { OnErr result (result ≡ Err CheckError.Memory) }
 {
