@@ -20,7 +20,7 @@ use Rattle.pl_lifetimes.specs.Assets.{sid_of}
 use Rattle.pl_lifetimes.proofs.SidColumns.{asset_of}
 use Rattle.pl_bars.proofs.BarSearch.{IsCell-bar_cell}
 use Rattle.pl_adjust.specs.declared.revisions.Revision.{Revision}
-use Rattle.pl_adjust.specs.Revisions.{AreRevisions, Rule, revisions_of}
+use Rattle.pl_adjust.specs.Revisions.{AreRevisions, DataFault, revisions_of}
 use Rattle.pl_adjust.specs.Columns.{AreByDay, by_place, in_column}
 use Rattle.pl_adjust.specs.Events.{PutsCell}
 use Rattle.pl_adjust.specs.Revised.{AreKnown, IsKnown, revised, revised_by, revised_columns, revised_in}
@@ -94,7 +94,7 @@ pub added : (days : List ℤ) (assets : List AssetRow) (old new : List ColumnAdj
 unfolding revised_in
 added days assets old new records rows e f = rw (e, f) refl
 
-pub refused_by : (days : List ℤ) (assets : List AssetRow) (old : List ColumnAdjustment) (records : List Record) (o : Option (Fault Rule)) → IfSome o (λ f. revisions_of days assets records ≡ Err f)
+pub refused_by : (days : List ℤ) (assets : List AssetRow) (old : List ColumnAdjustment) (records : List Record) (o : Option (Fault DataFault)) → IfSome o (λ f. revisions_of days assets records ≡ Err f)
     → IfSome o (λ f. revised_in days assets old records ≡ Err f)
 unfolding revised_in
 refused_by days assets old records None h = tt

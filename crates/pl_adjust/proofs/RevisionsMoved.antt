@@ -33,7 +33,7 @@ use Rattle.pl_spec.proofs.Lists.{filter-map, filter-swap}
 use Rattle.pl_adjust.specs.declared.revisions.Revision.{Revision}
 use Rattle.pl_adjust.specs.Columns.{AreByDay, by_place, in_column}
 use Rattle.pl_adjust.specs.Revised.{AreKnown, ChangeAlike, IsKnown, revised, revised_by, revised_columns, revised_in}
-use Rattle.pl_adjust.specs.Revisions.{Rule, breaks, revision_in, header, is_same, revision_or_rule, revisions_of}
+use Rattle.pl_adjust.specs.Revisions.{DataFault, breaks, revision_in, header, is_same, revision_or_rule, revisions_of}
 use Rattle.pl_adjust.specs.Revisions as rules
 use Rattle.pl_adjust.proofs.ByPlace.{by_place-ties, sorted-by_place, tied}
 use Rattle.pl_adjust.proofs.Kept.{in_front, front_order}
@@ -53,15 +53,10 @@ flips x y = both_ways _ _ (turned x y) (turned y x)
         whole b a (record { sid = sym p.sid; session = sym p.session; column = sym p.column; known = sym p.known })
 
 module _ (days : List ℤ) (assets : List AssetRow) where
-  looks : (q : Rule) → Looks most_revisions is_same revision_in (breaks days assets) q
-  looks rules.BadHeader = inr (inr (λ before r. refl))
+  looks : (q : DataFault) → Looks most_revisions is_same revision_in (breaks days assets) q
   looks rules.TooMany = inl (λ before r. refl)
-  looks rules.BadField = inr (inr (λ before r. refl))
-  looks rules.NotSession = inr (inr (λ before r. refl))
-  looks rules.UnknownSid = inr (inr (λ before r. refl))
-  looks rules.Negative = inr (inr (λ before r. refl))
-  looks rules.TooSoon = inr (inr (λ before r. refl))
   looks rules.Duplicate = inr (inl (λ before r. refl))
+  looks fault = inr (inr (λ before r. refl))
 
   pub revisions-moved : (first : Record) (records others : List Record) → IsPermutation records others → (rows : List Revision) → revisions_of days assets (first ∷ records) ≡ Ok rows
       → (found : List Revision) × (revisions_of days assets (first ∷ others) ≡ Ok found) × IsPermutation rows found

@@ -28,7 +28,7 @@ use Rattle.pl_bars.specs.Bars.{session_in}
 use Rattle.pl_bars.proofs.BarsSaid.{day_form, no_session_tells}
 use Rattle.pl_adjust.specs.declared.revisions.Revision.{Revision}
 use Rattle.pl_spec.specs.Limits.{most_revisions}
-use Rattle.pl_adjust.specs.Revisions.{Rule, breaks, revision_in, header, is_same, is_soon, revision_or_rule, revisions_of, AreRevisions, IsRevision}
+use Rattle.pl_adjust.specs.Revisions.{DataFault, breaks, revision_in, header, is_same, is_soon, revision_or_rule, revisions_of, AreRevisions, IsRevision}
 use Rattle.pl_adjust.specs.Revisions as rules
 use Rattle.pl_adjust.specs.RevisionRules.{IsRevisionRecord, AreOfOne, IsNext, Breaks, AreRevisionsOf, IsRevisionsFault}
 use Rattle.pl_adjust.proofs.RevisionFields.{revision_form}
@@ -62,8 +62,7 @@ whole x y h =
     rw (sid, day, column, known) refl
 
 module _ (days : List ℤ) (assets : List AssetRow) (ud : AreDays days) (ua : AreAssets assets) where
-  tells : (before : List Revision) (r : Record) (q : Rule) → Decides (breaks days assets before r q) (Breaks days assets before r q)
-  tells before r rules.BadHeader = (λ t. absurd (let bad : false ≡ true = t in cc), λ h. absurd h)
+  tells : (before : List Revision) (r : Record) (q : DataFault) → Decides (breaks days assets before r q) (Breaks days assets before r q)
   tells before r rules.TooMany = (λ t. grind (arith, nat_tests), λ h. grind (arith, nat_tests))
   tells before r rules.BadField = lacks-tells revision_in IsRevisionRecord revision_form r
   tells before r rules.NotSession = has-tells revision_in IsRevisionRecord revision_form _ _ (λ x. no_session_tells days ud x.bar_day) r
@@ -74,6 +73,7 @@ module _ (days : List ℤ) (assets : List AssetRow) (ud : AreDays days) (ua : Ar
   tells before r rules.Duplicate =
       has-tells revision_in IsRevisionRecord revision_form _ _
       (λ x. any-tells (is_same x) (AreOfOne x) (λ y. (parts x y, whole x y)) before) r
+  tells before r fault = (λ t. absurd (let bad : false ≡ true = t in cc), λ h. absurd h)
 
   pub revisions_judged : Judges (IsNext days assets) (λ before r. IsFirstBroken rules.rules (Breaks days assets before r)) (revision_or_rule days assets)
   unfolding revision_or_rule
@@ -87,7 +87,7 @@ module _ (days : List ℤ) (assets : List AssetRow) (ud : AreDays days) (ua : Ar
   revisions-are records rows =
       under-are header rules.BadHeader (IsNext days assets) (λ before r. IsFirstBroken rules.rules (Breaks days assets before r)) (revision_or_rule days assets) revisions_judged records rows
 
-  pub revisions-fault : (records : List Record) (fault : Fault Rule) → (revisions_of days assets records ≡ Err fault) ↔ IsRevisionsFault days assets records fault
+  pub revisions-fault : (records : List Record) (fault : Fault DataFault) → (revisions_of days assets records ≡ Err fault) ↔ IsRevisionsFault days assets records fault
   unfolding revisions_of
   revisions-fault records fault =
       under-fault header rules.BadHeader (IsNext days assets) (λ before r. IsFirstBroken rules.rules (Breaks days assets before r)) (revision_or_rule days assets) revisions_judged records fault

@@ -10,7 +10,7 @@ use Rattle.pl_spec.specs.Window.{effects_in}
 use Rattle.pl_records.specs.Reading.{Record, Fault, ◌>>=◌}
 use Rattle.pl_lifetimes.specs.Assets.{HasSid}
 use Rattle.pl_adjust.specs.declared.revisions.Revision.{Revision}
-use Rattle.pl_adjust.specs.Revisions.{Rule, revisions_of}
+use Rattle.pl_adjust.specs.Revisions.{DataFault, revisions_of}
 use Rattle.pl_adjust.specs.Columns.{by_place, events_at, in_column}
 
 -- from the day on which it is known a revision overwrites the cell of its column in the bar of its day
@@ -32,7 +32,7 @@ abbrev pub revised_by : List AssetRow → List ColumnAdjustment → List Revisio
 revised_by assets old rows = by_place (old ++ revised_columns assets rows)
 
 -- with the revisions of the records of a file, or its first fault
-unfoldable pub revised_in : List ℤ → List AssetRow → List ColumnAdjustment → List Record → Result (List ColumnAdjustment) (Fault Rule)
+unfoldable pub revised_in : List ℤ → List AssetRow → List ColumnAdjustment → List Record → Result (List ColumnAdjustment) (Fault DataFault)
 revised_in days assets old records = revisions_of days assets records >>= λ rows. Ok (revised_by assets old rows)
 
 -- Those of a column that come between two days do the same to each cell, the one after the other.

@@ -10,7 +10,7 @@ use Rattle.pl_bars.specs.Rules.{IsCellText, IsNegative}
 use Rattle.pl_adjust.specs.declared.revisions.Revision.{Revision}
 use Rattle.pl_spec.specs.Limits.{most_revisions}
 use Rattle.pl_spec.specs.Names.{column_name}
-use Rattle.pl_adjust.specs.Revisions.{Rule, BadHeader, TooMany, BadField, NotSession, UnknownSid, Negative, TooSoon, Duplicate, rules, header}
+use Rattle.pl_adjust.specs.Revisions.{DataFault, BadHeader, TooMany, BadField, NotSession, UnknownSid, Negative, TooSoon, Duplicate, rules, header}
 
 -- the record is the sid, without sign and leading zeros, the date of the bar's day, the name of the column,
 -- the text of the cell, and the date of the known day
@@ -31,8 +31,7 @@ pub record AreOfOne (x y : Revision) : Type 0 where
   pub known : y.known ≡ x.known
 
 -- what it is to break each rule
-abbrev pub Breaks : List ℤ → List AssetRow → List Revision → Record → Rule → Type 0
-Breaks days assets before r BadHeader = ⊥
+abbrev pub Breaks : List ℤ → List AssetRow → List Revision → Record → DataFault → Type 0
 Breaks days assets before r TooMany = most_revisions ≤ length before
 Breaks days assets before r BadField = (x : Revision) → ¬ IsRevisionRecord r x
 Breaks days assets before r NotSession =
@@ -42,6 +41,7 @@ Breaks days assets before r UnknownSid =
 Breaks days assets before r Negative = (x : Revision) × IsRevisionRecord r x × IsNegative x.value
 Breaks days assets before r TooSoon = (x : Revision) × IsRevisionRecord r x × (x.known ≤ℤ x.bar_day)
 Breaks days assets before r Duplicate = (x : Revision) × IsRevisionRecord r x × Any (AreOfOne x) before
+Breaks days assets before r fault = ⊥
 
 -- the record is the next revision
 abbrev pub IsNext : List ℤ → List AssetRow → List Revision → Record → Revision → Type 0
@@ -52,7 +52,7 @@ abbrev pub AreRevisionsOf : List ℤ → List AssetRow → List Record → List 
 AreRevisionsOf days assets records rows = AreRowsUnder header (IsNext days assets) records rows
 
 -- no header, or the first faulty record
-abbrev pub IsRevisionsFault : List ℤ → List AssetRow → List Record → Fault Rule → Type 0
+abbrev pub IsRevisionsFault : List ℤ → List AssetRow → List Record → Fault DataFault → Type 0
 IsRevisionsFault days assets records fault =
     IsFaultUnder header BadHeader (IsNext days assets)
     (λ before r. IsFirstBroken rules (Breaks days assets before r)) records fault

@@ -15,10 +15,8 @@ use Rattle.pl_bars.specs.Bars.{cell_in, is_bar_cell, is_negative, session_in}
 use Rattle.pl_bars.specs.ColumnNames.{column_in}
 use Rattle.pl_adjust.specs.declared.revisions.Revision.{Revision}
 use Rattle.pl_spec.specs.Limits.{most_revisions}
-
--- what may be wrong with a file
-pub data Rule : Type 0 where
-  BadHeader TooMany BadField NotSession UnknownSid Negative TooSoon Duplicate : Rule
+pub use Rattle.pl_records.specs.declared.fault.DataFault.{DataFault}
+pub use Rattle.pl_records.specs.declared.fault.DataFault.TheVariants.{BadHeader, TooMany, BadField, NotSession, UnknownSid, Negative, TooSoon, Duplicate}
 
 abbrev pub header : Record
 header = codes "sid" ∷ codes "session" ∷ codes "column" ∷ codes "value" ∷ codes "known" ∷ []
@@ -41,11 +39,10 @@ abbrev pub is_same : Revision → Revision → Bool
 is_same x y = ((y.sid == x.sid && int_eq y.bar_day x.bar_day) && same_column y.column x.column) && int_eq y.known x.known
 
 -- the rules of a record after the header, in the order in which they are tested, and their tests
-abbrev pub rules : List Rule
+abbrev pub rules : List DataFault
 rules = TooMany ∷ BadField ∷ NotSession ∷ UnknownSid ∷ Negative ∷ TooSoon ∷ Duplicate ∷ []
 
-abbrev pub breaks : List ℤ → List AssetRow → List Revision → Record → Rule → Bool
-breaks days assets before r BadHeader = false
+abbrev pub breaks : List ℤ → List AssetRow → List Revision → Record → DataFault → Bool
 breaks days assets before r TooMany = nat_le most_revisions (length before)
 breaks days assets before r BadField = lacks (revision_in r)
 breaks days assets before r NotSession = has (λ x. lacks (session_in days x.bar_day)) (revision_in r)
@@ -53,13 +50,14 @@ breaks days assets before r UnknownSid = has (λ x. lacks (col_in assets x.sid))
 breaks days assets before r Negative = has (λ x. is_negative x.value) (revision_in r)
 breaks days assets before r TooSoon = has is_soon (revision_in r)
 breaks days assets before r Duplicate = has (λ x. list_any (is_same x) before) (revision_in r)
+breaks days assets before r fault = false
 
 -- the revision of a record after the revisions before it, or the first rule that it breaks
-unfoldable pub revision_or_rule : List ℤ → List AssetRow → List Revision → Record → Result Revision Rule
+unfoldable pub revision_or_rule : List ℤ → List AssetRow → List Revision → Record → Result Revision DataFault
 revision_or_rule days assets before r = first_broken rules (breaks days assets before r) (ok_or (revision_in r) BadField)
 
 -- the revisions of a file in its order, or its first fault
-unfoldable pub revisions_of : List ℤ → List AssetRow → List Record → Result (List Revision) (Fault Rule)
+unfoldable pub revisions_of : List ℤ → List AssetRow → List Record → Result (List Revision) (Fault DataFault)
 revisions_of days assets records = rows_under header BadHeader (revision_or_rule days assets) records
 
 -- ---- revisions as they are kept

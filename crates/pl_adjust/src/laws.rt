@@ -17,7 +17,7 @@ ghost use Rattle.pl_lifetimes.specs.Assets.{AreAssets};
 ghost use Rattle.pl_adjust.specs.declared.revisions.Revision.{Revision};
 ghost use Rattle.pl_adjust.specs.Columns.{events_at};
 ghost use Rattle.pl_adjust.specs.Revised.{AreKnown, ChangeAlike, revised, revised_by, revised_in};
-ghost use Rattle.pl_adjust.specs.Revisions.{Rule, revisions_of, rules, revision_or_rule};
+ghost use Rattle.pl_adjust.specs.Revisions.{DataFault, revisions_of, rules, revision_or_rule};
 ghost use Rattle.pl_adjust.specs.RevisionRules.{AreRevisionsOf, Breaks, IsNext, IsRevisionsFault};
 ghost use Rattle.pl_adjust.specs.Rules.{AreRight, IsFirstFault};
 ghost use Rattle.pl_adjust.specs.Tables.{adjustments_in};
@@ -85,7 +85,7 @@ pub fn revisions_in_plain_words()
         → (records : List Record) (rows : List Revision) → (revisions_of days assets records ≡ Ok rows)
         ↔ AreRevisionsOf days assets records rows }
     ensures fault { (days : List ℤ) (assets : List AssetRow) → AreDays days → AreAssets assets
-        → (records : List Record) (fault : reading.Fault Rule)
+        → (records : List Record) (fault : reading.Fault DataFault)
         → (revisions_of days assets records ≡ Err fault)
         ↔ IsRevisionsFault days assets records fault }
 {}

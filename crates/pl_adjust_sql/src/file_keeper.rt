@@ -1,31 +1,33 @@
 //! The database files of the disk.
 
-ghost use Rattle.std.specs.Prelude.{◌≡◌, ◌==◌, ◌↔◌, ◌++◌, [], List, None, Ok, IfOk, IfSome, IsSome, IsTrue, OnOk, OnErr, false, not, slice_index_or, string_bytes};
+ghost use Rattle.std.specs.Prelude.{◌≡◌, ◌==◌, ◌↔◌, ◌++◌, ◌∷◌, [], List, Bool, None, Ok, IfOk, IfSome, IsSome, IsTrue, OnOk, OnErr, true, false, not, slice_index_or, string_bytes};
 ghost use Rattle.std.specs.IoError.{error_kind};
 ghost use Rattle.sqlite.specs.State.{HasCleanDisk};
 ghost use Rattle.sqlite.specs.Files.{Finds, file_state};
 ghost use Rattle.sqlite_disk.specs.Memory.{memory_bytes, memory_is_usable};
 ghost use Rattle.pl_outside.specs.Counts.{count_end, count_plus};
 ghost use Rattle.pl_spec.specs.declared.RawAdjust.{RawAdjust};
-ghost use Rattle.pl_adjust_sql.specs.Beside.{suffix_of};
-ghost use Rattle.pl_adjust_sql.specs.Copies.{IsReadFrom};
+ghost use Rattle.pl_adjust_sql.specs.Beside.{IsCopyOf, read_as, suffix_of};
+ghost use Rattle.pl_adjust_sql.specs.Copies.{IsOpened, IsReadFrom, IsOther};
 ghost use Rattle.pl_adjust_sql.specs.Reads.{count_after};
 ghost use Rattle.pl_outside.specs.Logs.{Loads};
 
 use crate::read::read_table;
 use crate::refusal::TableError;
-use pl_outside::{AdjustKeeper, KeepError, LoadedLog, RawAdjust, Table};
+use pl_outside::{AdjustKeeper, GivenLog, KeepError, LoadedLog, RawAdjust, Table};
 use sqlite::{Connection, Error, ErrorCode, FileStore, Files, Options};
 use sqlite_disk::{Disk, Memory};
 use std::alloc::{AllocError, Global};
 use std::fs;
 use std::io::{self, ErrorKind};
 
-// A database file that was read: its name, and the connection over a copy of its bytes.
+// A database file that was read: its name, the connection over a copy of its bytes, and the log of what was
+// read for it.
 #[derive(Drop)]
 struct Copied {
     name: String,
     connection: Connection<FileStore<Memory>>,
+    read: GivenLog,
 }
 
 /// Database files of SQLite by their paths. The first load of a name reads the named file, and the next ones
@@ -138,6 +140,7 @@ fn named_copy(
 ) -> Result<Copied, TableError>
     ensures name { IfOk result (λ copied. string_bytes copied.name ≡ name.now) }
     ensures once { IfSome kept (λ copied. string_bytes copied.name ≡ name.now → result ≡ Ok copied) }
+    ensures opened { IsOther kept name.now → IfOk result (IsOpened name.now) }
 {
     if let Some(copied) = kept {
         if copied.name.as_str() == name {
@@ -149,13 +152,16 @@ fn named_copy(
 
 fn new_copy(rt: &HostRuntime, alloc: Global, name: &str) -> Result<Copied, TableError>
     ensures name { IfOk result (λ copied. string_bytes copied.name ≡ name.now) }
+    ensures opened { IfOk result (IsOpened name.now) }
 {
     let name_copied = String::from_str(alloc, name)?;
-    let files = copied_files(rt, alloc, name)?;
+    let mut read = GivenLog::new();
+    let files = copied_files(rt, alloc, name, &mut read)?;
     let connection = open_copy(alloc, files)?;
     Ok(Copied {
         name: name_copied,
         connection,
+        read,
     })
 }
 
@@ -178,17 +184,25 @@ fn open_copy(
 // The file and the log beside it are read whole and opened in memory: SQLite would make a file that isn't
 // there, and would write a log. An empty file is no database yet, and one whose transaction was cut off would
 // first have to be fixed.
-fn copied_files(rt: &HostRuntime, alloc: Global, name: &str) -> Result<Files<Memory>, TableError>
+fn copied_files(
+    rt: &HostRuntime,
+    alloc: Global,
+    name: &str,
+    read: &mut GivenLog,
+) -> Result<Files<Memory>, TableError>
     ensures log { IfOk result (λ files. IsTrue (memory_is_usable files.log)) }
     ensures db { IfOk result (λ files. IsTrue (memory_is_usable files.db)) }
+    ensures copy { IfOk result (IsCopyOf read.old.files read.new.files name.now) }
 {
-    let bytes = fs::read(rt, name).map_err(read_error)?;
-    if bytes.is_empty() || is_cut_off(bytes_beside(rt, alloc, name, Beside::Journal)?.as_slice()) {
+    let bytes = read_whole(rt, name, read).map_err(read_error)?;
+    if bytes.is_empty()
+        || is_cut_off(bytes_beside(rt, alloc, name, Beside::Journal, read)?.as_slice())
+    {
         return Err(TableError::Refused);
     }
     let db = copy_of(alloc, bytes.as_slice())?;
     drop(bytes);
-    match log_of(rt, alloc, name) {
+    match log_of(rt, alloc, name, read) {
         Ok(log) => Ok(Files { log, db }),
         Err(error) => {
             drop(db);
@@ -197,10 +211,17 @@ fn copied_files(rt: &HostRuntime, alloc: Global, name: &str) -> Result<Files<Mem
     }
 }
 
-fn log_of(rt: &HostRuntime, alloc: Global, name: &str) -> Result<Memory, TableError>
-    ensures { IfOk result (λ disk. IsTrue (memory_is_usable disk)) }
+fn log_of(
+    rt: &HostRuntime,
+    alloc: Global,
+    name: &str,
+    read: &mut GivenLog,
+) -> Result<Memory, TableError>
+    ensures usable { IfOk result (λ disk. IsTrue (memory_is_usable disk)) }
+    ensures given { IfOk result (λ disk. (found : Bool) × (read.new.files
+        ≡ read_as (name.now ++ suffix_of Beside.Log) (memory_bytes disk) found ∷ read.old.files)) }
 {
-    let log = bytes_beside(rt, alloc, name, Beside::Log)?;
+    let log = bytes_beside(rt, alloc, name, Beside::Log, read)?;
     copy_of(alloc, log.as_slice())
 }
 
@@ -227,15 +248,30 @@ fn bytes_beside(
     alloc: Global,
     name: &str,
     kind: Beside,
-) -> Result<Vec<u8>, TableError> {
+    read: &mut GivenLog,
+) -> Result<Vec<u8>, TableError>
+    ensures { IfOk result (λ bytes. (found : Bool) × (read.new.files
+        ≡ read_as (name.now ++ suffix_of kind) bytes.items found ∷ read.old.files)) }
+{
     let path = path_beside(alloc, name, kind)?;
-    match fs::read(rt, path.as_str()) {
+    match read_whole(rt, path.as_str(), read) {
         Ok(bytes) => Ok(bytes),
         Err(error) => match error.kind() {
             ErrorKind::NotFound => Ok(Vec::new(alloc)),
             _ => Err(read_error(error)),
         },
     }
+}
+
+// The bytes of the file of this path. That they are its bytes, no clause can say.
+fn read_whole(rt: &HostRuntime, path: &str, read: &mut GivenLog) -> io::Result<Vec<u8>>
+    ensures read { IfOk result (λ bytes. read.new.files ≡ read_as path.now bytes.items true ∷ read.old.files) }
+    ensures unread { OnErr result (read.new.files ≡ read_as path.now [] false ∷ read.old.files) }
+{
+    read.begins(path.as_bytes());
+    let bytes = fs::read(rt, path)?;
+    read.gives(bytes.as_slice(), true);
+    Ok(bytes)
 }
 
 // The path of such a file: that of the database file, with SQLite's suffix.

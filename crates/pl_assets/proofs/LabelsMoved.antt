@@ -5,19 +5,16 @@ use Rattle.pl_spec.specs.declared.AssetRow.{AssetRow}
 use Rattle.pl_records.specs.Reading.{Record, ◌>>=◌}
 use Rattle.pl_records.proofs.Orders.{Looks, under-permuted}
 use Rattle.pl_records.proofs.Readings.{made-of}
-use Rattle.pl_assets.specs.Labels.{Rule, LabelTable, breaks, row_of, table_of, label_or_rule, label_rows_in, labels_of, header}
+use Rattle.pl_assets.specs.Labels.{DataFault, LabelTable, breaks, row_of, table_of, label_or_rule, label_rows_in, labels_of, header}
 use Rattle.pl_assets.specs.Labels as rules
 use Rattle.pl_assets.proofs.Dated.{clash, flips}
 use Rattle.pl_assets.proofs.LabelKeys.{labels}
 
 module _ (assets : List AssetRow) where
-  looks : (q : Rule) → Looks most_labels (clash labels) (row_of assets) (breaks assets) q
-  looks rules.BadHeader = inr (inr (λ before r. refl))
+  looks : (q : DataFault) → Looks most_labels (clash labels) (row_of assets) (breaks assets) q
   looks rules.TooMany = inl (λ before r. refl)
-  looks rules.BadField = inr (inr (λ before r. refl))
-  looks rules.LabelTooLong = inr (inr (λ before r. refl))
-  looks rules.UnknownSid = inr (inr (λ before r. refl))
   looks rules.DuplicateStart = inr (inl (λ before r. refl))
+  looks fault = inr (inr (λ before r. refl))
 
   pub labels-moved : (first : Record) (records others : List Record) → IsPermutation records others → (table : LabelTable) → labels_of assets (first ∷ records) ≡ Ok table
       → (other : LabelTable) × (labels_of assets (first ∷ others) ≡ Ok other) × IsPermutation table.rows other.rows

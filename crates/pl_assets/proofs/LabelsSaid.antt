@@ -9,7 +9,7 @@ use Rattle.pl_spec.specs.declared.AssetRow.{AssetRow}
 use Rattle.pl_records.proofs.Readings.{made-fault, made-is}
 use Rattle.pl_records.proofs.RuleTables.{lacks-tells, has-tells, Judges-table}
 use Rattle.pl_lifetimes.specs.Assets.{AreAssets}
-use Rattle.pl_assets.specs.Labels.{Rule, LabelTable, breaks, in_column, row_of, header, label_in, label_or_rule, label_rows_in, labels_of, table_of}
+use Rattle.pl_assets.specs.Labels.{DataFault, LabelTable, breaks, in_column, row_of, header, label_in, label_or_rule, label_rows_in, labels_of, table_of}
 use Rattle.pl_assets.specs.Labels as rules
 use Rattle.pl_assets.specs.LabelRules.{IsLabelRecord, IsRowRecord, IsLabel, Breaks, AreLabelsOf, IsLabelsFault}
 use Rattle.pl_spec.specs.Limits.{most_label_bytes}
@@ -21,11 +21,10 @@ use Rattle.pl_lifetimes.proofs.SidColumns.{placed_form, unknown_tells}
 row_form : (assets : List AssetRow) → AreAssets assets → (r : Record) (row : ColumnLabel) → (row_of assets r ≡ Some row) ↔ IsRowRecord assets r row
 row_form = placed_form label_in IsLabelRecord (λ l. l.sid) in_column label_form
 
-abbrev Told : List AssetRow → List ColumnLabel → Record → Rule → Type 0
+abbrev Told : List AssetRow → List ColumnLabel → Record → DataFault → Type 0
 Told assets before r rule = IsFirstBroken rules.rules (Breaks assets before r) rule
 
-tells : (assets : List AssetRow) → AreAssets assets → (before : List ColumnLabel) (r : Record) (q : Rule) → Decides (breaks assets before r q) (Breaks assets before r q)
-tells assets up before r rules.BadHeader = (λ t. absurd (let bad : false ≡ true = t in cc), λ h. absurd h)
+tells : (assets : List AssetRow) → AreAssets assets → (before : List ColumnLabel) (r : Record) (q : DataFault) → Decides (breaks assets before r q) (Breaks assets before r q)
 tells assets up before r rules.TooMany = (λ t. grind (arith, nat_tests), λ h. grind (arith, nat_tests))
 tells assets up before r rules.BadField = lacks-tells label_in IsLabelRecord label_form r
 tells assets up before r rules.LabelTooLong = has-tells label_in IsLabelRecord label_form _ _ (λ l. long (length l.text)) r
@@ -36,6 +35,7 @@ tells assets up before r rules.UnknownSid =
     has-tells label_in IsLabelRecord label_form _ _ (λ l. unknown_tells assets up l.sid) r
 tells assets up before r rules.DuplicateStart =
     has-tells (row_of assets) (IsRowRecord assets) (row_form assets up) _ _ (clash-tells labels before) r
+tells assets up before r fault = (λ t. absurd (let bad : false ≡ true = t in cc), λ h. absurd h)
 
 pub labels_judged : (assets : List AssetRow) → AreAssets assets → Judges (IsLabel assets) (Told assets) (label_or_rule assets)
 unfolding label_or_rule
@@ -51,6 +51,6 @@ pub labels-are : (assets : List AssetRow) → AreAssets assets → (records : Li
 unfolding labels_of label_rows_in
 labels-are assets up = made-is header rules.BadHeader (IsLabel assets) (Told assets) (label_or_rule assets) (labels_judged assets up) table_of
 
-pub labels-fault : (assets : List AssetRow) → AreAssets assets → (records : List Record) (fault : Fault Rule) → (labels_of assets records ≡ Err fault) ↔ IsLabelsFault assets records fault
+pub labels-fault : (assets : List AssetRow) → AreAssets assets → (records : List Record) (fault : Fault DataFault) → (labels_of assets records ≡ Err fault) ↔ IsLabelsFault assets records fault
 unfolding labels_of label_rows_in
 labels-fault assets up = made-fault header rules.BadHeader (IsLabel assets) (Told assets) (label_or_rule assets) (labels_judged assets up) table_of

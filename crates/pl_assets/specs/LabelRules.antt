@@ -9,7 +9,7 @@ use Rattle.pl_spec.specs.Parts.{ColumnLabel}
 use Rattle.pl_spec.specs.World.{LabelRow}
 use Rattle.pl_spec.specs.declared.AssetRow.{AssetRow}
 use Rattle.pl_lifetimes.specs.Assets.{HasSid, IsPlaced}
-use Rattle.pl_assets.specs.Labels.{Rule, BadHeader, TooMany, BadField, LabelTooLong, UnknownSid, DuplicateStart, LabelTable, rules, header, in_column, table_of}
+use Rattle.pl_assets.specs.Labels.{DataFault, BadHeader, TooMany, BadField, LabelTooLong, UnknownSid, DuplicateStart, LabelTable, rules, header, in_column, table_of}
 use Rattle.pl_spec.specs.Limits.{most_labels, most_label_bytes}
 
 -- the record is the name, the sid, without sign and leading zeros, the date of the start and the text of the
@@ -33,13 +33,13 @@ abbrev pub StartWith : ColumnLabel → ColumnLabel → Type 0
 StartWith row x = (x.name ≡ row.name) × (x.col ≡ row.col) × (x.start ≡ row.start)
 
 -- what it is to break each rule
-abbrev pub Breaks : List AssetRow → List ColumnLabel → Record → Rule → Type 0
-Breaks assets before r BadHeader = ⊥
+abbrev pub Breaks : List AssetRow → List ColumnLabel → Record → DataFault → Type 0
 Breaks assets before r TooMany = most_labels ≤ length before
 Breaks assets before r BadField = (l : LabelRow) → ¬ IsLabelRecord r l
 Breaks assets before r LabelTooLong = (l : LabelRow) × IsLabelRecord r l × (most_label_bytes < length l.text)
 Breaks assets before r UnknownSid = (l : LabelRow) × IsLabelRecord r l × ((col : ℕ) → ¬ HasSid assets col l.sid)
 Breaks assets before r DuplicateStart = (row : ColumnLabel) × IsRowRecord assets r row × Any (StartWith row) before
+Breaks assets before r fault = ⊥
 
 -- the record is the next row
 abbrev pub IsLabel : List AssetRow → List ColumnLabel → Record → ColumnLabel → Type 0
@@ -50,6 +50,6 @@ abbrev pub AreLabelsOf : List AssetRow → List Record → LabelTable → Type 0
 AreLabelsOf assets records table = IsMadeUnder header (IsLabel assets) table_of records table
 
 -- no header, or the first faulty record
-abbrev pub IsLabelsFault : List AssetRow → List Record → Fault Rule → Type 0
+abbrev pub IsLabelsFault : List AssetRow → List Record → Fault DataFault → Type 0
 IsLabelsFault assets records fault =
     IsFaultUnder header BadHeader (IsLabel assets) (λ before r. IsFirstBroken rules (Breaks assets before r)) records fault

@@ -14,6 +14,8 @@ use Rattle.pl_spec.specs.World.{LabelRow, last_started, nonempty, is_label_of}
 use Rattle.pl_spec.specs.declared.AssetRow.{AssetRow}
 use Rattle.pl_lifetimes.specs.Assets.{col_in, placed, sid_of}
 use Rattle.pl_spec.specs.Limits.{most_labels, most_label_bytes}
+pub use Rattle.pl_records.specs.declared.fault.DataFault.{DataFault}
+pub use Rattle.pl_records.specs.declared.fault.DataFault.TheVariants.{BadHeader, TooMany, BadField, LabelTooLong, UnknownSid, DuplicateStart}
 
 -- the rows of labels, and the distinct texts in them: a text's place in that list, from 0, is its code
 pub record LabelTable : Type 0 where
@@ -65,10 +67,6 @@ label_on rows name col day =
 
 -- ---- the records of a file
 
--- what may be wrong with a file
-pub data Rule : Type 0 where
-  BadHeader TooMany BadField LabelTooLong UnknownSid DuplicateStart : Rule
-
 abbrev pub header : Record
 header = codes "name" ∷ codes "sid" ∷ codes "start" ∷ codes "label" ∷ []
 
@@ -97,27 +95,27 @@ abbrev pub row_of : List AssetRow → Record → Option ColumnLabel
 row_of assets r = placed label_in (λ l. l.sid) in_column assets r
 
 -- the rules of a record after the header, in the order in which they are tested, and their tests
-abbrev pub rules : List Rule
+abbrev pub rules : List DataFault
 rules = TooMany ∷ BadField ∷ LabelTooLong ∷ UnknownSid ∷ DuplicateStart ∷ []
 
-abbrev pub breaks : List AssetRow → List ColumnLabel → Record → Rule → Bool
-breaks assets before r BadHeader = false
+abbrev pub breaks : List AssetRow → List ColumnLabel → Record → DataFault → Bool
 breaks assets before r TooMany = nat_le most_labels (length before)
 breaks assets before r BadField = lacks (label_in r)
 breaks assets before r LabelTooLong = has (λ l. nat_lt most_label_bytes (length l.text)) (label_in r)
 breaks assets before r UnknownSid = has (λ l. lacks (col_in assets l.sid)) (label_in r)
 breaks assets before r DuplicateStart = has (λ row. list_any (is_from row.name row.col row.start) before) (row_of assets r)
+breaks assets before r fault = false
 
 -- the row of a record after the rows before it, or the first rule that it breaks
-unfoldable pub label_or_rule : List AssetRow → List ColumnLabel → Record → Result ColumnLabel Rule
+unfoldable pub label_or_rule : List AssetRow → List ColumnLabel → Record → Result ColumnLabel DataFault
 label_or_rule assets before r = first_broken rules (breaks assets before r) (ok_or (row_of assets r) BadField)
 
 -- the rows of a file in its order, or its first fault
-unfoldable pub label_rows_in : List AssetRow → List Record → Result (List ColumnLabel) (Fault Rule)
+unfoldable pub label_rows_in : List AssetRow → List Record → Result (List ColumnLabel) (Fault DataFault)
 label_rows_in assets records = rows_under header BadHeader (label_or_rule assets) records
 
 -- the same with their texts
-unfoldable pub labels_of : List AssetRow → List Record → Result LabelTable (Fault Rule)
+unfoldable pub labels_of : List AssetRow → List Record → Result LabelTable (Fault DataFault)
 labels_of assets records = label_rows_in assets records >>= λ rows. Ok (table_of rows)
 
 -- ---- labels as they are kept

@@ -26,7 +26,7 @@ pub fn labels_in_plain_words()
         (table : labels.LabelTable) → (labels.labels_of assets records ≡ Ok table)
         ↔ label_rules.AreLabelsOf assets records table }
     ensures fault { (assets : List AssetRow) → AreAssets assets → (records : List Record)
-        (fault : Fault labels.Rule) → (labels.labels_of assets records ≡ Err fault)
+        (fault : Fault labels.DataFault) → (labels.labels_of assets records ≡ Err fault)
         ↔ label_rules.IsLabelsFault assets records fault }
 {}
 

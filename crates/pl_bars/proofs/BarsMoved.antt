@@ -6,7 +6,7 @@ use Rattle.pl_spec.specs.declared.AssetRow.{AssetRow}
 use Rattle.pl_spec.specs.declared.BarRow.{BarRow}
 use Rattle.pl_records.specs.Reading.{Record}
 use Rattle.pl_records.proofs.Orders.{Looks, under-sorted}
-use Rattle.pl_bars.specs.Bars.{Rule, breaks, is_at, bar_of, bar_or_rule, key_of, rows_in, bars_of, header}
+use Rattle.pl_bars.specs.Bars.{DataFault, breaks, is_at, bar_of, bar_or_rule, key_of, rows_in, bars_of, header}
 use Rattle.pl_bars.specs.Bars as rules
 use Rattle.pl_bars.proofs.BarsRead.{AreKept-read}
 
@@ -20,14 +20,10 @@ flips a b = either b.col b.session a.col a.session
     either m n i j = grind (arith, nat_tests)
 
 module _ (days : List ℤ) (assets : List AssetRow) where
-  looks : (q : Rule) → Looks most_bars clash (bar_of days assets) (breaks days assets) q
-  looks rules.BadHeader = inr (inr (λ before r. refl))
+  looks : (q : DataFault) → Looks most_bars clash (bar_of days assets) (breaks days assets) q
   looks rules.TooMany = inl (λ before r. refl)
-  looks rules.BadField = inr (inr (λ before r. refl))
-  looks rules.NotSession = inr (inr (λ before r. refl))
-  looks rules.UnknownSid = inr (inr (λ before r. refl))
-  looks rules.Negative = inr (inr (λ before r. refl))
   looks rules.Duplicate = inr (inl (λ before r. refl))
+  looks fault = inr (inr (λ before r. refl))
 
   pub bars-moved : length days ≤ most_sessions → (first : Record) (records others : List Record) → IsPermutation records others → (bars : List BarRow)
       → bars_of days assets (first ∷ records) ≡ Ok bars → bars_of days assets (first ∷ others) ≡ Ok bars

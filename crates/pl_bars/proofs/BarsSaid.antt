@@ -21,7 +21,7 @@ use Rattle.pl_spec.proofs.Signed.{int_eq-true}
 use Rattle.pl_calendar.specs.Days.{AreDays}
 use Rattle.pl_lifetimes.specs.Assets.{col_in, AreAssets}
 use Rattle.pl_bars.specs.declared.fields.Fields.{Fields}
-use Rattle.pl_bars.specs.Bars.{Rule, breaks, session_in, placed_at, bar_of, header, fields_in, is_negative, is_at, bar_or_rule, key_of, rows_in, bars_of}
+use Rattle.pl_bars.specs.Bars.{DataFault, breaks, session_in, placed_at, bar_of, header, fields_in, is_negative, is_at, bar_or_rule, key_of, rows_in, bars_of}
 use Rattle.pl_bars.specs.Bars as rules
 use Rattle.pl_bars.specs.Rules.{IsBarRecord, IsNegative, IsRowRecord, IsBar, Breaks, AreBarsOf, IsBarsFault}
 use Rattle.pl_bars.proofs.BarFields.{fields_form, IsNegative-test, is_negative-test}
@@ -74,16 +74,16 @@ module _ (days : List ℤ) (assets : List AssetRow) (ud : AreDays days) (ua : Ar
           rw ((fields_form r h.fields).1 h.written, (day_form days ud h.fields.day b.session).1 h.placed.day, (sid_form assets ua h.fields.sid b.col).1 h.placed.sid)
           (ap (λ cells. Some (record { col = b.col; session = b.session; cells = cells })) (sym h.cells))
 
-  tells : (before : List BarRow) (r : Record) (q : Rule) → Decides (breaks days assets before r q) (Breaks days assets before r q)
-  tells before r rules.BadHeader = (λ t. absurd (let bad : false ≡ true = t in cc), λ h. absurd h)
+  tells : (before : List BarRow) (r : Record) (q : DataFault) → Decides (breaks days assets before r q) (Breaks days assets before r q)
   tells before r rules.TooMany = (λ t. grind (arith, nat_tests), λ h. grind (arith, nat_tests))
   tells before r rules.BadField = lacks-tells fields_in IsBarRecord fields_form r
   tells before r rules.NotSession = has-tells fields_in IsBarRecord fields_form _ _ (λ f. no_session_tells days ud f.day) r
   tells before r rules.UnknownSid = has-tells fields_in IsBarRecord fields_form _ _ (λ f. unknown_tells assets ua f.sid) r
   tells before r rules.Negative = has-tells fields_in IsBarRecord fields_form _ _ negative_tells r
   tells before r rules.Duplicate = has-tells (bar_of days assets) (IsRowRecord days assets) bar_form _ _ (place_tells before) r
+  tells before r fault = (λ t. absurd (let bad : false ≡ true = t in cc), λ h. absurd h)
 
-abbrev Told : List ℤ → List AssetRow → List BarRow → Record → Rule → Type 0
+abbrev Told : List ℤ → List AssetRow → List BarRow → Record → DataFault → Type 0
 Told days assets before r rule = IsFirstBroken rules.rules (Breaks days assets before r) rule
 
 pub bars_judged : (days : List ℤ) (assets : List AssetRow) → AreDays days → AreAssets assets → Judges (IsBar days assets) (Told days assets) (bar_or_rule days assets)
@@ -129,7 +129,7 @@ bars-are days assets ud ua records bars = (forth, back)
         let e : rows_in days assets records ≡ Ok h.rows = (under h.rows).1 h.read in
         sorted.1 (h.rows, e, h.same, keys-from_ascend bars (small h.rows e h.same) h.ascend)
 
-pub bars-fault : (days : List ℤ) (assets : List AssetRow) → AreDays days → AreAssets assets → (records : List Record) (fault : Fault Rule) → (bars_of days assets records ≡ Err fault) ↔ IsBarsFault days assets records fault
+pub bars-fault : (days : List ℤ) (assets : List AssetRow) → AreDays days → AreAssets assets → (records : List Record) (fault : Fault DataFault) → (bars_of days assets records ≡ Err fault) ↔ IsBarsFault days assets records fault
 unfolding bars_of rows_in
 bars-fault days assets ud ua =
     made-fault header rules.BadHeader (IsBar days assets) (Told days assets) (bar_or_rule days assets) (bars_judged days assets ud ua) (sorted_by key_of)

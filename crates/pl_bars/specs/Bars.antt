@@ -20,10 +20,8 @@ use Rattle.pl_lifetimes.specs.Assets.{col_in}
 use Rattle.pl_bars.specs.declared.fields.Fields.{Fields}
 use Rattle.pl_spec.specs.Limits.{most_bars}
 use Rattle.pl_spec.specs.World.{column_number}
-
--- what may be wrong with a file
-pub data Rule : Type 0 where
-  BadHeader TooMany BadField NotSession UnknownSid Negative Duplicate : Rule
+pub use Rattle.pl_records.specs.declared.fault.DataFault.{DataFault}
+pub use Rattle.pl_records.specs.declared.fault.DataFault.TheVariants.{BadHeader, TooMany, BadField, NotSession, UnknownSid, Negative, Duplicate}
 
 abbrev pub header : Record
 header = codes "sid" ∷ codes "session" ∷ codes "open" ∷ codes "high" ∷ codes "low" ∷ codes "close" ∷ codes "volume" ∷ []
@@ -66,11 +64,10 @@ bar_of days assets r =
     (session_in days f.day)) (fields_in r)
 
 -- the rules of a record after the header, in the order in which they are tested, and their tests
-abbrev pub rules : List Rule
+abbrev pub rules : List DataFault
 rules = TooMany ∷ BadField ∷ NotSession ∷ UnknownSid ∷ Negative ∷ Duplicate ∷ []
 
-abbrev pub breaks : List ℤ → List AssetRow → List BarRow → Record → Rule → Bool
-breaks days assets before r BadHeader = false
+abbrev pub breaks : List ℤ → List AssetRow → List BarRow → Record → DataFault → Bool
 breaks days assets before r TooMany = nat_le most_bars (length before)
 breaks days assets before r BadField = lacks (fields_in r)
 breaks days assets before r NotSession = has (λ f. lacks (session_in days f.day)) (fields_in r)
@@ -78,9 +75,10 @@ breaks days assets before r UnknownSid = has (λ f. lacks (col_in assets f.sid))
 breaks days assets before r Negative = has (λ f. list_any is_negative f.cells) (fields_in r)
 breaks days assets before r Duplicate =
     has (λ b. list_any (is_at b.col b.session) before) (bar_of days assets r)
+breaks days assets before r fault = false
 
 -- the bar of a record after the bars before it, or the first rule that it breaks
-unfoldable pub bar_or_rule : List ℤ → List AssetRow → List BarRow → Record → Result BarRow Rule
+unfoldable pub bar_or_rule : List ℤ → List AssetRow → List BarRow → Record → Result BarRow DataFault
 bar_or_rule days assets before r = first_broken rules (breaks days assets before r) (ok_or (bar_of days assets r) BadField)
 
 -- a number that rises by column, and then by session
@@ -88,11 +86,11 @@ abbrev pub key_of : BarRow → ℕ
 key_of b = b.col * 2 ^ 32 + b.session
 
 -- the bars of a file in its order, or its first fault
-unfoldable pub rows_in : List ℤ → List AssetRow → List Record → Result (List BarRow) (Fault Rule)
+unfoldable pub rows_in : List ℤ → List AssetRow → List Record → Result (List BarRow) (Fault DataFault)
 rows_in days assets records = rows_under header BadHeader (bar_or_rule days assets) records
 
 -- the same by column and session
-unfoldable pub bars_of : List ℤ → List AssetRow → List Record → Result (List BarRow) (Fault Rule)
+unfoldable pub bars_of : List ℤ → List AssetRow → List Record → Result (List BarRow) (Fault DataFault)
 bars_of days assets records = rows_in days assets records >>= λ rows. Ok (sorted_by key_of rows)
 
 -- ---- bars as they are kept

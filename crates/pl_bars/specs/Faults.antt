@@ -1,12 +1,12 @@
 -- The fault that an error tells; want of memory tells none.
 use Rattle.std.specs.Prelude.{Option, Some, None}
 use Rattle.pl_records.specs.Reading.{Fault}
-use Rattle.pl_bars.specs.Bars.{Rule}
+use Rattle.pl_bars.specs.Bars.{DataFault}
 use Rattle.pl_bars.specs.Bars as rules
 use Rattle.pl_bars.specs.declared.error.BarsError.{BarsError}
 use Rattle.pl_bars.specs.declared.error.BarsError.TheVariants.{BadHeader, BadField, NotSession, UnknownSid, Negative, Duplicate, TooMany, Memory}
 
-abbrev pub fault_of : BarsError → Option (Fault Rule)
+abbrev pub fault_of : BarsError → Option (Fault DataFault)
 fault_of BadHeader = Some (record { rule = rules.BadHeader; line = 1 })
 fault_of (BadField line) = Some (record { rule = rules.BadField; line = line })
 fault_of (NotSession line) = Some (record { rule = rules.NotSession; line = line })

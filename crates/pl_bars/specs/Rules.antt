@@ -10,7 +10,7 @@ use Rattle.pl_spec.specs.declared.AssetRow.{AssetRow}
 use Rattle.pl_spec.specs.declared.BarRow.{BarRow}
 use Rattle.pl_lifetimes.specs.Assets.{HasSid}
 use Rattle.pl_bars.specs.declared.fields.Fields.{Fields}
-use Rattle.pl_bars.specs.Bars.{Rule, BadHeader, TooMany, BadField, NotSession, UnknownSid, Negative, Duplicate, rules, header, is_before}
+use Rattle.pl_bars.specs.Bars.{DataFault, BadHeader, TooMany, BadField, NotSession, UnknownSid, Negative, Duplicate, rules, header, is_before}
 use Rattle.pl_spec.specs.Limits.{most_bars}
 
 -- the text is empty and the cell missing, or it is a decimal that is read as the cell
@@ -43,8 +43,7 @@ pub record IsRowRecord (days : List ℤ) (assets : List AssetRow) (r : Record) (
   pub cells : b.cells ≡ fields.cells
 
 -- what it is to break each rule
-abbrev pub Breaks : List ℤ → List AssetRow → List BarRow → Record → Rule → Type 0
-Breaks days assets before r BadHeader = ⊥
+abbrev pub Breaks : List ℤ → List AssetRow → List BarRow → Record → DataFault → Type 0
 Breaks days assets before r TooMany = most_bars ≤ length before
 Breaks days assets before r BadField = (f : Fields) → ¬ IsBarRecord r f
 Breaks days assets before r NotSession = (f : Fields) × IsBarRecord r f × ((session : ℕ) → ¬ (slice_get days session ≡ Some f.day))
@@ -52,6 +51,7 @@ Breaks days assets before r UnknownSid = (f : Fields) × IsBarRecord r f × ((co
 Breaks days assets before r Negative = (f : Fields) × IsBarRecord r f × Any IsNegative f.cells
 Breaks days assets before r Duplicate =
     (b : BarRow) × IsRowRecord days assets r b × Any (λ x. (x.col ≡ b.col) × (x.session ≡ b.session)) before
+Breaks days assets before r fault = ⊥
 
 -- the record is the next bar
 abbrev pub IsBar : List ℤ → List AssetRow → List BarRow → Record → BarRow → Type 0
@@ -65,6 +65,6 @@ pub record AreBarsOf (days : List ℤ) (assets : List AssetRow) (records : List 
   pub ascend : AllPairs (λ a b. IsTrue (is_before b.col b.session a)) bars
 
 -- no header, or the first faulty record
-abbrev pub IsBarsFault : List ℤ → List AssetRow → List Record → Fault Rule → Type 0
+abbrev pub IsBarsFault : List ℤ → List AssetRow → List Record → Fault DataFault → Type 0
 IsBarsFault days assets records fault =
     IsFaultUnder header BadHeader (IsBar days assets) (λ before r. IsFirstBroken rules (Breaks days assets before r)) records fault

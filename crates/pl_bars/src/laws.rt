@@ -9,7 +9,7 @@ ghost use Rattle.pl_records.specs.Reading.{Record, Fault, Judges};
 ghost use Rattle.pl_records.specs.RuleTable.{IsFirstBroken};
 ghost use Rattle.pl_calendar.specs.Days.{AreDays};
 ghost use Rattle.pl_lifetimes.specs.Assets.{AreAssets};
-ghost use Rattle.pl_bars.specs.Bars.{bars_of, Rule, rules, bar_or_rule};
+ghost use Rattle.pl_bars.specs.Bars.{bars_of, DataFault, rules, bar_or_rule};
 ghost use Rattle.pl_bars.specs.Rules.{AreBarsOf, Breaks, IsBar, IsBarsFault};
 ghost use Rattle.pl_bars.specs.Worlds.{CellsAreRaw};
 
@@ -24,7 +24,7 @@ pub fn bars_in_plain_words()
         → (records : List Record) (bars : List BarRow) → (bars_of days assets records ≡ Ok bars)
         ↔ AreBarsOf days assets records bars }
     ensures fault { (days : List ℤ) (assets : List AssetRow) → AreDays days → AreAssets assets
-        → (records : List Record) (fault : Fault Rule) → (bars_of days assets records ≡ Err fault)
+        → (records : List Record) (fault : Fault DataFault) → (bars_of days assets records ≡ Err fault)
         ↔ IsBarsFault days assets records fault }
 {}
 

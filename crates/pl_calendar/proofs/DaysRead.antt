@@ -11,7 +11,7 @@ use Rattle.pl_spec.proofs.DatesWritten.{IsDay-IsDate}
 use Rattle.std.proofs.lemmas.List.Elements.{All-push}
 use Rattle.std.proofs.lemmas.List.Quantifiers.{all_pairs_push}
 use Rattle.pl_records.proofs.Readings.{rows-keep, rows-as_many, rows-are, fault-is}
-use Rattle.pl_calendar.specs.Days.{Rule, rules, day_or_rule, sessions_of, AreDays}
+use Rattle.pl_calendar.specs.Days.{DataFault, rules, day_or_rule, sessions_of, AreDays}
 use Rattle.pl_calendar.specs.Days as days
 use Rattle.pl_calendar.specs.Rules.{IsSession, Breaks, IsSessionsFault}
 use Rattle.pl_spec.specs.Limits.{most_sessions}
@@ -59,12 +59,12 @@ AreFront-read records ds e =
 
 -- ---- a file with and without records
 
-pub sessions_of-err : (records : List Record) (f : Fault Rule) → rows_of 1 day_or_rule records ≡ Err f → sessions_of records ≡ Err f
+pub sessions_of-err : (records : List Record) (f : Fault DataFault) → rows_of 1 day_or_rule records ≡ Err f → sessions_of records ≡ Err f
 unfolding sessions_of rows_behind
 sessions_of-err [] f e = absurd (cc)
 sessions_of-err (r ∷ rs) f e = e
 
-pub sessions_of-err_if : (records : List Record) (o : Option (Fault Rule)) → IfSome o (λ f. rows_of 1 day_or_rule records ≡ Err f) → IfSome o (λ f. sessions_of records ≡ Err f)
+pub sessions_of-err_if : (records : List Record) (o : Option (Fault DataFault)) → IfSome o (λ f. rows_of 1 day_or_rule records ≡ Err f) → IfSome o (λ f. sessions_of records ≡ Err f)
 sessions_of-err_if records None h = tt
 sessions_of-err_if records (Some f) h = sessions_of-err records f h
 
@@ -98,11 +98,11 @@ sessions-are records ds =
     said : (records : List Record) (ds : List ℤ) → (rows_of 1 day_or_rule records ≡ Ok ds) ↔ AreRows IsSession records ds
     said = rows-are 1 IsSession (λ before r. IsFirstBroken rules (Breaks before r)) day_or_rule days_judged
 
-pub sessions-fault : (records : List Record) (f : Fault Rule) → (sessions_of records ≡ Err f) ↔ IsSessionsFault records f
+pub sessions-fault : (records : List Record) (f : Fault DataFault) → (sessions_of records ≡ Err f) ↔ IsSessionsFault records f
 unfolding sessions_of
 sessions-fault records f = (there records, back)
   where
-    told : (records : List Record) (f : Fault Rule) → (rows_of 1 day_or_rule records ≡ Err f) ↔ IsFirstFault 1 IsSession (λ before r. IsFirstBroken rules (Breaks before r)) records f
+    told : (records : List Record) (f : Fault DataFault) → (rows_of 1 day_or_rule records ≡ Err f) ↔ IsFirstFault 1 IsSession (λ before r. IsFirstBroken rules (Breaks before r)) records f
     told = fault-is 1 IsSession (λ before r. IsFirstBroken rules (Breaks before r)) day_or_rule days_judged
 
     there : (records : List Record) → sessions_of records ≡ Err f → IsSessionsFault records f

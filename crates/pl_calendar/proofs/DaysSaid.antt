@@ -8,7 +8,7 @@ use Rattle.pl_records.specs.Reading.{Record, field, Judges}
 use Rattle.pl_records.specs.RuleTable.{IsFirstBroken}
 use Rattle.pl_records.proofs.RuleTables.{when_some, lacks-tells, has-tells, Judges-table}
 use Rattle.pl_spec.proofs.DatesRead.{date_in-IsDate, IsDate-date_in}
-use Rattle.pl_calendar.specs.Days.{Rule, rules, breaks, day_in, last_of, is_later, day_or_rule}
+use Rattle.pl_calendar.specs.Days.{DataFault, rules, breaks, day_in, last_of, is_later, day_or_rule}
 use Rattle.pl_calendar.specs.Days as days
 use Rattle.pl_calendar.specs.Rules.{IsDayRecord, IsSession, Breaks}
 
@@ -31,11 +31,11 @@ late_tells before day = here (last_of before) refl
       λ h. (let one : Some h.0 ≡ Some last = sym h.1 ∙ e in let same : h.0 ≡ last = cc in let le : day ≤ℤ last = rw same at h.2 in grind (arith, ints)),
     )
 
-tells : (before : List ℤ) (r : Record) (q : Rule) → Decides (breaks before r q) (Breaks before r q)
+tells : (before : List ℤ) (r : Record) (q : DataFault) → Decides (breaks before r q) (Breaks before r q)
 tells before r days.TooMany = (λ t. grind (arith, nat_tests), λ h. grind (arith, nat_tests))
 tells before r days.BadDate = lacks-tells day_in IsDayRecord form r
 tells before r days.NotAscending = has-tells day_in IsDayRecord form _ _ (late_tells before) r
-tells before r days.Empty = (λ t. absurd (let bad : false ≡ true = t in cc), λ h. absurd h)
+tells before r fault = (λ t. absurd (let bad : false ≡ true = t in cc), λ h. absurd h)
 
 pub days_judged : Judges IsSession (λ before r. IsFirstBroken rules (Breaks before r)) day_or_rule
 unfolding day_or_rule

@@ -6,10 +6,8 @@ use Rattle.pl_records.specs.Reading.{Record, Fault, field, rows_of}
 use Rattle.pl_records.specs.RuleTable.{first_broken, lacks, has}
 use Rattle.pl_spec.specs.Dates.{IsDay, date_in}
 use Rattle.pl_spec.specs.Limits.{most_sessions}
-
--- what may be wrong with a file
-pub data Rule : Type 0 where
-  TooMany BadDate NotAscending Empty : Rule
+pub use Rattle.pl_records.specs.declared.fault.DataFault.{DataFault}
+pub use Rattle.pl_records.specs.declared.fault.DataFault.TheVariants.{TooMany, BadDate, NotAscending, Empty}
 
 -- the day of a record of one date
 abbrev pub day_in : Record → Option ℤ
@@ -24,21 +22,21 @@ abbrev pub is_later : List ℤ → ℤ → Bool
 is_later before day = unwrap_or (option_map (λ last. int_lt last day) (last_of before)) true
 
 -- the rules of a record, in the order in which they are tested, and their tests
-abbrev pub rules : List Rule
+abbrev pub rules : List DataFault
 rules = TooMany ∷ BadDate ∷ NotAscending ∷ []
 
-abbrev pub breaks : List ℤ → Record → Rule → Bool
+abbrev pub breaks : List ℤ → Record → DataFault → Bool
 breaks before r TooMany = nat_le most_sessions (length before)
 breaks before r BadDate = lacks (day_in r)
 breaks before r NotAscending = has (λ day. not (is_later before day)) (day_in r)
-breaks before r Empty = false
+breaks before r fault = false
 
 -- the day of a record after the days before it, or the first rule that it breaks
-unfoldable pub day_or_rule : List ℤ → Record → Result ℤ Rule
+unfoldable pub day_or_rule : List ℤ → Record → Result ℤ DataFault
 day_or_rule before r = first_broken rules (breaks before r) (ok_or (day_in r) BadDate)
 
 -- the days of a file, or its first fault
-unfoldable pub sessions_of : List Record → Result (List ℤ) (Fault Rule)
+unfoldable pub sessions_of : List Record → Result (List ℤ) (Fault DataFault)
 sessions_of [] = Err (record { rule = Empty; line = 1 })
 sessions_of (r ∷ rs) = rows_of 1 day_or_rule (r ∷ rs)
 

@@ -4,7 +4,7 @@
 ghost use Rattle.std.specs.Prelude.{◌≡◌, ◌<◌, ◌↔◌, ℤ, List, length, Ok, Err};
 ghost use Rattle.pl_records.specs.Reading.{Record, Fault, AreRows, Judges};
 ghost use Rattle.pl_records.specs.RuleTable.{IsFirstBroken};
-ghost use Rattle.pl_calendar.specs.Days.{Rule, rules, day_or_rule, sessions_of};
+ghost use Rattle.pl_calendar.specs.Days.{rules, day_or_rule, sessions_of, DataFault};
 ghost use Rattle.pl_spec.specs.Ages.{WeekdaysAreCounted};
 ghost use Rattle.pl_calendar.specs.Rules.{IsSession, Breaks, IsSessionsFault};
 
@@ -15,7 +15,7 @@ pub fn sessions_in_plain_words()
     ensures record { Judges IsSession (λ before r. IsFirstBroken rules (Breaks before r)) day_or_rule }
     ensures days { (records : List Record) (days : List ℤ) → (sessions_of records ≡ Ok days)
         ↔ ((0 < length days) × AreRows IsSession records days) }
-    ensures fault { (records : List Record) (fault : Fault Rule) → (sessions_of records ≡ Err fault)
+    ensures fault { (records : List Record) (fault : Fault DataFault) → (sessions_of records ≡ Err fault)
         ↔ IsSessionsFault records fault }
 {}
 

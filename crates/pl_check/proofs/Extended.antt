@@ -1,5 +1,5 @@
 -- The trees of a script only grow: what is judged later comes last.
-use Rattle.std.proofs.Common.{◌≡◌, ℕ, false, List, [], ◌∷◌, ◌++◌, length, map, Option, Result, refl, sym, ap, subst, ◌∙◌, append_assoc, append-nil, Some, None, cond}
+use Rattle.std.proofs.Common.{◌≡◌, ℕ, false, List, [], ◌∷◌, ◌++◌, length, map, Option, Result, refl, sym, ap, subst, ◌∙◌, append_assoc, append-nil, Some, None}
 use Rattle.std.specs.Prelude.{filter_map, option_to_list, not, is_some, nat_le, nat_lt, bytes_eq}
 use Rattle.std.specs.List.{list_any}
 use Rattle.pl_spec.specs.Limits.{most_columns}

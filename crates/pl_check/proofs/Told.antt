@@ -1,5 +1,5 @@
 -- What is found by one member after another.
-use Rattle.std.proofs.Common.{◌≡◌, List, [], ◌∷◌, length, Option, Some, None, option_map, Result, Ok, Err, refl, sym, subst, arith}
+use Rattle.std.proofs.Common.{◌≡◌, List, [], ◌∷◌, length, Some, None, Result, Ok, Err, refl, sym, subst, arith}
 use Rattle.std.proofs.lemmas.Result.{IfOk-at_ok}
 use Rattle.pl_pipeline.specs.Term.{Graph}
 use Rattle.pl_grammar.specs.declared.Place.{Place}
@@ -15,7 +15,7 @@ use Rattle.pl_check.specs.Answers.{Finds}
 use Rattle.pl_check.specs.Faults.{Broken, ◌>>=◌}
 use Rattle.pl_check.specs.Values.{Value}
 use Rattle.pl_check.specs.Rules.{Written}
-use Rattle.pl_check.specs.Typed.{Terms, Found, found, called, method_of, written, kept_where, greatest_where, one_asset, mask_of}
+use Rattle.pl_check.specs.Typed.{Terms, Found, found, called, written, kept_where, greatest_where, one_asset, mask_of}
 use Rattle.pl_check.specs.Standing.{IsInGraph, WrittenAreInGraph, IsSound, Kept}
 use Rattle.pl_check.proofs.Listed.{few-none}
 use Rattle.pl_check.proofs.Walk.{called-kept, method-kept, mask-stands}

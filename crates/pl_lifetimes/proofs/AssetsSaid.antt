@@ -15,7 +15,7 @@ use Rattle.pl_records.proofs.RuleTables.{any-tells, lacks-tells, has-tells, Judg
 use Rattle.pl_records.proofs.Sorts.{sorted-are}
 use Rattle.pl_spec.proofs.DatesRead.{date_in-IsDate}
 use Rattle.pl_spec.proofs.SidsRead.{sid_in-decimal}
-use Rattle.pl_lifetimes.specs.Assets.{Rule, breaks, asset_in, asset_or_rule, rows_in, assets_of, sid_of, header}
+use Rattle.pl_lifetimes.specs.Assets.{DataFault, breaks, asset_in, asset_or_rule, rows_in, assets_of, sid_of, header}
 use Rattle.pl_lifetimes.specs.Assets as rules
 use Rattle.pl_lifetimes.specs.Rules.{IsAssetRecord, IsAsset, Breaks, AreAssetsOf, IsAssetsFault}
 use Rattle.pl_lifetimes.proofs.AssetsRead.{IsAssetRecord-asset_in, OwnSids-read}
@@ -42,12 +42,12 @@ late_tells a = below a.end a.start
 sid_tells : (before : List AssetRow) (a : AssetRow) → Decides (list_any (λ x. sid_of x == a.sid) before) (Any (λ b. b.sid ≡ a.sid) before)
 sid_tells before a = any-tells (λ x. sid_of x == a.sid) (λ b. b.sid ≡ a.sid) (λ x. (eqb-true x.sid a.sid, eq-eqb x.sid a.sid)) before
 
-tells : (before : List AssetRow) (r : Record) (q : Rule) → Decides (breaks before r q) (Breaks before r q)
-tells before r rules.BadHeader = (λ t. absurd (let bad : false ≡ true = t in cc), λ h. absurd h)
+tells : (before : List AssetRow) (r : Record) (q : DataFault) → Decides (breaks before r q) (Breaks before r q)
 tells before r rules.TooMany = (λ t. grind (arith, nat_tests), λ h. grind (arith, nat_tests))
 tells before r rules.BadField = lacks-tells asset_in IsAssetRecord form r
 tells before r rules.StartAfterEnd = has-tells asset_in IsAssetRecord form _ _ late_tells r
 tells before r rules.DuplicateSid = has-tells asset_in IsAssetRecord form _ _ (sid_tells before) r
+tells before r fault = (λ t. absurd (let bad : false ≡ true = t in cc), λ h. absurd h)
 
 pub assets_judged : Judges IsAsset (λ before r. IsFirstBroken rules.rules (Breaks before r)) asset_or_rule
 unfolding asset_or_rule
@@ -71,6 +71,6 @@ assets-are records assets = (there, back)
     back : AreAssetsOf records assets → assets_of records ≡ Ok assets
     back h = sorted.1 (h.rows, (under h.rows).1 h.read, h.same, h.ascend)
 
-pub assets-fault : (records : List Record) (fault : Fault Rule) → (assets_of records ≡ Err fault) ↔ IsAssetsFault records fault
+pub assets-fault : (records : List Record) (fault : Fault DataFault) → (assets_of records ≡ Err fault) ↔ IsAssetsFault records fault
 unfolding assets_of rows_in
 assets-fault = made-fault header rules.BadHeader IsAsset (λ before r. IsFirstBroken rules.rules (Breaks before r)) asset_or_rule assets_judged (sorted_by sid_of)

@@ -10,10 +10,8 @@ use Rattle.pl_spec.specs.Dates.{date_in}
 use Rattle.pl_spec.specs.Decimals.{sid_in}
 use Rattle.pl_spec.specs.declared.AssetRow.{AssetRow}
 use Rattle.pl_spec.specs.Limits.{most_assets}
-
--- what may be wrong with a file
-pub data Rule : Type 0 where
-  BadHeader TooMany BadField StartAfterEnd DuplicateSid : Rule
+pub use Rattle.pl_records.specs.declared.fault.DataFault.{DataFault}
+pub use Rattle.pl_records.specs.declared.fault.DataFault.TheVariants.{BadHeader, TooMany, BadField, StartAfterEnd, DuplicateSid}
 
 abbrev pub header : Record
 header = codes "sid" ∷ codes "start" ∷ codes "end" ∷ []
@@ -30,26 +28,26 @@ abbrev pub sid_of : AssetRow → ℕ
 sid_of a = a.sid
 
 -- the rules of a record after the header, in the order in which they are tested, and their tests
-abbrev pub rules : List Rule
+abbrev pub rules : List DataFault
 rules = TooMany ∷ BadField ∷ StartAfterEnd ∷ DuplicateSid ∷ []
 
-abbrev pub breaks : List AssetRow → Record → Rule → Bool
-breaks before r BadHeader = false
+abbrev pub breaks : List AssetRow → Record → DataFault → Bool
 breaks before r TooMany = nat_le most_assets (length before)
 breaks before r BadField = lacks (asset_in r)
 breaks before r StartAfterEnd = has (λ a. int_lt a.end a.start) (asset_in r)
 breaks before r DuplicateSid = has (λ a. list_any (λ x. sid_of x == a.sid) before) (asset_in r)
+breaks before r fault = false
 
 -- the asset of a record after the assets before it, or the first rule that it breaks
-unfoldable pub asset_or_rule : List AssetRow → Record → Result AssetRow Rule
+unfoldable pub asset_or_rule : List AssetRow → Record → Result AssetRow DataFault
 asset_or_rule before r = first_broken rules (breaks before r) (ok_or (asset_in r) BadField)
 
 -- the assets of a file in its order, or its first fault
-unfoldable pub rows_in : List Record → Result (List AssetRow) (Fault Rule)
+unfoldable pub rows_in : List Record → Result (List AssetRow) (Fault DataFault)
 rows_in records = rows_under header BadHeader asset_or_rule records
 
 -- the same by ascending sid
-unfoldable pub assets_of : List Record → Result (List AssetRow) (Fault Rule)
+unfoldable pub assets_of : List Record → Result (List AssetRow) (Fault DataFault)
 assets_of records = rows_in records >>= λ rows. Ok (sorted_by sid_of rows)
 
 -- assets as they are kept

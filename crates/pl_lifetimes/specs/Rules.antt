@@ -5,7 +5,7 @@ use Rattle.pl_records.specs.Reading.{Record, Fault, field, AreRowsUnder, IsFault
 use Rattle.pl_records.specs.RuleTable.{IsFirstBroken, KeepsAll}
 use Rattle.pl_spec.specs.Dates.{IsDate}
 use Rattle.pl_spec.specs.declared.AssetRow.{AssetRow}
-use Rattle.pl_lifetimes.specs.Assets.{Rule, BadHeader, TooMany, BadField, StartAfterEnd, DuplicateSid, rules, header}
+use Rattle.pl_lifetimes.specs.Assets.{DataFault, BadHeader, TooMany, BadField, StartAfterEnd, DuplicateSid, rules, header}
 use Rattle.pl_spec.specs.Limits.{most_assets}
 
 -- the record is the sid of the asset, without sign and leading zeros, and its two days
@@ -17,12 +17,12 @@ pub record IsAssetRecord (r : Record) (a : AssetRow) : Type 0 where
   pub end : IsDate (field r 2) a.end
 
 -- what it is to break each rule
-abbrev pub Breaks : List AssetRow → Record → Rule → Type 0
-Breaks before r BadHeader = ⊥
+abbrev pub Breaks : List AssetRow → Record → DataFault → Type 0
 Breaks before r TooMany = most_assets ≤ length before
 Breaks before r BadField = (a : AssetRow) → ¬ IsAssetRecord r a
 Breaks before r StartAfterEnd = (a : AssetRow) × IsAssetRecord r a × (a.end <ℤ a.start)
 Breaks before r DuplicateSid = (a : AssetRow) × IsAssetRecord r a × Any (λ b. b.sid ≡ a.sid) before
+Breaks before r fault = ⊥
 
 -- the record is the next asset
 abbrev pub IsAsset : List AssetRow → Record → AssetRow → Type 0
@@ -36,5 +36,5 @@ pub record AreAssetsOf (records : List Record) (assets : List AssetRow) : Type 0
   pub ascend : AllPairs (λ a b. a.sid < b.sid) assets
 
 -- no header, or the first faulty record
-abbrev pub IsAssetsFault : List Record → Fault Rule → Type 0
+abbrev pub IsAssetsFault : List Record → Fault DataFault → Type 0
 IsAssetsFault records fault = IsFaultUnder header BadHeader IsAsset (λ before r. IsFirstBroken rules (Breaks before r)) records fault

@@ -5,7 +5,7 @@ ghost use Rattle.std.specs.Prelude.{◌≡◌, ◌↔◌, ◌∷◌, List, IsPer
 ghost use Rattle.pl_spec.specs.declared.AssetRow.{AssetRow};
 ghost use Rattle.pl_records.specs.Reading.{Record, Fault, Judges};
 ghost use Rattle.pl_records.specs.RuleTable.{IsFirstBroken};
-ghost use Rattle.pl_lifetimes.specs.Assets.{Rule, assets_of, rules, asset_or_rule};
+ghost use Rattle.pl_lifetimes.specs.Assets.{DataFault, assets_of, rules, asset_or_rule};
 ghost use Rattle.pl_lifetimes.specs.Rules.{AreAssetsOf, Breaks, IsAsset, IsAssetsFault};
 
 /// A file is read as assets exactly where it has its header and each further record is an asset with a sid of
@@ -15,7 +15,7 @@ pub fn assets_in_plain_words()
     ensures record { Judges IsAsset (λ before r. IsFirstBroken rules (Breaks before r)) asset_or_rule }
     ensures assets { (records : List Record) (assets : List AssetRow) → (assets_of records ≡ Ok assets)
         ↔ AreAssetsOf records assets }
-    ensures fault { (records : List Record) (fault : Fault Rule) → (assets_of records ≡ Err fault)
+    ensures fault { (records : List Record) (fault : Fault DataFault) → (assets_of records ≡ Err fault)
         ↔ IsAssetsFault records fault }
 {}
 

@@ -6,6 +6,7 @@ use Rattle.std.specs.Option.{ForSome, option_or}
 use Rattle.std.proofs.lemmas.Bool.Decides.{nat_tests}
 use Rattle.std.proofs.lemmas.List.{length-replicate}
 use Rattle.pl_records.specs.Reading as reading
+use Rattle.pl_records.specs.declared.fault.DataFault.{DataFault}
 use Rattle.pl_outside.specs.Counts.{Rose}
 use Rattle.pl_outside.specs.Files.{Files, BeginsAll}
 use Rattle.pl_words.specs.declared.request.InputFile.{InputFile}
@@ -262,7 +263,7 @@ pub read-fails : {T : Type 0} {c : Change ShelfView} {name : Option (List ℕ)} 
 read-fails f rule Means fault h = file-fails-alike f rule Means fault h
 
 -- the fault that an error of a reader tells
-pub reader-tells : {A R : Type 0} (says : ℕ → R → Fault) (read : Result A (reading.Fault R)) (o : Option (reading.Fault R)) (fault : Fault)
-    → fault ≡ line_fault says o → IfSome o (λ f. read ≡ Err f) → (fault_in says read ≡ Some fault) ⊎ (fault ≡ Memory)
-reader-tells says read None fault e h = inr e
-reader-tells says read (Some f) fault e h = inl (rw (h, e) refl)
+pub reader-tells : {A : Type 0} (file : InputFile) (read : Result A (reading.Fault DataFault)) (o : Option (reading.Fault DataFault)) (fault : Fault)
+    → fault ≡ line_fault file o → IfSome o (λ f. read ≡ Err f) → (fault_in file read ≡ Some fault) ⊎ (fault ≡ Memory)
+reader-tells file read None fault e h = inr e
+reader-tells file read (Some f) fault e h = inl (rw (h, e) refl)

@@ -1,6 +1,7 @@
 -- The status of a fault, and the line that tells it.
 use Rattle.std.specs.Prelude.{ℕ, List, [], ◌∷◌, ◌++◌, Option, Some, None, codes, decimal, unwrap_or}
 use Rattle.std.specs.Fmt.{signed_decimal}
+use Rattle.pl_records.specs.FaultNames.{name_of}
 use Rattle.pl_outside.specs.declared.keeper.Table.{Table}
 use Rattle.pl_outside.specs.declared.keeper.Table.TheVariants.{Splits, Mergers, Dividends}
 use Rattle.pl_grammar.specs.declared.Place.{Place}
@@ -12,8 +13,6 @@ use Rattle.pl_load.specs.declared.fault.SyntaxFault.{SyntaxFault}
 use Rattle.pl_load.specs.declared.fault.SyntaxFault.TheVariants.{BadByte, Unexpected, TooDeep, NumberTooLarge, LongStatement}
 use Rattle.pl_load.specs.declared.fault.RuleFault.{RuleFault}
 use Rattle.pl_load.specs.declared.fault.RuleFault.TheVariants as rules
-use Rattle.pl_load.specs.declared.fault.DataFault.{DataFault}
-use Rattle.pl_load.specs.declared.fault.DataFault.TheVariants.{BadHeader, Empty, BadDate, NotAscending, BadField, StartAfterEnd, DuplicateSid, LabelTooLong, DuplicateStart, NotSession, UnknownSid, Negative, NotPositive, TooSoon, Duplicate, BadLine}
 use Rattle.pl_load.specs.declared.fault.RowFault.{RowFault}
 use Rattle.pl_load.specs.declared.fault.RowFault.TheVariants.{BadEffective, BadRatio}
 use Rattle.pl_load.specs.declared.fault.Limit.{Limit}
@@ -37,24 +36,6 @@ rule_text rules.BadWindow = codes "BadWindow"
 rule_text rules.NotWindowSafe = codes "NotWindowSafe"
 rule_text rules.NoColumn = codes "NoColumn"
 rule_text rules.NoNumbers = codes "NoNumbers"
-
-abbrev pub data_text : DataFault → List ℕ
-data_text BadHeader = codes "BadHeader"
-data_text Empty = codes "Empty"
-data_text BadDate = codes "BadDate"
-data_text NotAscending = codes "NotAscending"
-data_text BadField = codes "BadField"
-data_text StartAfterEnd = codes "StartAfterEnd"
-data_text DuplicateSid = codes "DuplicateSid"
-data_text LabelTooLong = codes "LabelTooLong"
-data_text DuplicateStart = codes "DuplicateStart"
-data_text NotSession = codes "NotSession"
-data_text UnknownSid = codes "UnknownSid"
-data_text Negative = codes "Negative"
-data_text NotPositive = codes "NotPositive"
-data_text TooSoon = codes "TooSoon"
-data_text Duplicate = codes "Duplicate"
-data_text BadLine = codes "BadLine"
 
 abbrev pub row_text : RowFault → List ℕ
 row_text BadEffective = codes "BadEffective"
@@ -124,7 +105,7 @@ message_of asked (faults.Syntax place fault) =
     place_text asked place ++ codes ": syntax " ++ syntax_text fault
 message_of asked (faults.Rule place fault) = place_text asked place ++ codes ": check " ++ rule_text fault
 message_of asked (faults.Data file line fault) =
-    file_name asked file ++ codes ":" ++ decimal line ++ codes ": data " ++ data_text fault
+    file_name asked file ++ codes ":" ++ decimal line ++ codes ": data " ++ name_of fault
 message_of asked (faults.Row table id fault) =
     tables_name asked ++ codes ":" ++ table_text table ++ codes ":" ++ signed_decimal id ++ codes ": data " ++ row_text fault
 message_of asked (faults.NotSession date) = codes "range: NotSession " ++ date_name asked date

@@ -2,14 +2,9 @@
 -- limit.
 use Rattle.std.specs.Prelude.{ℕ, Option, Some, None}
 use Rattle.pl_records.specs.Reading as reading
-use Rattle.pl_calendar.specs.Days as calendar
-use Rattle.pl_lifetimes.specs.Assets as assets
-use Rattle.pl_assets.specs.Labels as labels
-use Rattle.pl_numbers.specs.Numbers as numbers
-use Rattle.pl_bars.specs.Bars as bars
+use Rattle.pl_records.specs.declared.fault.DataFault.{DataFault}
+use Rattle.pl_records.specs.declared.fault.DataFault.TheVariants.{TooMany, BadLine}
 use Rattle.pl_adjust.specs.Walk as rows
-use Rattle.pl_adjust.specs.Revisions as revisions
-use Rattle.pl_payouts.specs.Payouts as payouts
 use Rattle.pl_derivation.specs.Texts.{Broken}
 use Rattle.pl_derivation.specs.Texts.Broken.{BadLine as UnreadLine, TooMany as ManyLines}
 use Rattle.pl_derivation.specs.declared.read.LinesError.{LinesError}
@@ -26,11 +21,12 @@ use Rattle.pl_planner.specs.declared.plans.PlanError.{PlanError}
 use Rattle.pl_planner.specs.declared.plans.PlanError.TheVariants as plan_errors
 use Rattle.pl_check.specs.declared.fault.CheckError.{CheckError}
 use Rattle.pl_check.specs.declared.fault.CheckError.TheVariants as check_errors
+use Rattle.pl_words.specs.declared.request.InputFile.{InputFile}
 use Rattle.pl_words.specs.declared.request.InputFile.TheVariants as files
 use Rattle.pl_load.specs.declared.fault.SyntaxFault.TheVariants as misspelled
 use Rattle.pl_load.specs.declared.fault.RuleFault.TheVariants as broken
-use Rattle.pl_load.specs.declared.fault.DataFault.TheVariants.{BadHeader, Empty, BadDate, NotAscending, BadField, StartAfterEnd, DuplicateSid, LabelTooLong, DuplicateStart, NotSession, UnknownSid, Negative, NotPositive, TooSoon, Duplicate, BadLine}
 use Rattle.pl_load.specs.declared.fault.RowFault.TheVariants.{BadEffective, BadRatio}
+use Rattle.pl_load.specs.declared.fault.Limit.{Limit}
 use Rattle.pl_load.specs.declared.fault.Limit.TheVariants as limits
 use Rattle.pl_load.specs.declared.fault.Fault.{Fault}
 use Rattle.pl_load.specs.declared.fault.Fault.TheVariants.{Syntax, Rule, Data, Row, TooEarly, Passed, Memory}
@@ -53,59 +49,22 @@ rule_fault checks.NoColumn place = Rule place broken.NoColumn
 rule_fault checks.TooManyColumns place = Passed limits.Columns
 rule_fault checks.TooManyTerms place = Passed limits.Terms
 
-abbrev pub sessions_fault : ℕ → calendar.Rule → Fault
-sessions_fault line calendar.TooMany = Passed limits.Sessions
-sessions_fault line calendar.BadDate = Data files.Sessions line BadDate
-sessions_fault line calendar.NotAscending = Data files.Sessions line NotAscending
-sessions_fault line calendar.Empty = Data files.Sessions line Empty
+-- the limit that too many records of a data file pass
+abbrev pub rows_limit : InputFile → Limit
+rows_limit files.Sessions = limits.Sessions
+rows_limit files.Assets = limits.Assets
+rows_limit files.Labels = limits.Labels
+rows_limit files.Numbers = limits.Numbers
+rows_limit files.Bars = limits.Bars
+rows_limit files.Revisions = limits.Revisions
+rows_limit files.Payouts = limits.Payouts
+rows_limit files.Derivation = limits.Derivation
+rows_limit files.Pipeline = limits.Pipeline
 
-abbrev pub assets_fault : ℕ → assets.Rule → Fault
-assets_fault line assets.BadHeader = Data files.Assets line BadHeader
-assets_fault line assets.TooMany = Passed limits.Assets
-assets_fault line assets.BadField = Data files.Assets line BadField
-assets_fault line assets.StartAfterEnd = Data files.Assets line StartAfterEnd
-assets_fault line assets.DuplicateSid = Data files.Assets line DuplicateSid
-
-abbrev pub labels_fault : ℕ → labels.Rule → Fault
-labels_fault line labels.BadHeader = Data files.Labels line BadHeader
-labels_fault line labels.TooMany = Passed limits.Labels
-labels_fault line labels.BadField = Data files.Labels line BadField
-labels_fault line labels.LabelTooLong = Data files.Labels line LabelTooLong
-labels_fault line labels.UnknownSid = Data files.Labels line UnknownSid
-labels_fault line labels.DuplicateStart = Data files.Labels line DuplicateStart
-
-abbrev pub numbers_fault : ℕ → numbers.Rule → Fault
-numbers_fault line numbers.BadHeader = Data files.Numbers line BadHeader
-numbers_fault line numbers.TooMany = Passed limits.Numbers
-numbers_fault line numbers.BadField = Data files.Numbers line BadField
-numbers_fault line numbers.UnknownSid = Data files.Numbers line UnknownSid
-numbers_fault line numbers.Duplicate = Data files.Numbers line Duplicate
-
-abbrev pub bars_fault : ℕ → bars.Rule → Fault
-bars_fault line bars.BadHeader = Data files.Bars line BadHeader
-bars_fault line bars.TooMany = Passed limits.Bars
-bars_fault line bars.BadField = Data files.Bars line BadField
-bars_fault line bars.NotSession = Data files.Bars line NotSession
-bars_fault line bars.UnknownSid = Data files.Bars line UnknownSid
-bars_fault line bars.Negative = Data files.Bars line Negative
-bars_fault line bars.Duplicate = Data files.Bars line Duplicate
-
-abbrev pub revisions_fault : ℕ → revisions.Rule → Fault
-revisions_fault line revisions.BadHeader = Data files.Revisions line BadHeader
-revisions_fault line revisions.TooMany = Passed limits.Revisions
-revisions_fault line revisions.BadField = Data files.Revisions line BadField
-revisions_fault line revisions.NotSession = Data files.Revisions line NotSession
-revisions_fault line revisions.UnknownSid = Data files.Revisions line UnknownSid
-revisions_fault line revisions.Negative = Data files.Revisions line Negative
-revisions_fault line revisions.TooSoon = Data files.Revisions line TooSoon
-revisions_fault line revisions.Duplicate = Data files.Revisions line Duplicate
-
-abbrev pub payouts_fault : ℕ → payouts.Rule → Fault
-payouts_fault line payouts.BadHeader = Data files.Payouts line BadHeader
-payouts_fault line payouts.TooMany = Passed limits.Payouts
-payouts_fault line payouts.BadField = Data files.Payouts line BadField
-payouts_fault line payouts.UnknownSid = Data files.Payouts line UnknownSid
-payouts_fault line payouts.NotPositive = Data files.Payouts line NotPositive
+-- a fault of a record of a data file
+abbrev pub data_fault : InputFile → ℕ → DataFault → Fault
+data_fault file line TooMany = Passed (rows_limit file)
+data_fault file line fault = Data file line fault
 
 abbrev pub lines_fault : Broken → Fault
 lines_fault (UnreadLine line) = Data files.Derivation line BadLine
@@ -122,8 +81,8 @@ abbrev pub fault_or_memory : {F : Type 0} → (F → Fault) → Option F → Fau
 fault_or_memory says None = Memory
 fault_or_memory says (Some f) = says f
 
-abbrev pub line_fault : {R : Type 0} → (ℕ → R → Fault) → Option (reading.Fault R) → Fault
-line_fault says f = fault_or_memory (λ f. says f.line f.rule) f
+abbrev pub line_fault : InputFile → Option (reading.Fault DataFault) → Fault
+line_fault file f = fault_or_memory (λ f. data_fault file f.line f.rule) f
 
 abbrev pub syntax_error : SyntaxError → Fault
 syntax_error (errors.BadByte place) = Syntax place misspelled.BadByte

@@ -1,6 +1,7 @@
 -- The work of a command in its order, over the contents of its files and tables.
 use Rattle.std.specs.Prelude.{ℕ, ℤ, List, [], ◌∷◌, ◌++◌, length, nat_lt, if◌then◌else◌, Option, Some, None, option_map, Result, Ok, Err}
 use Rattle.pl_records.specs.Reading as reading
+use Rattle.pl_records.specs.declared.fault.DataFault.{DataFault}
 use Rattle.pl_spec.specs.declared.AssetRow.{AssetRow}
 use Rattle.pl_spec.specs.declared.RawAdjust.{RawAdjust}
 use Rattle.pl_records.specs.Records.{csv_records}
@@ -32,7 +33,7 @@ use Rattle.pl_load.specs.declared.fault.Fault.{Fault}
 use Rattle.pl_load.specs.declared.fault.Fault.TheVariants.{Usage, Rule, Passed, Unread}
 use Rattle.pl_load.specs.declared.fault.RuleFault.TheVariants.{NoNumbers}
 use Rattle.pl_load.specs.Contents.{Contents}
-use Rattle.pl_load.specs.Rules.{syntax_fault, rule_fault, sessions_fault, assets_fault, labels_fault, numbers_fault, bars_fault, revisions_fault, payouts_fault, lines_fault, rows_fault}
+use Rattle.pl_load.specs.Rules.{syntax_fault, rule_fault, data_fault, lines_fault, rows_fault}
 use Rattle.pl_load.specs.Held.{script_in, pipeline_held, days_held, assets_held, world_held, adjustments_of_rows}
 use Rattle.pl_load.specs.Steps.{WorkStep, rule}
 use Rattle.pl_load.specs.Steps.Reading.{Bytes, Rows}
@@ -73,30 +74,30 @@ fault_typed (Err b) = Some (rule_fault b.fault b.place)
 unfoldable pub script_rule : Parsed → Option Fault
 script_rule script = fault_typed (typed script)
 
-abbrev pub fault_in : {A R : Type 0} → (ℕ → R → Fault) → Result A (reading.Fault R) → Option Fault
-fault_in says (Ok x) = None
-fault_in says (Err f) = Some (says f.line f.rule)
+abbrev pub fault_in : {A : Type 0} → InputFile → Result A (reading.Fault DataFault) → Option Fault
+fault_in file (Ok x) = None
+fault_in file (Err f) = Some (data_fault file f.line f.rule)
 
 unfoldable pub sessions_rule : List ℕ → Option Fault
-sessions_rule bytes = fault_in sessions_fault (sessions_of (csv_records bytes))
+sessions_rule bytes = fault_in Sessions (sessions_of (csv_records bytes))
 
 unfoldable pub assets_rule : List ℕ → Option Fault
-assets_rule bytes = fault_in assets_fault (assets_of (csv_records bytes))
+assets_rule bytes = fault_in Assets (assets_of (csv_records bytes))
 
 unfoldable pub labels_rule : List AssetRow → List ℕ → Option Fault
-labels_rule assets bytes = fault_in labels_fault (labels_of assets (csv_records bytes))
+labels_rule assets bytes = fault_in Labels (labels_of assets (csv_records bytes))
 
 unfoldable pub numbers_rule : List AssetRow → List ℕ → Option Fault
-numbers_rule assets bytes = fault_in numbers_fault (numbers_of assets (csv_records bytes))
+numbers_rule assets bytes = fault_in Numbers (numbers_of assets (csv_records bytes))
 
 unfoldable pub bars_rule : List ℤ → List AssetRow → List ℕ → Option Fault
-bars_rule days assets bytes = fault_in bars_fault (bars_of days assets (csv_records bytes))
+bars_rule days assets bytes = fault_in Bars (bars_of days assets (csv_records bytes))
 
 unfoldable pub revisions_rule : List ℤ → List AssetRow → List ℕ → Option Fault
-revisions_rule days assets bytes = fault_in revisions_fault (revisions_of days assets (csv_records bytes))
+revisions_rule days assets bytes = fault_in Revisions (revisions_of days assets (csv_records bytes))
 
 unfoldable pub payouts_rule : List AssetRow → List ℕ → Option Fault
-payouts_rule assets bytes = fault_in payouts_fault (payouts_of assets (csv_records bytes))
+payouts_rule assets bytes = fault_in PayoutsFile (payouts_of assets (csv_records bytes))
 
 abbrev pub fault_of_lines : Result (List Line) BrokenLines → Option Fault
 fault_of_lines (Ok lines) = None

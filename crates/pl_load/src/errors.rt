@@ -1,10 +1,11 @@
 //! What the errors of the readers and of the checker are to a command.
 
 ghost use Rattle.std.specs.Prelude.{◌≡◌};
+ghost use Rattle.pl_words.specs.declared.request.InputFile.TheVariants as files;
 ghost use Rattle.pl_load.specs.Stages.{IsErrorFault};
-ghost use Rattle.pl_load.specs.Rules.{line_fault, fault_or_memory, sessions_fault, assets_fault, labels_fault, numbers_fault, bars_fault, revisions_fault, payouts_fault, rows_fault, syntax_error, rule_fault, check_error, plan_error, lines_error, explain_error};
+ghost use Rattle.pl_load.specs.Rules.{line_fault, fault_or_memory, rows_fault, syntax_error, rule_fault, check_error, plan_error, lines_error, explain_error};
 
-use crate::fault::{DataFault, Fault, Limit, RowFault, RuleFault, SyntaxFault};
+use crate::fault::{Fault, Limit, RowFault, RuleFault, SyntaxFault};
 use pl_adjust::{AdjustError, RevisionsError};
 use pl_assets::{AssetsError, LabelsError};
 use pl_bars::BarsError;
@@ -15,6 +16,7 @@ use pl_fixed::Memory;
 use pl_numbers::NumbersError;
 use pl_payouts::PayoutsError;
 use pl_planner::PlanError;
+use pl_records::DataFault;
 use pl_syntax::{Place, SyntaxError};
 use pl_words::InputFile;
 use std::alloc::AllocError;
@@ -69,7 +71,7 @@ impl From<CheckError> for Fault {
 impl From<CalendarError> for Fault {
     ghost use Rattle.pl_calendar.specs.Faults as calendar;
 
-    ghost from_gives = { λ error fault. IsErrorFault fault (line_fault sessions_fault (calendar.fault_of error)) };
+    ghost from_gives = { λ error fault. IsErrorFault fault (line_fault files.Sessions (calendar.fault_of error)) };
 
     fn from(error: CalendarError) -> Fault {
         let file = InputFile::Sessions;
@@ -86,7 +88,7 @@ impl From<CalendarError> for Fault {
 impl From<AssetsError> for Fault {
     ghost use Rattle.pl_lifetimes.specs.Faults as assets;
 
-    ghost from_gives = { λ error fault. IsErrorFault fault (line_fault assets_fault (assets.fault_of error)) };
+    ghost from_gives = { λ error fault. IsErrorFault fault (line_fault files.Assets (assets.fault_of error)) };
 
     fn from(error: AssetsError) -> Fault {
         let file = InputFile::Assets;
@@ -104,7 +106,7 @@ impl From<AssetsError> for Fault {
 impl From<LabelsError> for Fault {
     ghost use Rattle.pl_assets.specs.LabelFaults as labels;
 
-    ghost from_gives = { λ error fault. IsErrorFault fault (line_fault labels_fault (labels.fault_of error)) };
+    ghost from_gives = { λ error fault. IsErrorFault fault (line_fault files.Labels (labels.fault_of error)) };
 
     fn from(error: LabelsError) -> Fault {
         let file = InputFile::Labels;
@@ -123,7 +125,7 @@ impl From<LabelsError> for Fault {
 impl From<NumbersError> for Fault {
     ghost use Rattle.pl_numbers.specs.NumberFaults as numbers;
 
-    ghost from_gives = { λ error fault. IsErrorFault fault (line_fault numbers_fault (numbers.fault_of error)) };
+    ghost from_gives = { λ error fault. IsErrorFault fault (line_fault files.Numbers (numbers.fault_of error)) };
 
     fn from(error: NumbersError) -> Fault {
         let file = InputFile::Numbers;
@@ -141,7 +143,7 @@ impl From<NumbersError> for Fault {
 impl From<BarsError> for Fault {
     ghost use Rattle.pl_bars.specs.Faults as bars;
 
-    ghost from_gives = { λ error fault. IsErrorFault fault (line_fault bars_fault (bars.fault_of error)) };
+    ghost from_gives = { λ error fault. IsErrorFault fault (line_fault files.Bars (bars.fault_of error)) };
 
     fn from(error: BarsError) -> Fault {
         let file = InputFile::Bars;
@@ -161,7 +163,7 @@ impl From<BarsError> for Fault {
 impl From<RevisionsError> for Fault {
     ghost use Rattle.pl_adjust.specs.RevisionFaults as revisions;
 
-    ghost from_gives = { λ error fault. IsErrorFault fault (line_fault revisions_fault (revisions.fault_of error)) };
+    ghost from_gives = { λ error fault. IsErrorFault fault (line_fault files.Revisions (revisions.fault_of error)) };
 
     fn from(error: RevisionsError) -> Fault {
         let file = InputFile::Revisions;
@@ -182,7 +184,7 @@ impl From<RevisionsError> for Fault {
 impl From<PayoutsError> for Fault {
     ghost use Rattle.pl_payouts.specs.Faults as payouts;
 
-    ghost from_gives = { λ error fault. IsErrorFault fault (line_fault payouts_fault (payouts.fault_of error)) };
+    ghost from_gives = { λ error fault. IsErrorFault fault (line_fault files.Payouts (payouts.fault_of error)) };
 
     fn from(error: PayoutsError) -> Fault {
         let file = InputFile::Payouts;

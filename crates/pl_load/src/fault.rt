@@ -1,9 +1,10 @@
 //! Why a command ends without its whole text.
 
 ghost use Rattle.std.specs.Prelude.{◌≡◌};
-ghost use Rattle.pl_load.specs.Faults.{status_of, syntax_text, rule_text, data_text, row_text, limit_text};
+ghost use Rattle.pl_load.specs.Faults.{status_of, syntax_text, rule_text, row_text, limit_text};
 
 use pl_outside::Table;
+use pl_records::DataFault;
 use pl_syntax::Place;
 use pl_words::{InputFile, RangeDate};
 
@@ -55,44 +56,6 @@ pub enum RuleFault {
     NoColumn,
     /// A number is mentioned, first at this place, and no numbers file is named.
     NoNumbers,
-}
-
-/// The rule that a record of a data file breaks, or a line of a derivation; docs/FILES.md says of each file
-/// which come, and how to fix them.
-#[derive(Clone, Copy, Debug, PartialEq, Eq)]
-pub enum DataFault {
-    /// The first record is not the header of the file.
-    BadHeader,
-    /// The sessions file has no record.
-    Empty,
-    /// The record of a session is not one date.
-    BadDate,
-    /// The session is not later than the one before.
-    NotAscending,
-    /// There are too few or too many fields, or one has another form.
-    BadField,
-    /// The asset's start is later than its end.
-    StartAfterEnd,
-    /// An earlier asset has the sid.
-    DuplicateSid,
-    /// The label has more than 64 bytes.
-    LabelTooLong,
-    /// An earlier label has the name, the sid and the start.
-    DuplicateStart,
-    /// The date of the bar is no session.
-    NotSession,
-    /// No asset has the sid.
-    UnknownSid,
-    /// A value is below 0.
-    Negative,
-    /// The amount of a payout is not above 0.
-    NotPositive,
-    /// The revision is not known later than on the day of its bar.
-    TooSoon,
-    /// An earlier record is of the same bar, or of the same cell or number and known day.
-    Duplicate,
-    /// The line is none of a derivation's.
-    BadLine,
 }
 
 /// The rule that a row of a table of adjustments breaks.
@@ -211,32 +174,6 @@ impl RuleFault {
             RuleFault::NotWindowSafe => "NotWindowSafe",
             RuleFault::NoColumn => "NoColumn",
             RuleFault::NoNumbers => "NoNumbers",
-        }
-    }
-}
-
-impl DataFault {
-    /// Its name in the line of the fault.
-    pub fn name(self) -> &'static str
-        ensures { result.now ≡ data_text self }
-    {
-        match self {
-            DataFault::BadHeader => "BadHeader",
-            DataFault::Empty => "Empty",
-            DataFault::BadDate => "BadDate",
-            DataFault::NotAscending => "NotAscending",
-            DataFault::BadField => "BadField",
-            DataFault::StartAfterEnd => "StartAfterEnd",
-            DataFault::DuplicateSid => "DuplicateSid",
-            DataFault::LabelTooLong => "LabelTooLong",
-            DataFault::DuplicateStart => "DuplicateStart",
-            DataFault::NotSession => "NotSession",
-            DataFault::UnknownSid => "UnknownSid",
-            DataFault::Negative => "Negative",
-            DataFault::NotPositive => "NotPositive",
-            DataFault::TooSoon => "TooSoon",
-            DataFault::Duplicate => "Duplicate",
-            DataFault::BadLine => "BadLine",
         }
     }
 }

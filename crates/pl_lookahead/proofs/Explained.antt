@@ -15,7 +15,7 @@ use Rattle.pl_pipeline.specs.Table.{Pipeline}
 use Rattle.pl_cross.specs.Arrays.{HasTexts}
 use Rattle.pl_laws.proofs.Law.{SeenAlike}
 use Rattle.pl_values.proofs.Texts.{seen-in}
-use Rattle.pl_assets.specs.Labels.{Rule, LabelTable, is_text, texts_of, table_of, label_rows_in, labels_of}
+use Rattle.pl_assets.specs.Labels.{DataFault, LabelTable, is_text, texts_of, table_of, label_rows_in, labels_of}
 use Rattle.pl_words.specs.declared.request.InputFile.TheVariants.{Pipeline as PipelineFile, Labels}
 use Rattle.pl_words.specs.Request.{Explain, ExplainRequest}
 use Rattle.pl_derivation.specs.Lines.{Line}
@@ -59,7 +59,7 @@ unfolding labels_of
 labels-coded assets None file h r there full = absurd (omega (arith, there.1))
 labels-coded assets (Some n) file h r there full = here (label_rows_in assets (records_in file)) (h n refl)
   where
-    here : (x : Result (List ColumnLabel) (Fault Rule)) → (x >>= λ rows. Ok (table_of rows)) ≡ Ok (labels_in assets file) → Contains (labels_in assets file).texts r.text
+    here : (x : Result (List ColumnLabel) (Fault DataFault)) → (x >>= λ rows. Ok (table_of rows)) ≡ Ok (labels_in assets file) → Contains (labels_in assets file).texts r.text
     here (Ok rows) e =
         let same : table_of rows ≡ labels_in assets file = cc in
         let told = subst (λ (t : LabelTable). Contains (map (label_of assets) t.rows) r) (sym same) there in

@@ -7,6 +7,7 @@ use Rattle.std.proofs.lemmas.Bool.Decides.{nat_tests}
 use Rattle.pl_records.specs.Reading as reading
 use Rattle.pl_records.specs.Reading.{Record}
 use Rattle.pl_records.specs.Records.{csv_records}
+use Rattle.pl_records.specs.declared.fault.DataFault.{DataFault}
 use Rattle.pl_spec.specs.declared.AssetRow.{AssetRow}
 use Rattle.pl_spec.specs.declared.RawAdjust.{RawAdjust}
 use Rattle.pl_calendar.specs.Days.{sessions_of}
@@ -17,6 +18,7 @@ use Rattle.pl_bars.specs.Bars.{bars_of}
 use Rattle.pl_adjust.specs.Walk as rows
 use Rattle.pl_adjust.specs.Revisions.{revisions_of}
 use Rattle.pl_outside.specs.declared.keeper.Table.{Table}
+use Rattle.pl_words.specs.declared.request.InputFile.{InputFile}
 use Rattle.pl_words.specs.declared.request.InputFile.TheVariants.{Sessions, Assets, Labels, Numbers, Bars, Revisions}
 use Rattle.pl_pipeline.specs.Table.{Pipeline}
 use Rattle.pl_words.specs.Request.{Dated, ExplainRequest, WorldNames}
@@ -25,7 +27,6 @@ use Rattle.pl_load.specs.declared.fault.Fault.{Fault}
 use Rattle.pl_load.specs.Contents.{Contents}
 use Rattle.pl_load.specs.Held.{bytes_in, days_held, days_in, assets_held, assets_in, bars_held, bars_in, labels_in, numbers_in, no_numbers, revisions_in, adjustments_from, adjustments_of_rows}
 use Rattle.pl_load.specs.Range.{session_of, index_of, index_asked, is_unknown, are_backwards, dates_steps}
-use Rattle.pl_load.specs.Rules.{sessions_fault, assets_fault, labels_fault, numbers_fault, bars_fault, revisions_fault}
 use Rattle.pl_load.specs.Steps.{WorkStep, first_fault, when}
 use Rattle.pl_load.specs.Work.{file_fault, fault_in, fault_of_rows, sessions_rule, assets_rule, labels_rule, numbers_rule, bars_rule, revisions_rule, rows_rule, labels_steps, numbers_steps, adjustments_steps, revisions_steps, data_steps}
 
@@ -46,9 +47,9 @@ passed : (b : Bool) (f : Fault) (o : Option Fault) → cond b (Some f) o ≡ Non
 passed true f o h = absurd (cc)
 passed false f o h = h
 
-fault-none : {A R : Type 0} (says : ℕ → R → Fault) (r : Result A (reading.Fault R)) (x : A) → fault_in says r ≡ None → r ≡ Ok (result_unwrap_or r x)
-fault-none says (Ok y) x h = refl
-fault-none says (Err f) x h = absurd (cc)
+fault-none : {A : Type 0} (file : InputFile) (r : Result A (reading.Fault DataFault)) (x : A) → fault_in file r ≡ None → r ≡ Ok (result_unwrap_or r x)
+fault-none file (Ok y) x h = refl
+fault-none file (Err f) x h = absurd (cc)
 
 rows-none : {A : Type 0} (r : Result A rows.Fault) (x : A) → fault_of_rows r ≡ None → r ≡ Ok (result_unwrap_or r x)
 rows-none (Ok y) x h = refl
@@ -62,23 +63,23 @@ records_in file = csv_records (bytes_in file)
 pub sessions-read : (file : Option (List ℕ)) → file_fault Sessions sessions_rule file ≡ None → sessions_of (records_in file) ≡ Ok (days_in file)
 unfolding sessions_rule days_in
 sessions-read None h = absurd (cc)
-sessions-read (Some bytes) h = fault-none sessions_fault (sessions_of (csv_records bytes)) [] (passed _ _ _ h)
+sessions-read (Some bytes) h = fault-none Sessions (sessions_of (csv_records bytes)) [] (passed _ _ _ h)
 
 pub assets-read : (file : Option (List ℕ)) → file_fault Assets assets_rule file ≡ None → assets_of (records_in file) ≡ Ok (assets_in file)
 unfolding assets_rule assets_in
 assets-read None h = absurd (cc)
-assets-read (Some bytes) h = fault-none assets_fault (assets_of (csv_records bytes)) [] (passed _ _ _ h)
+assets-read (Some bytes) h = fault-none Assets (assets_of (csv_records bytes)) [] (passed _ _ _ h)
 
 module _ (assets : List AssetRow) where
   labels-read : (file : Option (List ℕ)) → file_fault Labels (labels_rule assets) file ≡ None → labels_of assets (records_in file) ≡ Ok (labels_in assets file)
   unfolding labels_rule labels_in
   labels-read None h = absurd (cc)
-  labels-read (Some bytes) h = fault-none labels_fault (labels_of assets (csv_records bytes)) no_labels (passed _ _ _ h)
+  labels-read (Some bytes) h = fault-none Labels (labels_of assets (csv_records bytes)) no_labels (passed _ _ _ h)
 
   numbers-read : (file : Option (List ℕ)) → file_fault Numbers (numbers_rule assets) file ≡ None → numbers_of assets (records_in file) ≡ Ok (numbers_in assets file)
   unfolding numbers_rule numbers_in
   numbers-read None h = absurd (cc)
-  numbers-read (Some bytes) h = fault-none numbers_fault (numbers_of assets (csv_records bytes)) no_numbers (passed _ _ _ h)
+  numbers-read (Some bytes) h = fault-none Numbers (numbers_of assets (csv_records bytes)) no_numbers (passed _ _ _ h)
 
   labels-asked : (name file : Option (List ℕ)) → first_fault (labels_steps assets name file) ≡ None → ForSome name (λ n. labels_of assets (records_in file) ≡ Ok (labels_in assets file))
   labels-asked None file h n e = absurd (cc)
@@ -98,12 +99,12 @@ module _ (assets : List AssetRow) where
     pub bars-read : (file : Option (List ℕ)) → file_fault Bars (bars_rule days assets) file ≡ None → bars_of days assets (records_in file) ≡ Ok (bars_in days assets file)
     unfolding bars_rule bars_in
     bars-read None h = absurd (cc)
-    bars-read (Some bytes) h = fault-none bars_fault (bars_of days assets (csv_records bytes)) [] (passed _ _ _ h)
+    bars-read (Some bytes) h = fault-none Bars (bars_of days assets (csv_records bytes)) [] (passed _ _ _ h)
 
     revisions-read : (file : Option (List ℕ)) → file_fault Revisions (revisions_rule days assets) file ≡ None → revisions_of days assets (records_in file) ≡ Ok (revisions_in days assets file)
     unfolding revisions_rule revisions_in
     revisions-read None h = absurd (cc)
-    revisions-read (Some bytes) h = fault-none revisions_fault (revisions_of days assets (csv_records bytes)) [] (passed _ _ _ h)
+    revisions-read (Some bytes) h = fault-none Revisions (revisions_of days assets (csv_records bytes)) [] (passed _ _ _ h)
 
     revisions-asked : (name file : Option (List ℕ)) → first_fault (revisions_steps days assets name file) ≡ None
         → ForSome name (λ n. revisions_of days assets (records_in file) ≡ Ok (revisions_in days assets file))

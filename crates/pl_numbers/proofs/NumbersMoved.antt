@@ -9,7 +9,7 @@ use Rattle.pl_records.proofs.Orders.{Looks, under-permuted}
 use Rattle.pl_records.proofs.Readings.{made-of}
 use Rattle.pl_records.proofs.Sorts.{sorted-permutes}
 use Rattle.pl_assets.proofs.Dated.{clash, flips}
-use Rattle.pl_numbers.specs.Numbers.{Rule, NumberTable, breaks, row_of, table_of, key_in, names_of, number_or_rule, number_rows_in, numbers_of, header}
+use Rattle.pl_numbers.specs.Numbers.{DataFault, NumberTable, breaks, row_of, table_of, key_in, names_of, number_or_rule, number_rows_in, numbers_of, header}
 use Rattle.pl_numbers.specs.Numbers as rules
 use Rattle.pl_numbers.proofs.NumberKeys.{numbers}
 
@@ -21,12 +21,10 @@ sorted rows found h =
     (IsPermutation-trans rows found (table_of found).rows h second)
 
 module _ (assets : List AssetRow) where
-  looks : (q : Rule) → Looks most_numbers (clash numbers) (row_of assets) (breaks assets) q
-  looks rules.BadHeader = inr (inr (λ before r. refl))
+  looks : (q : DataFault) → Looks most_numbers (clash numbers) (row_of assets) (breaks assets) q
   looks rules.TooMany = inl (λ before r. refl)
-  looks rules.BadField = inr (inr (λ before r. refl))
-  looks rules.UnknownSid = inr (inr (λ before r. refl))
   looks rules.Duplicate = inr (inl (λ before r. refl))
+  looks fault = inr (inr (λ before r. refl))
 
   pub numbers-moved : (first : Record) (records others : List Record) → IsPermutation records others → (table : NumberTable) → numbers_of assets (first ∷ records) ≡ Ok table
       → (other : NumberTable) × (numbers_of assets (first ∷ others) ≡ Ok other) × IsPermutation table.rows other.rows

@@ -15,7 +15,7 @@ use Rattle.pl_records.specs.Sorted.{AreKeys}
 use Rattle.pl_assets.specs.LabelPlaces.{key}
 use Rattle.pl_spec.specs.Parts.{ColumnNumber}
 use Rattle.pl_spec.specs.declared.AssetRow.{AssetRow}
-use Rattle.pl_numbers.specs.Numbers.{NumberTable, Rule, BadField, BadHeader, header, by_column, names_of, numbers_of, row_of}
+use Rattle.pl_numbers.specs.Numbers.{NumberTable, DataFault, BadField, BadHeader, header, by_column, names_of, numbers_of, row_of}
 use Rattle.pl_numbers.specs.declared.rows.Place.{Place}
 use Rattle.pl_numbers.specs.declared.rows.NumberRows.{NumberRows}
 use Rattle.pl_numbers.specs.declared.reading.Fields.{Fields}
@@ -92,7 +92,7 @@ pub record IsNumberAfter {S : Type 0} (before : NumberRows) (keys : Option (Hash
   pub seen : (p : Place) → key_of p ≡ key_next n → AreSeen keys (before.places.items ++ p ∷ [])
 
 -- the row of a record, whatever rows stand before it
-abbrev pub states : List AssetRow → List ColumnNumber → Record → Result ColumnNumber Rule
+abbrev pub states : List AssetRow → List ColumnNumber → Record → Result ColumnNumber DataFault
 states assets before r = ok_or (row_of assets r) BadField
 
 -- the rows are those that the records of a file state

@@ -11,7 +11,7 @@ use Rattle.pl_spec.specs.declared.AssetRow.{AssetRow}
 use Rattle.pl_lifetimes.specs.Assets.{HasSid, IsPlaced}
 use Rattle.pl_bars.specs.Rules.{IsCellText}
 use Rattle.pl_spec.specs.Parts.{ColumnNumber}
-use Rattle.pl_numbers.specs.Numbers.{Rule, BadHeader, TooMany, BadField, UnknownSid, Duplicate, NumberTable, rules, header, in_column, table_of}
+use Rattle.pl_numbers.specs.Numbers.{DataFault, BadHeader, TooMany, BadField, UnknownSid, Duplicate, NumberTable, rules, header, in_column, table_of}
 
 -- the record is the name, the sid, without sign and leading zeros, the date from which the number counts and
 -- the text of its cell
@@ -33,12 +33,12 @@ abbrev pub CountWith : ColumnNumber → ColumnNumber → Type 0
 CountWith row x = (x.name ≡ row.name) × (x.col ≡ row.col) × (x.known ≡ row.known)
 
 -- what it is to break each rule
-abbrev pub Breaks : List AssetRow → List ColumnNumber → Record → Rule → Type 0
-Breaks assets before r BadHeader = ⊥
+abbrev pub Breaks : List AssetRow → List ColumnNumber → Record → DataFault → Type 0
 Breaks assets before r TooMany = most_numbers ≤ length before
 Breaks assets before r BadField = (n : NumberRow) → ¬ IsNumberRecord r n
 Breaks assets before r UnknownSid = (n : NumberRow) × IsNumberRecord r n × ((col : ℕ) → ¬ HasSid assets col n.sid)
 Breaks assets before r Duplicate = (row : ColumnNumber) × IsRowRecord assets r row × Any (CountWith row) before
+Breaks assets before r fault = ⊥
 
 -- the record is the next row
 abbrev pub IsNumber : List AssetRow → List ColumnNumber → Record → ColumnNumber → Type 0
@@ -49,6 +49,6 @@ abbrev pub AreNumbersOf : List AssetRow → List Record → NumberTable → Type
 AreNumbersOf assets records table = IsMadeUnder header (IsNumber assets) table_of records table
 
 -- no header, or the first faulty record
-abbrev pub IsNumbersFault : List AssetRow → List Record → Fault Rule → Type 0
+abbrev pub IsNumbersFault : List AssetRow → List Record → Fault DataFault → Type 0
 IsNumbersFault assets records fault =
     IsFaultUnder header BadHeader (IsNumber assets) (λ before r. IsFirstBroken rules (Breaks assets before r)) records fault

@@ -20,6 +20,8 @@ use Rattle.pl_lifetimes.specs.Assets.{col_in, placed}
 use Rattle.pl_assets.specs.Labels.{first_seen}
 use Rattle.pl_assets.specs.LabelPlaces.{key}
 use Rattle.pl_bars.specs.Bars.{cell_in}
+pub use Rattle.pl_records.specs.declared.fault.DataFault.{DataFault}
+pub use Rattle.pl_records.specs.declared.fault.DataFault.TheVariants.{BadHeader, TooMany, BadField, UnknownSid, Duplicate}
 
 -- the rows of numbers, and their distinct names: a name's place in that list, from 0, is its number
 pub record NumberTable : Type 0 where
@@ -59,10 +61,6 @@ known_on rows name col day = known_at (map by_column rows) name col day
 
 -- ---- the records of a file
 
--- what may be wrong with a file
-pub data Rule : Type 0 where
-  BadHeader TooMany BadField UnknownSid Duplicate : Rule
-
 abbrev pub header : Record
 header = codes "name" ∷ codes "sid" ∷ codes "known" ∷ codes "value" ∷ []
 
@@ -87,26 +85,26 @@ abbrev pub row_of : List AssetRow → Record → Option ColumnNumber
 row_of assets r = placed number_in (λ n. n.sid) in_column assets r
 
 -- the rules of a record after the header, in the order in which they are tested, and their tests
-abbrev pub rules : List Rule
+abbrev pub rules : List DataFault
 rules = TooMany ∷ BadField ∷ UnknownSid ∷ Duplicate ∷ []
 
-abbrev pub breaks : List AssetRow → List ColumnNumber → Record → Rule → Bool
-breaks assets before r BadHeader = false
+abbrev pub breaks : List AssetRow → List ColumnNumber → Record → DataFault → Bool
 breaks assets before r TooMany = nat_le most_numbers (length before)
 breaks assets before r BadField = lacks (number_in r)
 breaks assets before r UnknownSid = has (λ n. lacks (col_in assets n.sid)) (number_in r)
 breaks assets before r Duplicate = has (λ row. list_any (is_from row.name row.col row.known) before) (row_of assets r)
+breaks assets before r fault = false
 
 -- the row of a record after the rows before it, or the first rule that it breaks
-unfoldable pub number_or_rule : List AssetRow → List ColumnNumber → Record → Result ColumnNumber Rule
+unfoldable pub number_or_rule : List AssetRow → List ColumnNumber → Record → Result ColumnNumber DataFault
 number_or_rule assets before r = first_broken rules (breaks assets before r) (ok_or (row_of assets r) BadField)
 
 -- the rows of a file in its order, or its first fault
-unfoldable pub number_rows_in : List AssetRow → List Record → Result (List ColumnNumber) (Fault Rule)
+unfoldable pub number_rows_in : List AssetRow → List Record → Result (List ColumnNumber) (Fault DataFault)
 number_rows_in assets records = rows_under header BadHeader (number_or_rule assets) records
 
 -- the same by name, column and day, with their names
-unfoldable pub numbers_of : List AssetRow → List Record → Result NumberTable (Fault Rule)
+unfoldable pub numbers_of : List AssetRow → List Record → Result NumberTable (Fault DataFault)
 numbers_of assets records = number_rows_in assets records >>= λ rows. Ok (table_of rows)
 
 -- ---- numbers as they are kept

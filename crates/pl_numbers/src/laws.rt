@@ -24,7 +24,7 @@ pub fn numbers_in_plain_words()
         (table : numbers.NumberTable) → (numbers.numbers_of assets records ≡ Ok table)
         ↔ number_rules.AreNumbersOf assets records table }
     ensures fault { (assets : List AssetRow) → AreAssets assets → (records : List Record)
-        (fault : Fault numbers.Rule) → (numbers.numbers_of assets records ≡ Err fault)
+        (fault : Fault numbers.DataFault) → (numbers.numbers_of assets records ≡ Err fault)
         ↔ number_rules.IsNumbersFault assets records fault }
 {}
 

@@ -5,7 +5,7 @@ use Rattle.pl_spec.specs.declared.AssetRow.{AssetRow}
 use Rattle.pl_records.specs.Reading.{Record}
 use Rattle.pl_records.proofs.Orders.{Looks, under-permuted}
 use Rattle.pl_payouts.specs.declared.reading.Dividend.{Dividend}
-use Rattle.pl_payouts.specs.Payouts.{Rule, breaks, dividend_in, header, payouts_of, dividend_or_rule}
+use Rattle.pl_payouts.specs.Payouts.{DataFault, breaks, dividend_in, header, payouts_of, dividend_or_rule}
 use Rattle.pl_payouts.specs.Payouts as rules
 
 -- payouts may be alike
@@ -13,12 +13,9 @@ abbrev clash : Dividend → Dividend → Bool
 clash d x = false
 
 module _ (assets : List AssetRow) where
-  looks : (q : Rule) → Looks most_payouts clash dividend_in (breaks assets) q
-  looks rules.BadHeader = inr (inr (λ before r. refl))
+  looks : (q : DataFault) → Looks most_payouts clash dividend_in (breaks assets) q
   looks rules.TooMany = inl (λ before r. refl)
-  looks rules.BadField = inr (inr (λ before r. refl))
-  looks rules.UnknownSid = inr (inr (λ before r. refl))
-  looks rules.NotPositive = inr (inr (λ before r. refl))
+  looks fault = inr (inr (λ before r. refl))
 
   pub payouts-moved : (first : Record) (records others : List Record) → IsPermutation records others → (rows : List Dividend) → payouts_of assets (first ∷ records) ≡ Ok rows
       → (found : List Dividend) × (payouts_of assets (first ∷ others) ≡ Ok found) × IsPermutation rows found

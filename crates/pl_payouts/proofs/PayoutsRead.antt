@@ -16,7 +16,7 @@ use Rattle.pl_lifetimes.specs.Assets.{AreAssets}
 use Rattle.pl_lifetimes.proofs.SidColumns.{sid_known, unknown_tells}
 use Rattle.pl_payouts.specs.declared.reading.Dividend.{Dividend}
 use Rattle.pl_spec.specs.Limits.{most_payouts}
-use Rattle.pl_payouts.specs.Payouts.{Rule, breaks, dividend_in, header, is_above_0, dividend_or_rule, payouts_of, ArePayouts, AreKnown, IsPaid}
+use Rattle.pl_payouts.specs.Payouts.{DataFault, breaks, dividend_in, header, is_above_0, dividend_or_rule, payouts_of, ArePayouts, AreKnown, IsPaid}
 use Rattle.pl_payouts.specs.Payouts as rules
 use Rattle.pl_payouts.specs.Rules.{IsDividendRecord, IsDividend, Breaks, ArePayoutsOf, IsPayoutsFault}
 use Rattle.pl_payouts.proofs.DividendFields.{dividend_form}
@@ -31,12 +31,12 @@ above_tells d = here d.amount
     here v = (λ t. grind (arith, ints), λ h. grind (arith, ints))
 
 module _ (assets : List AssetRow) (up : AreAssets assets) where
-  tells : (before : List Dividend) (r : Record) (q : Rule) → Decides (breaks assets before r q) (Breaks assets before r q)
-  tells before r rules.BadHeader = (λ t. absurd (let bad : false ≡ true = t in cc), λ h. absurd h)
+  tells : (before : List Dividend) (r : Record) (q : DataFault) → Decides (breaks assets before r q) (Breaks assets before r q)
   tells before r rules.TooMany = (λ t. grind (arith, nat_tests), λ h. grind (arith, nat_tests))
   tells before r rules.BadField = lacks-tells dividend_in IsDividendRecord dividend_form r
   tells before r rules.UnknownSid = has-tells dividend_in IsDividendRecord dividend_form _ _ (λ d. unknown_tells assets up d.sid) r
   tells before r rules.NotPositive = has-tells dividend_in IsDividendRecord dividend_form _ _ above_tells r
+  tells before r fault = (λ t. absurd (let bad : false ≡ true = t in cc), λ h. absurd h)
 
   pub payouts_judged : Judges (IsDividend assets) (λ before r. IsFirstBroken rules.rules (Breaks assets before r)) (dividend_or_rule assets)
   unfolding dividend_or_rule
@@ -50,7 +50,7 @@ module _ (assets : List AssetRow) (up : AreAssets assets) where
   payouts-are records rows =
       under-are header rules.BadHeader (IsDividend assets) (λ before r. IsFirstBroken rules.rules (Breaks assets before r)) (dividend_or_rule assets) payouts_judged records rows
 
-  pub payouts-fault : (records : List Record) (fault : Fault Rule) → (payouts_of assets records ≡ Err fault) ↔ IsPayoutsFault assets records fault
+  pub payouts-fault : (records : List Record) (fault : Fault DataFault) → (payouts_of assets records ≡ Err fault) ↔ IsPayoutsFault assets records fault
   unfolding payouts_of
   payouts-fault records fault =
       under-fault header rules.BadHeader (IsDividend assets) (λ before r. IsFirstBroken rules.rules (Breaks assets before r)) (dividend_or_rule assets) payouts_judged records fault

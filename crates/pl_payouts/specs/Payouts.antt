@@ -15,10 +15,8 @@ use Rattle.pl_payouts.specs.declared.Payout.{Payout}
 use Rattle.pl_payouts.specs.declared.reading.Dividend.{Dividend}
 use Rattle.pl_spec.specs.Limits.{most_payouts}
 use Rattle.pl_adjust.specs.Revised.{IsKnown}
-
--- what may be wrong with a file
-pub data Rule : Type 0 where
-  BadHeader TooMany BadField UnknownSid NotPositive : Rule
+pub use Rattle.pl_records.specs.declared.fault.DataFault.{DataFault}
+pub use Rattle.pl_records.specs.declared.fault.DataFault.TheVariants.{BadHeader, TooMany, BadField, UnknownSid, NotPositive}
 
 abbrev pub header : Record
 header = codes "sid" ∷ codes "ex" ∷ codes "amount" ∷ []
@@ -39,22 +37,22 @@ abbrev pub is_above_0 : ℤ → Bool
 is_above_0 v = int_lt (pos 0) v
 
 -- the rules of a record after the header, in the order in which they are tested, and their tests
-abbrev pub rules : List Rule
+abbrev pub rules : List DataFault
 rules = TooMany ∷ BadField ∷ UnknownSid ∷ NotPositive ∷ []
 
-abbrev pub breaks : List AssetRow → List Dividend → Record → Rule → Bool
-breaks assets before r BadHeader = false
+abbrev pub breaks : List AssetRow → List Dividend → Record → DataFault → Bool
 breaks assets before r TooMany = nat_le most_payouts (length before)
 breaks assets before r BadField = lacks (dividend_in r)
 breaks assets before r UnknownSid = has (λ d. lacks (col_in assets d.sid)) (dividend_in r)
 breaks assets before r NotPositive = has (λ d. not (is_above_0 d.amount)) (dividend_in r)
+breaks assets before r fault = false
 
 -- the payout of a record after the payouts before it, or the first rule that it breaks
-unfoldable pub dividend_or_rule : List AssetRow → List Dividend → Record → Result Dividend Rule
+unfoldable pub dividend_or_rule : List AssetRow → List Dividend → Record → Result Dividend DataFault
 dividend_or_rule assets before r = first_broken rules (breaks assets before r) (ok_or (dividend_in r) BadField)
 
 -- the payouts of a file in its order, or its first fault
-unfoldable pub payouts_of : List AssetRow → List Record → Result (List Dividend) (Fault Rule)
+unfoldable pub payouts_of : List AssetRow → List Record → Result (List Dividend) (Fault DataFault)
 payouts_of assets records = rows_under header BadHeader (dividend_or_rule assets) records
 
 -- ---- payouts as they are kept

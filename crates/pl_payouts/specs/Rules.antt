@@ -8,7 +8,7 @@ use Rattle.pl_spec.specs.Decimals.{Decimal, IsDecimal, IsReadAs}
 use Rattle.pl_spec.specs.declared.AssetRow.{AssetRow}
 use Rattle.pl_lifetimes.specs.Assets.{HasSid}
 use Rattle.pl_payouts.specs.declared.reading.Dividend.{Dividend}
-use Rattle.pl_payouts.specs.Payouts.{Rule, BadHeader, TooMany, BadField, UnknownSid, NotPositive, rules, header}
+use Rattle.pl_payouts.specs.Payouts.{DataFault, BadHeader, TooMany, BadField, UnknownSid, NotPositive, rules, header}
 use Rattle.pl_spec.specs.Limits.{most_payouts}
 
 -- the text is a decimal that is read as the cell
@@ -24,13 +24,13 @@ pub record IsDividendRecord (r : Record) (d : Dividend) : Type 0 where
   pub amount : IsAmountText (field r 2) d.amount
 
 -- what it is to break each rule
-abbrev pub Breaks : List AssetRow → List Dividend → Record → Rule → Type 0
-Breaks assets before r BadHeader = ⊥
+abbrev pub Breaks : List AssetRow → List Dividend → Record → DataFault → Type 0
 Breaks assets before r TooMany = most_payouts ≤ length before
 Breaks assets before r BadField = (d : Dividend) → ¬ IsDividendRecord r d
 Breaks assets before r UnknownSid =
     (d : Dividend) × IsDividendRecord r d × ((col : ℕ) → ¬ HasSid assets col d.sid)
 Breaks assets before r NotPositive = (d : Dividend) × IsDividendRecord r d × (d.amount ≤ℤ pos 0)
+Breaks assets before r fault = ⊥
 
 -- the record is the next payout
 abbrev pub IsDividend : List AssetRow → List Dividend → Record → Dividend → Type 0
@@ -41,7 +41,7 @@ abbrev pub ArePayoutsOf : List AssetRow → List Record → List Dividend → Ty
 ArePayoutsOf assets records rows = AreRowsUnder header (IsDividend assets) records rows
 
 -- no header, or the first faulty record
-abbrev pub IsPayoutsFault : List AssetRow → List Record → Fault Rule → Type 0
+abbrev pub IsPayoutsFault : List AssetRow → List Record → Fault DataFault → Type 0
 IsPayoutsFault assets records fault =
     IsFaultUnder header BadHeader (IsDividend assets)
     (λ before r. IsFirstBroken rules (Breaks assets before r)) records fault

@@ -7,7 +7,7 @@ ghost use Rattle.pl_records.specs.Reading.{Record, Fault, Judges};
 ghost use Rattle.pl_records.specs.RuleTable.{IsFirstBroken};
 ghost use Rattle.pl_lifetimes.specs.Assets.{AreAssets};
 ghost use Rattle.pl_payouts.specs.declared.reading.Dividend.{Dividend};
-ghost use Rattle.pl_payouts.specs.Payouts.{Rule, payouts_of, rules, dividend_or_rule};
+ghost use Rattle.pl_payouts.specs.Payouts.{DataFault, payouts_of, rules, dividend_or_rule};
 ghost use Rattle.pl_payouts.specs.Rules.{ArePayoutsOf, Breaks, IsDividend, IsPayoutsFault};
 
 /// A file is read as payouts exactly where it has its header and each further record is a payout of an asset,
@@ -21,7 +21,7 @@ pub fn payouts_in_plain_words()
         (rows : List Dividend) → (payouts_of assets records ≡ Ok rows)
         ↔ ArePayoutsOf assets records rows }
     ensures fault { (assets : List AssetRow) → AreAssets assets → (records : List Record)
-        (fault : Fault Rule) → (payouts_of assets records ≡ Err fault)
+        (fault : Fault DataFault) → (payouts_of assets records ≡ Err fault)
         ↔ IsPayoutsFault assets records fault }
 {}
 

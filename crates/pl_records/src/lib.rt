@@ -11,10 +11,12 @@ ghost use Rattle.pl_records.specs.Reading.{field, has_header};
 ghost use Rattle.pl_records.specs.Records.{csv_records, GivesNext};
 
 mod pieces;
+mod fault;
 mod plain;
 mod quoted;
 
 pub use pieces::{has_no_quote, last_line_end};
+pub use fault::DataFault;
 use plain::{Next, PlainRecords};
 use quoted::QuotedRecords;
 use std::alloc::{AllocError, Global};

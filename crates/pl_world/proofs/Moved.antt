@@ -13,7 +13,7 @@ use Rattle.pl_calendar.proofs.DaysRead.{AreDays-read}
 use Rattle.pl_lifetimes.specs.Assets.{assets_of}
 use Rattle.pl_lifetimes.proofs.AssetsMoved.{assets-moved}
 use Rattle.pl_lifetimes.proofs.AssetsRead.{AreAssets-read}
-use Rattle.pl_assets.specs.Labels.{Rule, LabelTable, label_rows_in, labels_of, table_of}
+use Rattle.pl_assets.specs.Labels.{DataFault, LabelTable, label_rows_in, labels_of, table_of}
 use Rattle.pl_assets.proofs.LabelsMoved.{labels-moved}
 use Rattle.pl_assets.proofs.LabelsRead.{AreRead, AreRead-read}
 use Rattle.pl_bars.specs.Bars.{bars_of}
@@ -33,7 +33,7 @@ pub AreRead-labels : (assets : List AssetRow) (records : List Record) (table : L
 unfolding labels_of
 AreRead-labels assets records table e = here (label_rows_in assets records) refl e
   where
-    here : (x : Result (List ColumnLabel) (Fault Rule)) → label_rows_in assets records ≡ x → (x >>= λ rows. Ok (table_of rows)) ≡ Ok table → AreRead assets table.rows
+    here : (x : Result (List ColumnLabel) (Fault DataFault)) → label_rows_in assets records ≡ x → (x >>= λ rows. Ok (table_of rows)) ≡ Ok table → AreRead assets table.rows
     here (Ok rows) was f = let same : table_of rows ≡ table = cc in rw (← same) (AreRead-read assets records rows was)
     here (Err fault) was f = absurd (cc)
 

@@ -12,7 +12,7 @@ use Rattle.pl_spec.specs.Permuted.{AgreeInAll}
 use Rattle.pl_spec.specs.World.{World, IsWorld}
 use Rattle.pl_spec.proofs.Numbers.{numbers_look_back}
 use Rattle.pl_assets.specs.Labels.{LabelTable}
-use Rattle.pl_numbers.specs.Numbers.{Rule, NumberTable, key_in, names_of, number_rows_in, numbers_of, table_of}
+use Rattle.pl_numbers.specs.Numbers.{DataFault, NumberTable, key_in, names_of, number_rows_in, numbers_of, table_of}
 use Rattle.pl_numbers.proofs.NumbersMoved.{numbers-moved}
 use Rattle.pl_numbers.proofs.NumbersRead as numbers_read
 use Rattle.pl_adjust.specs.Columns.{AreByDay}
@@ -32,7 +32,7 @@ pub table-once : (assets : List AssetRow) → AllPairs (λ a b. a.sid < b.sid) a
 unfolding numbers_of
 table-once assets up records table e = here (number_rows_in assets records) refl e
   where
-    here : (x : Result (List ColumnNumber) (Fault Rule)) → number_rows_in assets records ≡ x → (x >>= λ rows. Ok (table_of rows)) ≡ Ok table → NumbersOnce (map (number_of assets) table.rows)
+    here : (x : Result (List ColumnNumber) (Fault DataFault)) → number_rows_in assets records ≡ x → (x >>= λ rows. Ok (table_of rows)) ≡ Ok table → NumbersOnce (map (number_of assets) table.rows)
     here (Ok rows) was f =
         let same : table_of rows ≡ table = cc in
         let read = numbers_read.AreRead-read assets records rows was in

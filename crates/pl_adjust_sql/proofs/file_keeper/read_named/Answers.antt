@@ -1,5 +1,6 @@
 use Rattle.std.proofs.Common.{◌≡◌, Option, Some, None, Result, Ok, Err, OnOk, IfSome, string_bytes, refl, subst}
 use Rattle.pl_adjust_sql.specs.declared.file_keeper.Copied.{Copied}
+use Rattle.pl_adjust_sql.specs.Copies.{IsOpened, IsOther}
 use Rattle.pl_adjust_sql.proofs.file_keeper.read_named.Goals as goal
 
 on_ok : {T E A : Type 0} (r : Result T E) → A → OnOk r A
@@ -22,7 +23,8 @@ returns-clause-statement c =
     let name = c.args.name.now in
     let IsNamed : Copied → Type 0 = λ k. string_bytes k.name ≡ name in
     let kept = subst (λ o. IfSome o (λ (k : Copied). IsNamed k → x ≡ k)) c.take.ensures.value (once _ IsNamed c.take.result x c.in_ok-copied.ensures.once) in
-    on_clean c.read_table-answer.result c.read_table-answer.ensures.statement (λ reads. record { copy = x; named = c.in_ok-copied.ensures.name; once = kept; answer = reads })
+    let fresh = subst (λ o. IsOther o name → IsOpened name x) c.take.ensures.value c.in_ok-copied.ensures.opened in
+    on_clean c.read_table-answer.result c.read_table-answer.ensures.statement (λ reads. record { copy = x; named = c.in_ok-copied.ensures.name; once = kept; opened = fresh; answer = reads })
 
 pub returns-clause-kept : goal.returns-clause-kept
 returns-clause-kept c = on_ok c.read_table-answer.result refl

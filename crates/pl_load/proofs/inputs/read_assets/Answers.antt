@@ -1,7 +1,6 @@
 use Rattle.std.proofs.Common.{refl}
 use Rattle.std.proofs.lemmas.Result.{err_from_is_err_and}
 use Rattle.pl_words.specs.declared.request.InputFile.TheVariants as files
-use Rattle.pl_load.specs.Rules.{assets_fault}
 use Rattle.pl_load.specs.Work.{assets_rule}
 use Rattle.pl_load.specs.Held.{assets_in}
 use Rattle.pl_load.proofs.FileReads.{read-passes, read-stops, read-fails, reader-tells}
@@ -16,7 +15,7 @@ pub returns-in_err-read : goal.returns-in_err-read
 unfolding assets_rule
 returns-in_err-read g c =
     let p = err_from_is_err_and c.from_residual-in_err-read.result c.from_residual-in_err-read.ensures.1 in
-    let tells = reader-tells assets_fault _ _ p.0 p.2.is (rw c.deref.ensures.value at c.in_err-read.ensures.exact) in
+    let tells = reader-tells files.Assets _ _ p.0 p.2.is (rw c.deref.ensures.value at c.in_err-read.ensures.exact) in
     rw p.1 (read-stops files.Assets assets_rule _ p.0 c.in_ok-bytes.ensures.read c.in_ok-bytes.ensures.within tells p.2.inside)
 
 pub returns : goal.returns

@@ -1,7 +1,6 @@
 use Rattle.std.proofs.Common.{refl, sym}
 use Rattle.std.proofs.lemmas.Result.{err_from_is_err_and}
 use Rattle.pl_words.specs.declared.request.InputFile.TheVariants as files
-use Rattle.pl_load.specs.Rules.{labels_fault}
 use Rattle.pl_load.specs.Work.{labels_rule}
 use Rattle.pl_load.specs.Held.{labels_in}
 use Rattle.pl_load.proofs.FileReads.{not-asked, read-passes, read-stops, read-fails, reader-tells}
@@ -19,7 +18,7 @@ pub returns-in_err-read-in-Some-clause-read : goal.returns-in_err-read-in-Some-c
 unfolding labels_rule
 returns-in_err-read-in-Some-clause-read g c =
     let p = err_from_is_err_and c.from_residual-in_err-read-in-Some.result c.from_residual-in_err-read-in-Some.ensures.1 in
-    let tells = reader-tells labels_fault _ _ p.0 p.2.is (rw c.deref.ensures.value at c.in_err-read-in-Some.ensures.exact) in
+    let tells = reader-tells files.Labels _ _ p.0 p.2.is (rw c.deref.ensures.value at c.in_err-read-in-Some.ensures.exact) in
     rw (c.in-Some.is, p.1)
     (read-stops files.Labels (labels_rule c.args.assets.now) _ p.0 c.in_ok-bytes-in-Some.ensures.read c.in_ok-bytes-in-Some.ensures.within tells p.2.inside)
 

@@ -1,7 +1,6 @@
 use Rattle.std.proofs.Common.{refl}
 use Rattle.std.proofs.lemmas.Result.{err_from_is_err_and}
 use Rattle.pl_words.specs.declared.request.InputFile.TheVariants as files
-use Rattle.pl_load.specs.Rules.{payouts_fault}
 use Rattle.pl_load.specs.Work.{payouts_rule}
 use Rattle.pl_load.specs.Held.{payouts_in}
 use Rattle.pl_load.proofs.FileReads.{read-passes, read-stops, read-fails, reader-tells}
@@ -16,7 +15,7 @@ pub returns-in_err-read-clause-read : goal.returns-in_err-read-clause-read
 unfolding payouts_rule
 returns-in_err-read-clause-read g c =
     let p = err_from_is_err_and c.from_residual-in_err-read.result c.from_residual-in_err-read.ensures.1 in
-    let tells = reader-tells payouts_fault _ _ p.0 p.2.is (rw c.deref.ensures.value at c.in_err-read.ensures.exact) in
+    let tells = reader-tells files.Payouts _ _ p.0 p.2.is (rw c.deref.ensures.value at c.in_err-read.ensures.exact) in
     rw p.1 (read-stops files.Payouts (payouts_rule c.args.assets.now) _ p.0 c.in_ok-bytes.ensures.read c.in_ok-bytes.ensures.within tells p.2.inside)
 
 pub returns-clause-read : goal.returns-clause-read
