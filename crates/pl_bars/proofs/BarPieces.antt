@@ -15,7 +15,7 @@ use Rattle.pl_records.proofs.Readings.{rows-append, rows-fail, under_ok}
 use Rattle.pl_records.proofs.WholeRecords.{unquoted-ends}
 use Rattle.pl_spec.specs.declared.AssetRow.{AssetRow}
 use Rattle.pl_spec.specs.declared.BarRow.{BarRow}
-use Rattle.pl_bars.specs.Bars.{Rule, header, bar_or_rule, rows_in, bars_of, key_of}
+use Rattle.pl_bars.specs.Bars.{header, bar_or_rule, rows_in, bars_of, key_of}
 use Rattle.pl_bars.specs.Bars as rules
 use Rattle.pl_bars.specs.Faults.{fault_of}
 use Rattle.pl_bars.specs.InPieces.{AreRowsOf, IsFaultOf, IsFaulty, AreKept, IsReadTo, TextSoFar}
