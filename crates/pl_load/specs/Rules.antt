@@ -74,12 +74,13 @@ labels_fault line labels.LabelTooLong = Data files.Labels line LabelTooLong
 labels_fault line labels.UnknownSid = Data files.Labels line UnknownSid
 labels_fault line labels.DuplicateStart = Data files.Labels line DuplicateStart
 
-abbrev pub numbers_fault : ℕ → numbers.Rule → Fault
-numbers_fault line numbers.BadHeader = Data files.Numbers line BadHeader
-numbers_fault line numbers.TooMany = Passed limits.Numbers
-numbers_fault line numbers.BadField = Data files.Numbers line BadField
-numbers_fault line numbers.UnknownSid = Data files.Numbers line UnknownSid
-numbers_fault line numbers.Duplicate = Data files.Numbers line Duplicate
+-- of the first file of numbers, or of the second
+abbrev pub numbers_fault : InputFile → ℕ → numbers.Rule → Fault
+numbers_fault file line numbers.BadHeader = Data file line BadHeader
+numbers_fault file line numbers.TooMany = Passed limits.Numbers
+numbers_fault file line numbers.BadField = Data file line BadField
+numbers_fault file line numbers.UnknownSid = Data file line UnknownSid
+numbers_fault file line numbers.Duplicate = Data file line Duplicate
 
 abbrev pub bars_fault : ℕ → bars.Rule → Fault
 bars_fault line bars.BadHeader = Data files.Bars line BadHeader

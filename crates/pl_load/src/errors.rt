@@ -1,6 +1,8 @@
 //! What the errors of the readers and of the checker are to a command.
 
 ghost use Rattle.std.specs.Prelude.{◌≡◌};
+ghost use Rattle.pl_numbers.specs.NumberFaults as numbers;
+ghost use Rattle.pl_words.specs.declared.request.InputFile.TheVariants.{Numbers};
 ghost use Rattle.pl_load.specs.Stages.{IsErrorFault};
 ghost use Rattle.pl_load.specs.Rules.{line_fault, fault_or_memory, sessions_fault, assets_fault, labels_fault, numbers_fault, bars_fault, revisions_fault, payouts_fault, rows_fault, syntax_error, rule_fault, check_error, plan_error, lines_error, explain_error};
 
@@ -121,20 +123,24 @@ impl From<LabelsError> for Fault {
 }
 
 impl From<NumbersError> for Fault {
-    ghost use Rattle.pl_numbers.specs.NumberFaults as numbers;
-
-    ghost from_gives = { λ error fault. IsErrorFault fault (line_fault numbers_fault (numbers.fault_of error)) };
+    ghost from_gives = { λ error fault. IsErrorFault fault (line_fault (numbers_fault Numbers) (numbers.fault_of error)) };
 
     fn from(error: NumbersError) -> Fault {
-        let file = InputFile::Numbers;
-        match error {
-            NumbersError::BadHeader => faulty(file, 1, DataFault::BadHeader),
-            NumbersError::BadField { line } => faulty(file, line, DataFault::BadField),
-            NumbersError::UnknownSid { line } => faulty(file, line, DataFault::UnknownSid),
-            NumbersError::Duplicate { line } => faulty(file, line, DataFault::Duplicate),
-            NumbersError::TooMany { .. } => Fault::Passed(Limit::Numbers),
-            NumbersError::Memory => Fault::Memory,
-        }
+        numbers_fault(InputFile::Numbers, error)
+    }
+}
+
+// The fault of a file of numbers, which is the first one or that of the results.
+pub(crate) fn numbers_fault(file: InputFile, error: NumbersError) -> Fault
+    ensures { IsErrorFault result (line_fault (numbers_fault file) (numbers.fault_of error)) }
+{
+    match error {
+        NumbersError::BadHeader => faulty(file, 1, DataFault::BadHeader),
+        NumbersError::BadField { line } => faulty(file, line, DataFault::BadField),
+        NumbersError::UnknownSid { line } => faulty(file, line, DataFault::UnknownSid),
+        NumbersError::Duplicate { line } => faulty(file, line, DataFault::Duplicate),
+        NumbersError::TooMany { .. } => Fault::Passed(Limit::Numbers),
+        NumbersError::Memory => Fault::Memory,
     }
 }
 

@@ -13,3 +13,4 @@ pub mod NumbersSaid
 pub mod NumbersMoved
 pub mod NumberWorlds
 pub mod NumbersLast
+pub mod NumbersJoined

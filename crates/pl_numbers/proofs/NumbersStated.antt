@@ -19,7 +19,8 @@ use Rattle.pl_numbers.specs.NumberPlaces.{AreNumbered, AreStated, IsTableOf, key
 use Rattle.pl_numbers.specs.declared.rows.NumberRows.{NumberRows}
 use Rattle.pl_assets.proofs.Dated.{flips}
 use Rattle.pl_numbers.proofs.NumberKeys.{numbers}
-use Rattle.pl_numbers.proofs.NumberRowsMade.{once_named}
+use Rattle.pl_records.proofs.Sorts.{length-sorted_by}
+use Rattle.pl_numbers.proofs.NumberRowsMade.{few_names as few_named, once_named}
 use Rattle.pl_numbers.proofs.NumbersRead.{AreRead-read}
 use Rattle.pl_numbers.proofs.NumberTables.{told_apart, cols_kept, table_kept, table_made}
 
@@ -97,6 +98,7 @@ table_stated assets records t new h own few e names places =
     let read = AreRead-read assets records (shown_rows t) said in
     record {
       table = table_kept t new h names places assets read;
+      named = rw (names, places) (omega (arith, few_named t h, length-sorted_by key_of t.places.items));
       exact = ap (λ x. x >>= λ rows. Ok (table_of rows)) said ∙ ap Ok (table_made t new h names places);
       cols = cols_kept t new h names places assets read;
     }
