@@ -12,7 +12,8 @@ use Rattle.pl_records.specs.Records.{csv_records}
 use Rattle.pl_calendar.specs.Days.{sessions_of}
 use Rattle.pl_lifetimes.specs.Assets.{assets_of}
 use Rattle.pl_assets.specs.Labels.{LabelTable, no_labels, labels_of}
-use Rattle.pl_numbers.specs.Numbers.{NumberTable, numbers_beside, numbers_of}
+use Rattle.pl_numbers.specs.Numbers.{NumberTable, numbers_of}
+use Rattle.pl_numbers.specs.Beside.{numbers_beside}
 use Rattle.pl_bars.specs.Bars.{bars_of}
 use Rattle.pl_payouts.specs.declared.reading.Dividend.{Dividend}
 use Rattle.pl_payouts.specs.Payouts.{payouts_of}

@@ -26,6 +26,7 @@ use Rattle.pl_planner.specs.declared.plans.PlanError.{PlanError}
 use Rattle.pl_planner.specs.declared.plans.PlanError.TheVariants as plan_errors
 use Rattle.pl_check.specs.declared.fault.CheckError.{CheckError}
 use Rattle.pl_check.specs.declared.fault.CheckError.TheVariants as check_errors
+use Rattle.pl_words.specs.declared.request.InputFile.{InputFile}
 use Rattle.pl_words.specs.declared.request.InputFile.TheVariants as files
 use Rattle.pl_load.specs.declared.fault.SyntaxFault.TheVariants as misspelled
 use Rattle.pl_load.specs.declared.fault.RuleFault.TheVariants as broken

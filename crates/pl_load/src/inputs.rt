@@ -5,6 +5,8 @@ ghost use Rattle.pl_payouts.specs.Payouts.{AreKnown};
 ghost use Rattle.pl_syntax.specs.Scripts.{parsed};
 ghost use Rattle.pl_terms.specs.Checked.{pipeline_of};
 ghost use Rattle.pl_words.specs.declared.request.InputFile.TheVariants as files;
+ghost use Rattle.pl_words.specs.Request.{numbers_named};
+ghost use Rattle.pl_words.specs.Views.{world_names_of};
 ghost use Rattle.pl_load.specs.Held.{script_in, pipeline_in, days_in, assets_in, labels_asked, numbers_asked, results_asked, bars_in, revised_asked, payouts_in, derivation_in};
 ghost use Rattle.pl_load.specs.Work.{cap_of, read_step, syntax_step, pipeline_steps, evaluated_steps, sessions_rule, assets_rule, labels_steps, numbers_steps, results_steps, bars_rule, revisions_steps, payouts_rule, derivation_step};
 ghost use Rattle.pl_load.specs.Views.{shelf_change};
@@ -25,7 +27,7 @@ use pl_outside::{ReadError, Shelf, read_file};
 use pl_payouts::Payouts;
 use pl_syntax::{Script, parse};
 use pl_terms::Checked;
-use pl_words::InputFile;
+use pl_words::{InputFile, WorldNames};
 use std::alloc::Global;
 
 // The whole bytes of a file.
@@ -72,22 +74,22 @@ pub fn read_checked<S: Shelf>(alloc: Global, shelf: &mut S, name: &str) -> Resul
     Ok(check(alloc, &script)?)
 }
 
-/// The same for a command that reads bars, and the file of numbers of the other name where one is given. The
-/// fault is also that the pipeline has a number, and no file of numbers is named.
+/// The same for a command that reads bars of a world of these names. The fault is also that the pipeline has
+/// a number, and no file of numbers is named.
 pub fn read_evaluated<S: Shelf>(
     alloc: Global,
     shelf: &mut S,
     name: &str,
-    numbers: Option<&str>,
+    world: &WorldNames<'_>,
 ) -> Result<Checked, Fault>
-    ensures { let asked = option_map (λ n. n.now) numbers.entry in
+    ensures { let asked = numbers_named (world_names_of world.now) in
         IsRead (shelf_change S.Shelf shelf.old shelf.new)
         (Some name.now) (λ held. evaluated_steps held asked)
         (λ held checked. pipeline_in held ≡ pipeline_of checked) result }
 {
     let script = read_script(alloc, shelf, name)?;
     let checked = check(alloc, &script)?;
-    judge_numbers(&script, numbers)?;
+    judge_numbers(&script, world.numbers_named())?;
     Ok(checked)
 }
 

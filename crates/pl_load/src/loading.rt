@@ -79,7 +79,7 @@ pub fn load<S: Shelf, K: AdjustKeeper>(
         (run_of request.now) result }
     ensures ready { IfOk result IsReadyRun }
 {
-    let checked = read_evaluated(alloc, shelf, request.pipeline, request.world.numbers_named())?;
+    let checked = read_evaluated(alloc, shelf, request.pipeline, &request.world)?;
     let planned = load_world(alloc, request, &checked, shelf, keeper)?;
     let PlannedWorld { world, plan } = planned;
     Ok(Loaded {

@@ -14,3 +14,5 @@ pub mod NumbersMoved
 pub mod NumberWorlds
 pub mod NumbersLast
 pub mod NumbersJoined
+pub mod Pairs
+pub mod NumbersBeside

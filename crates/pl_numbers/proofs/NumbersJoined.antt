@@ -1,12 +1,13 @@
 -- The tables of two files behind each other.
-use Rattle.std.proofs.Common.{◌≡◌, ℕ, suc, ◌+◌, ◌*◌, ◌<◌, ◌≤◌, ◌^◌, Bool, true, false, ℤ, pos, ◌+ℤ◌, ◌≤ℤ◌, List, [], ◌∷◌, ◌++◌, length, length-append, map, get_or, All, AllPairs, FitsSigned, w32, unsigned_abs, refl, sym, ap, ◌∙◌, arith}
-use Rattle.std.specs.List.{list_any}
+use Rattle.std.proofs.Common.{◌≡◌, ℕ, suc, ◌+◌, ◌-◌, ◌*◌, ◌<◌, ◌≤◌, ◌^◌, Bool, true, false, ℤ, Option, Some, None, is_some, take, append_assoc, pos, ◌+ℤ◌, ◌≤ℤ◌, List, [], ◌∷◌, ◌++◌, length, length-append, map, get_or, All, AllPairs, FitsSigned, w32, unsigned_abs, refl, sym, ap, ◌∙◌, arith}
+use Rattle.std.specs.List.{list_any, position}
+use Rattle.pl_assets.specs.Labels.{with_text}
 use Rattle.std.specs.Str.{bytes_eq}
 use Rattle.std.proofs.Math.Seq.{get_or-append-add}
 use Rattle.std.proofs.lemmas.Int.{ints}
-use Rattle.std.proofs.lemmas.List.{get_or_append_left, get_or-map, length-map, map-append}
+use Rattle.std.proofs.lemmas.List.{get_or_append_left, length-map, length-take, map-append, take_more}
 use Rattle.std.proofs.lemmas.List.Elements.{All-append, All-map}
-use Rattle.std.proofs.lemmas.List.Folds.{list_any_at}
+use Rattle.std.proofs.lemmas.List.Folds.{list_any-append, list_any_at}
 use Rattle.std.proofs.lemmas.List.Kept.{AllPairs-cons}
 use Rattle.pl_spec.specs.Dates.{IsDay}
 use Rattle.pl_spec.specs.Limits.{most_numbers}
@@ -14,24 +15,27 @@ use Rattle.pl_spec.specs.Parts.{ColumnNumber}
 use Rattle.pl_spec.specs.Rounding.{IsCell}
 use Rattle.pl_spec.proofs.Signed.{pos-unsigned_abs, from_first, to_last}
 use Rattle.pl_records.proofs.RuleTables.{not_true}
-use Rattle.pl_assets.proofs.FirstSeen.{Once, equal_text, same_text}
-use Rattle.pl_numbers.specs.Numbers.{both, is_among}
-use Rattle.pl_numbers.specs.NumberPlaces.{IsPlace, IsTable, key_of, moved, row_at, shown_rows, table_in}
+use Rattle.pl_assets.proofs.FirstSeen.{Once, equal_text, front_more, same_text}
+use Rattle.pl_assets.proofs.TextLists.{any_there, none_there}
+use Rattle.pl_numbers.specs.Beside.{both, is_among}
+use Rattle.pl_numbers.specs.NumberPlaces.{IsPlace, IsTable, key_of, row_at, shown_rows, table_in}
+use Rattle.pl_numbers.specs.BesidePlaces.{moved}
 use Rattle.pl_numbers.specs.declared.rows.Place.{Place}
 use Rattle.pl_numbers.specs.declared.rows.NumberRows.{NumberRows}
 
 -- ---- lists
 
-pairs-append : {X : Type 0} (R : X → X → Type 0) (xs ys : List X) → AllPairs R xs → AllPairs R ys → All (λ x. All (R x) ys) xs → AllPairs R (xs ++ ys)
+pub pairs-append : {X : Type 0} (R : X → X → Type 0) (xs ys : List X) → AllPairs R xs → AllPairs R ys → All (λ x. All (R x) ys) xs → AllPairs R (xs ++ ys)
 pairs-append R [] ys p q across = q
 pairs-append R (x ∷ xs) ys p q across =
     AllPairs-cons R x (xs ++ ys) (All-append (R x) xs ys (λ k d l. p 0 (suc k) d (omega arith) (omega arith)) (across 0 x (omega arith)))
     (pairs-append R xs ys (λ i j d l m. p (suc i) (suc j) d (omega arith) (omega arith)) q (λ k d l. across (suc k) d (omega arith)))
 
 pairs-map : {X Y : Type 0} (R : Y → Y → Type 0) (f : X → Y) (xs : List X) → AllPairs (λ x y. R (f x) (f y)) xs → AllPairs R (map f xs)
-pairs-map R f xs h i j d lt l =
-    let inside : j < length xs = omega (arith, l, length-map xs f) in
-    rw (get_or-map f xs i (get_or xs i (get_or xs j _)) d (omega arith), get_or-map f xs j (get_or xs j _) d inside) (h i j _ lt inside)
+pairs-map R f [] h = λ i j d lt l. absurd (omega arith)
+pairs-map R f (x ∷ xs) h =
+    AllPairs-cons R (f x) (map f xs) (All-map (R (f x)) f xs (λ k d l. h 0 (suc k) d (omega arith) (omega arith)))
+    (pairs-map R f xs (λ i j d lt l. h (suc i) (suc j) d (omega arith) (omega arith)))
 
 -- ---- names
 
@@ -45,6 +49,27 @@ apart first other h i d l j e m = not_true _ (λ same.
 
 pub names_once : (first other : List (List ℕ)) → Once first → Once other → list_any (is_among first) other ≡ false → AllPairs (λ x y. bytes_eq x y ≡ false) (first ++ other)
 names_once first other f o h = pairs-append (λ x y. bytes_eq x y ≡ false) first other f o (apart first other h)
+
+-- a text has a place exactly where it is among the names
+pub found-among : (p : List ℕ → Bool) (xs : List (List ℕ)) (o : Option ℕ) → o ≡ position p xs → is_some o ≡ list_any p xs
+found-among p xs None e = sym (none_there p xs (sym e))
+found-among p xs (Some n) e = sym (any_there p xs n (sym e))
+
+-- the next of some texts that differ is new among the first ones and among others that have none of them
+fresh : (ys : List (List ℕ)) (n : ℕ) → Once ys → n < length ys → list_any (bytes_eq (get_or ys n [])) (take n ys) ≡ false
+fresh ys n once l = not_true _ (λ t.
+    let same : take n ys ≡ take (n + 1) ys = rw t at (front_more ys n once l) in
+    absurd (omega (arith, ap length same, length-take n ys, length-take (n + 1) ys)))
+
+other-text : (xs ys : List (List ℕ)) (n : ℕ) → list_any (is_among xs) ys ≡ false → n < length ys → list_any (bytes_eq (get_or ys n [])) xs ≡ false
+other-text xs ys n parted l = not_true _ (λ t. let bad : true ≡ false = sym (list_any_at (is_among xs) ys n [] l t) ∙ parted in absurd (cc))
+
+pub text-joins : (xs ys : List (List ℕ)) (n : ℕ) → Once ys → list_any (is_among xs) ys ≡ false → n < length ys
+    → with_text (xs ++ take n ys) (get_or ys n []) ≡ xs ++ take (n + 1) ys
+text-joins xs ys n once parted l =
+    let new : list_any (bytes_eq (get_or ys n [])) (xs ++ take n ys) ≡ false =
+    rw (list_any-append (bytes_eq (get_or ys n [])) xs (take n ys), other-text xs ys n parted l, fresh ys n once l) refl in
+    rw new (append_assoc xs (take n ys) (get_or ys n [] ∷ []) ∙ ap (λ zs. xs ++ zs) (sym (take_more ys n [] l)))
 
 -- ---- keys
 
@@ -68,7 +93,7 @@ key_low names p h =
 
 module _ (first other new : NumberRows) (f : IsTable first) (o : IsTable other) (names : new.names ≡ first.names ++ other.names)
     (places : new.places.items ≡ first.places.items ++ map (moved (length first.names)) other.places.items) where
-  count : ℕ
+  abbrev count : ℕ
   count = length first.names
 
   place_left : (p : Place) → IsPlace first.names p → IsPlace (first.names ++ other.names) p

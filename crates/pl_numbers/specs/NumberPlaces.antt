@@ -1,5 +1,5 @@
 -- Rows of numbers as they are kept: numbers for their names, by which they stand.
-use Rattle.std.specs.Prelude.{◌≡◌, ℕ, ◌+◌, ◌^◌, ◌<◌, ◌≤◌, nat_le, true, false, ℤ, List, [], ◌∷◌, ◌++◌, length, map, filter, slice_index_or, bytes_eq, All, AllPairs, Option, Some, None, option_map, Result, Ok, FitsSigned}
+use Rattle.std.specs.Prelude.{◌≡◌, ℕ, ◌^◌, ◌<◌, ◌≤◌, nat_le, true, false, ℤ, List, [], ◌∷◌, ◌++◌, length, map, filter, slice_index_or, bytes_eq, All, AllPairs, Option, Some, None, option_map, Result, Ok, FitsSigned}
 use Rattle.std.specs.Int.{w32}
 use Rattle.std.specs.Int.RustNames.{int_le}
 use Rattle.std.specs.List.{position_or_len}
@@ -120,17 +120,8 @@ newest_in t name col day = last_known (filter (is_number_of (slice_index_or t.na
 abbrev pub IsNewest : NumberRows → ℕ → ℕ → ℤ → Option Place → Type 0
 IsNewest t name col day place = option_map (λ p. by_column (row_at t.names p)) place ≡ newest_in t name col day
 
--- each name has a row, so that there are no more names than rows
-abbrev pub AreNamed : NumberRows → Type 0
-AreNamed t = length t.names ≤ length t.places.items
-
--- the row under a name that stands so many names further on
-abbrev pub moved : ℕ → Place → Place
-moved count p = record { name = count + p.name; col = p.col; known = p.known; value = p.value }
-
 -- it is the table of the records, in columns of assets
 pub record IsTableOf (assets : List AssetRow) (records : List Record) (t : NumberRows) : Type 0 where
   pub table : IsTable t
-  pub named : AreNamed t
   pub exact : numbers_of assets records ≡ Ok (table_in t)
   pub cols : All (λ r. r.col < length assets) (shown_rows t)

@@ -1,6 +1,6 @@
 -- Numbers by column, with the list of their names: those of the records of a numbers file, and the first rule
 -- that a record breaks.
-use Rattle.std.specs.Prelude.{◌≡◌, ℕ, ◌+◌, ◌-◌, ◌==◌, ◌≤◌, ◌&&◌, nat_le, nat_lt, Bool, false, if◌then◌else◌, ℤ, codes, List, [], ◌∷◌, ◌++◌, length, drop, take, map, bytes_eq, All, AllPairs, Contains, Option, None, option_map, option_and_then, Result, Ok, Err}
+use Rattle.std.specs.Prelude.{◌≡◌, ℕ, ◌==◌, ◌≤◌, ◌&&◌, nat_le, Bool, false, if◌then◌else◌, ℤ, codes, List, [], ◌∷◌, length, map, bytes_eq, All, AllPairs, Contains, Option, None, option_map, option_and_then, Result, Ok}
 use Rattle.std.specs.List.{list_any, position_or_len}
 use Rattle.std.specs.Option.{ok_or}
 use Rattle.std.specs.Ordering.{int_eq}
@@ -103,33 +103,6 @@ number_rows_in assets records = rows_under header BadHeader (number_or_rule asse
 -- the same by name, column and day, with their names
 unfoldable pub numbers_of : List AssetRow → List Record → Result NumberTable (Fault Rule)
 numbers_of assets records = number_rows_in assets records >>= λ rows. Ok (table_of rows)
-
--- ---- a second file beside a first
-
--- the names and the rows of the one behind those of the other
-abbrev pub both : NumberTable → NumberTable → NumberTable
-both first other = record { names = first.names ++ other.names; rows = first.rows ++ other.rows }
-
-abbrev pub is_among : List (List ℕ) → List ℕ → Bool
-is_among names name = list_any (bytes_eq name) names
-
--- the record begins with one of the names
-abbrev pub begins_among : List (List ℕ) → Record → Bool
-begins_among names r = list_any (is_among names) (take 1 r)
-
--- There is room for the rows of both, and no name has rows in both: the fault is that of the first record
--- after the header that has no room, or else of the first that has a name of the first file.
-unfoldable pub joined : NumberTable → List Record → NumberTable → Result NumberTable (Fault Rule)
-joined first records other =
-    if nat_lt most_numbers (length first.rows + length other.rows)
-    then Err (record { rule = TooMany; line = 2 + (most_numbers - length first.rows) })
-    else (if list_any (is_among first.names) other.names
-    then Err (record { rule = Duplicate; line = 2 + position_or_len (begins_among first.names) (drop 1 records) })
-    else Ok (both first other))
-
--- the numbers of a first file with those of the records of a second one, which are judged by themselves first
-unfoldable pub numbers_beside : NumberTable → List AssetRow → List Record → Result NumberTable (Fault Rule)
-numbers_beside first assets records = numbers_of assets records >>= joined first records
 
 -- ---- numbers as they are kept
 

@@ -4,9 +4,10 @@ ghost use Rattle.std.specs.List.{list_any, position_or_len};
 ghost use Rattle.pl_spec.specs.Limits.{most_numbers};
 ghost use Rattle.pl_records.specs.Reading.{Answers};
 ghost use Rattle.pl_records.specs.Records.{csv_records};
-ghost use Rattle.pl_numbers.specs.Numbers.{begins_among, both, is_among, joined, numbers_beside, numbers_of};
+ghost use Rattle.pl_numbers.specs.Beside.{begins_among, both, is_among, joined, numbers_beside};
 ghost use Rattle.pl_numbers.specs.NumberFaults.{fault_of};
-ghost use Rattle.pl_numbers.specs.NumberPlaces.{AreNamed, IsPlace, IsTable, moved, shown_rows, table_in};
+ghost use Rattle.pl_numbers.specs.NumberPlaces.{IsTable, shown_rows, table_in};
+ghost use Rattle.pl_numbers.specs.BesidePlaces.{AreNamed, moved};
 
 use crate::MOST_NUMBERS;
 use crate::error::NumbersError;
@@ -18,7 +19,7 @@ use pl_records::Records;
 use std::alloc::{AllocError, Global};
 
 // The rows of a second file behind those of a first, where there is room and no name has rows in both.
-#[tactic(auto, unfolding(crate::specs::Numbers::numbers_beside))]
+#[tactic(auto, unfolding(crate::specs::Beside::numbers_beside))]
 pub(crate) fn with_file(
     alloc: Global,
     first: NumberRows,
@@ -40,7 +41,7 @@ pub(crate) fn with_file(
 }
 
 // Whether the tables may stand behind each other. The fault is that of a record of the second file.
-#[tactic(auto, unfolding(crate::specs::Numbers::joined))]
+#[tactic(auto, unfolding(crate::specs::Beside::joined))]
 fn judge(
     alloc: Global,
     first: &NumberRows,
@@ -131,10 +132,7 @@ impl NumberRows {
         ensures both { IfOk result (λ t. table_in t ≡ both (table_in self) (table_in other.now)) }
         ensures table { IfOk result IsTable }
     {
-        let NumberRows {
-            mut names,
-            mut places,
-        } = self;
+        let (mut names, mut places) = self.into_parts();
         let count = names.len() as u32;
         put_names(&mut names, &other.names)?;
         put_places(&mut places, &other.places, count)?;
@@ -144,7 +142,8 @@ impl NumberRows {
 
 // Puts names behind others, each of which stands once among all.
 pub(crate) fn put_names(into: &mut Texts, names: &Texts) -> Result<(), AllocError>
-    requires { AllPairs (λ x y. bytes_eq x y ≡ false) (into.old ++ names.now) }
+    requires once { AllPairs (λ x y. bytes_eq x y ≡ false) names.now }
+    requires apart { list_any (is_among into.old) names.now ≡ false }
     ensures { OnOk result (into.new ≡ into.old ++ names.now) }
 {
     for number in 0..names.len() {

@@ -8,7 +8,8 @@ ghost use Rattle.pl_spec.specs.Dates.{IsDay};
 ghost use Rattle.pl_spec.specs.Rounding.{IsCell};
 ghost use Rattle.pl_records.specs.Reading.{Answers};
 ghost use Rattle.pl_records.specs.Records.{csv_records};
-ghost use Rattle.pl_numbers.specs.Numbers.{AreNumbers, known_on, number_on, numbers_beside, numbers_of};
+ghost use Rattle.pl_numbers.specs.Numbers.{AreNumbers, known_on, number_on, numbers_of};
+ghost use Rattle.pl_numbers.specs.Beside.{numbers_beside};
 ghost use Rattle.pl_numbers.specs.NumberFaults.{fault_of};
 ghost use Rattle.pl_numbers.specs.NumberRowsShown.{is_newest_in, shown_at};
 

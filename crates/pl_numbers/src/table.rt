@@ -4,7 +4,8 @@ ghost use Rattle.pl_records.specs.Reading.{Answers};
 ghost use Rattle.pl_records.specs.Records.{csv_records};
 ghost use Rattle.pl_numbers.specs.Numbers.{numbers_of};
 ghost use Rattle.pl_numbers.specs.NumberFaults.{fault_of};
-ghost use Rattle.pl_numbers.specs.NumberPlaces.{AreNamed, IsTable, IsTableOf, shown_rows, table_in};
+ghost use Rattle.pl_numbers.specs.BesidePlaces.{AreNamed};
+ghost use Rattle.pl_numbers.specs.NumberPlaces.{IsTable, IsTableOf, shown_rows, table_in};
 
 use crate::error::NumbersError;
 use crate::order;
@@ -39,7 +40,8 @@ fn faultless_table(
     bytes: &[u8],
     assets: &Assets,
 ) -> Result<Option<NumberRows>, AllocError>
-    ensures { IfOk result (λ o. IfSome o (IsTableOf assets.now (csv_records bytes.now))) }
+    ensures table { IfOk result (λ o. IfSome o (IsTableOf assets.now (csv_records bytes.now))) }
+    ensures named { IfOk result (λ o. IfSome o AreNamed) }
 {
     let stated = stated_rows(alloc, bytes, assets)?;
     match stated {

@@ -1,7 +1,7 @@
 use Rattle.std.proofs.Common.{◌≡◌, ◌+◌, ◌≤◌, length}
 use Rattle.std.specs.List.{position_or_len}
 use Rattle.pl_spec.specs.Limits.{most_numbers}
-use Rattle.pl_numbers.specs.Numbers.{begins_among}
+use Rattle.pl_numbers.specs.Beside.{begins_among}
 use Rattle.pl_numbers.proofs.join.line_from.Given as goal
 
 abbrev pub invariant-rows : goal.invariant-rows

@@ -1,5 +1,5 @@
 use Rattle.std.proofs.Common.{◌≡◌, ◌++◌, map, take}
-use Rattle.pl_numbers.specs.NumberPlaces.{moved}
+use Rattle.pl_numbers.specs.BesidePlaces.{moved}
 use Rattle.pl_numbers.proofs.join.put_places.Given as goal
 
 abbrev pub invariant-loop-i : goal.invariant-loop-i
