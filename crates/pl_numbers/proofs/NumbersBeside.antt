@@ -46,11 +46,12 @@ any-but x y (z ∷ zs) e = here (bytes_eq x z) refl (any-but x y zs e)
 seen-has : (y : List ℕ) (xs : List (List ℕ)) → list_any (bytes_eq y) xs ≡ true → list_any (bytes_eq y) (first_seen xs) ≡ true
 unfolding first_seen
 seen-has y [] e = e
-seen-has y (x ∷ xs) e = here (bytes_eq y x) refl e
+seen-has y (x ∷ xs) e = here (bytes_eq y x) refl (seen-has y xs) e
   where
-    here : (b : Bool) → bytes_eq y x ≡ b → (b || list_any (bytes_eq y) xs) ≡ true → (bytes_eq y x || list_any (bytes_eq y) (filter (λ z. not (bytes_eq x z)) (first_seen xs))) ≡ true
-    here true t f = rw t refl
-    here false t f = rw (t, any-but x y (first_seen xs) t) (seen-has y xs f)
+    here : (b : Bool) → bytes_eq y x ≡ b → (list_any (bytes_eq y) xs ≡ true → list_any (bytes_eq y) (first_seen xs) ≡ true)
+        → (b || list_any (bytes_eq y) xs) ≡ true → (bytes_eq y x || list_any (bytes_eq y) (filter (λ z. not (bytes_eq x z)) (first_seen xs))) ≡ true
+    here true t more f = rw t refl
+    here false t more f = rw (t, any-but x y (first_seen xs) t) (more f)
 
 -- ---- what is kept of a table
 
@@ -116,11 +117,12 @@ module _ (assets : List AssetRow) (first other : NumberTable) (f : AreKept asset
     where
       shared : (x : List ℕ) (xs : List (List ℕ)) → is_among xs x ≡ true → is_among first.names x ≡ true → list_any (is_among first.names) xs ≡ true
       shared x [] h g = h
-      shared x (y ∷ ys) h g = here (bytes_eq x y) refl h
+      shared x (y ∷ ys) h g = here (bytes_eq x y) refl (λ k. shared x ys k g) h
         where
-          here : (b : Bool) → bytes_eq x y ≡ b → (b || list_any (bytes_eq x) ys) ≡ true → (is_among first.names y || list_any (is_among first.names) ys) ≡ true
-          here true t k = let is : x ≡ y = same_text x y t in let there : is_among first.names y ≡ true = rw is at g in rw there refl
-          here false t k = either (is_among first.names y) (shared x ys k g)
+          here : (b : Bool) → bytes_eq x y ≡ b → (list_any (bytes_eq x) ys ≡ true → list_any (is_among first.names) ys ≡ true)
+              → (b || list_any (bytes_eq x) ys) ≡ true → (is_among first.names y || list_any (is_among first.names) ys) ≡ true
+          here true t more k = let is : x ≡ y = same_text x y t in let there : is_among first.names y ≡ true = rw is at g in rw there refl
+          here false t more k = either (is_among first.names y) (more k)
             where
               either : (c : Bool) → list_any (is_among first.names) ys ≡ true → (c || list_any (is_among first.names) ys) ≡ true
               either true k = refl

@@ -10,7 +10,7 @@ returns-clause-both c =
     let names : c.put_names.new.into ≡ first.names ++ other.names = rw c.into_parts-names.ensures.names at c.in_ok-put_names.ensures in
     let places : c.put_places.new.into.items ≡ first.places.items ++ map (moved (length first.names)) other.places.items =
     rw (c.into_parts-names.ensures.places, c.deref.ensures.value, c.len-count.ensures, c.into_parts-names.ensures.names) at c.in_ok-put_places.ensures in
-    table_joined first other _ c.requires.first c.requires.other names places
+    table_joined first other (record { names = c.put_names.new.into; places = c.put_places.new.into }) c.requires.first c.requires.other names places
 
 pub returns-clause-table : goal.returns-clause-table
 returns-clause-table c =
@@ -19,4 +19,4 @@ returns-clause-table c =
     let names : c.put_names.new.into ≡ first.names ++ other.names = rw c.into_parts-names.ensures.names at c.in_ok-put_names.ensures in
     let places : c.put_places.new.into.items ≡ first.places.items ++ map (moved (length first.names)) other.places.items =
     rw (c.into_parts-names.ensures.places, c.deref.ensures.value, c.len-count.ensures, c.into_parts-names.ensures.names) at c.in_ok-put_places.ensures in
-    joined_table first other _ c.requires.first c.requires.other names places c.requires.apart c.requires.few_names c.requires.room
+    joined_table first other (record { names = c.put_names.new.into; places = c.put_places.new.into }) c.requires.first c.requires.other names places c.requires.apart c.requires.few_names c.requires.room
