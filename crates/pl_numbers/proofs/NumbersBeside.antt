@@ -21,7 +21,7 @@ use Rattle.pl_records.specs.Sorted.{sorted_by}
 use Rattle.pl_assets.specs.Labels.{first_seen}
 use Rattle.pl_assets.proofs.Dated.{flips}
 use Rattle.pl_assets.proofs.FirstSeen.{equal_text, same_text}
-use Rattle.pl_numbers.specs.Numbers.{BadHeader, NumberTable, Rule, header, is_from, key_in, names_of, number_or_rule, number_rows_in, numbers_of, table_of}
+use Rattle.pl_numbers.specs.Numbers.{BadHeader, NumberTable, DataFault, header, is_from, key_in, names_of, number_or_rule, number_rows_in, numbers_of, table_of}
 use Rattle.pl_numbers.specs.Beside.{both, is_among, joined, numbers_beside}
 use Rattle.pl_numbers.proofs.NumberKeys.{from_parts, numbers}
 use Rattle.pl_numbers.proofs.NumbersJoined.{pairs-append}
@@ -158,6 +158,6 @@ beside-kept assets first records table f e = here (numbers_of assets records) re
         let room : length first.rows + length other.rows ≤ most_numbers = grind (arith, nat_tests) in
         record { other = other; own = own; is = same; read = rw (← same) (both-kept assets first other f (table-kept assets records other own) room b) }
 
-    here : (x : Result NumberTable (Fault Rule)) → numbers_of assets records ≡ x → (x >>= joined first records) ≡ Ok table → AreBeside assets first records table
+    here : (x : Result NumberTable (Fault DataFault)) → numbers_of assets records ≡ x → (x >>= joined first records) ≡ Ok table → AreBeside assets first records table
     here (Ok other) own h = joins other own _ _ refl refl h
     here (Err fault) own h = absurd (cc)

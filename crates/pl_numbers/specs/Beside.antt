@@ -4,7 +4,7 @@ use Rattle.std.specs.List.{list_any, position_or_len}
 use Rattle.pl_records.specs.Reading.{Record, Fault, ◌>>=◌}
 use Rattle.pl_spec.specs.Limits.{most_numbers}
 use Rattle.pl_spec.specs.declared.AssetRow.{AssetRow}
-use Rattle.pl_numbers.specs.Numbers.{NumberTable, Rule, TooMany, Duplicate, numbers_of}
+use Rattle.pl_numbers.specs.Numbers.{NumberTable, DataFault, TooMany, Duplicate, numbers_of}
 
 -- the names and the rows of the one behind those of the other
 abbrev pub both : NumberTable → NumberTable → NumberTable
@@ -19,7 +19,7 @@ begins_among names r = list_any (is_among names) (take 1 r)
 
 -- There is room for the rows of both, and no name has rows in both: the fault is that of the first record
 -- after the header that has no room, or else of the first that has a name of the first file.
-unfoldable pub joined : NumberTable → List Record → NumberTable → Result NumberTable (Fault Rule)
+unfoldable pub joined : NumberTable → List Record → NumberTable → Result NumberTable (Fault DataFault)
 joined first records other =
     if nat_lt most_numbers (length first.rows + length other.rows)
     then Err (record { rule = TooMany; line = 2 + (most_numbers - length first.rows) })
@@ -28,5 +28,5 @@ joined first records other =
     else Ok (both first other))
 
 -- the numbers of a first file with those of the records of a second one, which are judged by themselves first
-unfoldable pub numbers_beside : NumberTable → List AssetRow → List Record → Result NumberTable (Fault Rule)
+unfoldable pub numbers_beside : NumberTable → List AssetRow → List Record → Result NumberTable (Fault DataFault)
 numbers_beside first assets records = numbers_of assets records >>= joined first records
