@@ -2,6 +2,7 @@
 use Rattle.std.proofs.Common.{◌≡◌, ℕ, ◌+◌, ◌-◌, ◌*◌, ◌/◌, ◌^◌, ◌<◌, true, false, ◌==◌, ℤ, pos, unsigned_abs, arith, refl, ap, ap₂, ◌∙◌}
 use Rattle.std.specs.Int.RustNames.{int_lt}
 use Rattle.std.proofs.lemmas.Bool.Decides.{nat_tests}
+use Rattle.std.proofs.Math.Nat.{mul-pos}
 use Rattle.pl_spec.specs.Rounding.{MISSING, isqrt, neg, to_cell}
 use Rattle.pl_pipeline.specs.Formula.{PairSums, spread_x, spread_y, joint_spread, root_quot, correlation, slope_error}
 
@@ -34,6 +35,15 @@ correlated_below s size square divisor h e = rw e (ap neg (size_is s size square
 pub correlated_above : (s : PairSums) (size : ℤ) (square divisor : ℕ) → IsCorrelated s size square divisor → int_lt (joint_spread s) (pos 0) ≡ false → size ≡ correlation s
 unfolding correlation
 correlated_above s size square divisor h e = rw e (size_is s size square divisor h)
+
+-- the same of the spreads themselves, which are not 0
+pub correlated : (s : PairSums) (size : ℤ) (a x y : ℕ) → a ≡ unsigned_abs (joint_spread s) → x ≡ unsigned_abs (spread_x s) → y ≡ unsigned_abs (spread_y s)
+    → 0 < x → 0 < y → size ≡ to_cell (pos ((isqrt (4 * (a * a * 10 ^ 12) / (x * y)) + 1) / 2)) → IsCorrelated s size (a * a * 10 ^ 12) (x * y)
+correlated s size a x y j u v some_x some_y e = record {
+  root = root_some (a * a * 10 ^ 12) (x * y) size (mul-pos some_x some_y) e;
+  square_is = rw j refl;
+  divisor_is = rw (u, v) refl;
+}
 
 -- ---- the standard error
 

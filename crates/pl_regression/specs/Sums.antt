@@ -20,10 +20,10 @@ AreSums s = AreWithin most_window s
 
 -- sums whose spreads fit 128 bits
 pub record AreShort (s : PairSums) : Type 0 where
-  pub x : unsigned_abs s.x < 2 ^ 40
-  pub y : unsigned_abs s.y < 2 ^ 80
-  pub xx : unsigned_abs s.xx < 2 ^ 100
-  pub xy : unsigned_abs s.xy < 2 ^ 100
+  pub x : unsigned_abs s.x < 2 ^ 62
+  pub y : unsigned_abs s.y < 2 ^ 62
+  pub xx : unsigned_abs s.xx < 2 ^ 113
+  pub xy : unsigned_abs s.xy < 2 ^ 113
 
 -- the sums with one pair more
 abbrev pub with_pair : PairSums → ℤ → ℤ → PairSums

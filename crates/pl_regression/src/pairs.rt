@@ -190,14 +190,21 @@ impl PairSums {
         Whole::new(self.y)
     }
 
-    // Are the sums small enough for 128 bits? Those of places are.
+    // Are the sums small enough for spreads in 128 bits?
     pub(crate) fn are_short(&self) -> bool
         ensures { result ≡ true → AreShort self.now }
     {
-        self.x.unsigned_abs() < 1 << 40
-            && self.y.unsigned_abs() < 1 << 80
-            && self.xx.unsigned_abs() < 1 << 100
-            && self.xy.unsigned_abs() < 1 << 100
+        self.x.unsigned_abs() < 1 << 62
+            && self.y.unsigned_abs() < 1 << 62
+            && self.xx.unsigned_abs() < 1 << 113
+            && self.xy.unsigned_abs() < 1 << 113
+    }
+
+    // Is the sum of the second squares?
+    pub(crate) fn is_short_in_squares(&self) -> bool
+        ensures { result ≡ true → unsigned_abs self.now.yy < 2 ^ 113 }
+    {
+        self.yy.unsigned_abs() < 1 << 113
     }
 
     // The spreads in 128 bits.
@@ -205,16 +212,26 @@ impl PairSums {
         requires sums { AreSums self.now }
         requires short { AreShort self.now }
         ensures value { result ≡ spread_x self.now }
-        ensures small { unsigned_abs result < 2 ^ 124 }
+        ensures small { unsigned_abs result < 2 ^ 125 }
     {
         short_spread(self.number, self.xx, self.x, self.x)
+    }
+
+    pub(crate) fn short_spread_y(&self) -> i128
+        requires sums { AreSums self.now }
+        requires short { AreShort self.now }
+        requires squares { unsigned_abs self.now.yy < 2 ^ 113 }
+        ensures value { result ≡ spread_y self.now }
+        ensures small { unsigned_abs result < 2 ^ 125 }
+    {
+        short_spread(self.number, self.yy, self.y, self.y)
     }
 
     pub(crate) fn short_joint_spread(&self) -> i128
         requires sums { AreSums self.now }
         requires short { AreShort self.now }
         ensures value { result ≡ joint_spread self.now }
-        ensures small { unsigned_abs result < 2 ^ 124 }
+        ensures small { unsigned_abs result < 2 ^ 125 }
     {
         short_spread(self.number, self.xy, self.x, self.y)
     }
@@ -262,11 +279,11 @@ fn spread(number: usize, products: i128, x: i128, y: i128) -> Whole
 // The same in 128 bits.
 fn short_spread(number: usize, products: i128, x: i128, y: i128) -> i128
     requires number { number ≤ most_window }
-    requires products { unsigned_abs products < 2 ^ 100 }
-    requires x { unsigned_abs x < 2 ^ 40 }
-    requires y { unsigned_abs y < 2 ^ 80 }
+    requires products { unsigned_abs products < 2 ^ 113 }
+    requires x { unsigned_abs x < 2 ^ 62 }
+    requires y { unsigned_abs y < 2 ^ 62 }
     ensures value { result ≡ (pos number *ℤ products) -ℤ (x *ℤ y) }
-    ensures small { unsigned_abs result < 2 ^ 124 }
+    ensures small { unsigned_abs result < 2 ^ 125 }
 {
     number as i128 * products - x * y
 }

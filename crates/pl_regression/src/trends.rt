@@ -6,7 +6,7 @@ ghost use Rattle.pl_pipeline.specs.Formula.{steepness, residual, r_squared};
 ghost use Rattle.pl_regression.specs.Sums.{AreSums, AreShort};
 
 use crate::pairs::PairSums;
-use pl_wide::{Whole, quot};
+use pl_wide::{Whole, quot, short_quot};
 
 const MILLION: i128 = 1_000_000;
 
@@ -31,7 +31,7 @@ fn short_steepness(sums: &PairSums) -> i64
     ensures value { result ≡ steepness sums.now }
     ensures cell { IsCell result }
 {
-    pl_fixed::quot(sums.short_joint_spread(), sums.short_spread_x())
+    short_quot(sums.short_joint_spread(), sums.short_spread_x())
 }
 
 // The same in more.

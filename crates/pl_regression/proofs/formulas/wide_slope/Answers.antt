@@ -1,7 +1,7 @@
 use Rattle.std.proofs.Common.{FitsSigned, w64, rules, refl}
 use Rattle.std.proofs.lemmas.Int.{to_z-of_z}
 use Rattle.pl_pipeline.specs.Formula.{slope}
-use Rattle.pl_regression.proofs.formulas.slope.Goals as goal
+use Rattle.pl_regression.proofs.formulas.wide_slope.Goals as goal
 
 pub returns-clause-value : goal.returns-clause-value
 unfolding slope

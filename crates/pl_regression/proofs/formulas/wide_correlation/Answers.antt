@@ -3,7 +3,7 @@ use Rattle.std.proofs.lemmas.Int.{to_z-of_z}
 use Rattle.std.specs.Int.RustNames.{int_lt}
 use Rattle.pl_regression.proofs.Values.{IsCorrelated, correlated_below, correlated_above}
 use Rattle.pl_regression.proofs.Bounds.{size_bits}
-use Rattle.pl_regression.proofs.formulas.correlation.Goals as goal
+use Rattle.pl_regression.proofs.formulas.wide_correlation.Goals as goal
 
 pub product-requires : goal.product-requires
 product-requires c =
