@@ -1,5 +1,5 @@
 -- What is held before the first day.
-use Rattle.std.proofs.Common.{◌≡◌, ℕ, ◌+◌, ◌<◌, ◌≤◌, true, false, pos, List, [], ◌∷◌, ◌++◌, length, get_or, set, replicate, Option, Some, None, option_map, slice_get, refl, sym, ◌∙◌, ap, subst, arith, inl, inr, All, get_or-set_same, get_or-set_other}
+use Rattle.std.proofs.Common.{◌≡◌, ℕ, ◌+◌, ◌<◌, true, false, pos, List, [], ◌∷◌, ◌++◌, length, get_or, set, replicate, Option, Some, None, option_map, slice_get, refl, sym, ◌∙◌, ap, subst, arith, inl, inr, All, get_or-set_same, get_or-set_other}
 use Rattle.std.specs.Prelude.{is_some, IfNone}
 use Rattle.std.proofs.lemmas.Bool.{cases_eq, true≢false}
 use Rattle.std.proofs.lemmas.List.{length-replicate, length-append, length-map}
@@ -94,8 +94,8 @@ module _ (assets : ℕ) (p : Pipeline) (x : Capacities) (bars : BarRings) (terms
   terms_are = record {
     many = begun.many;
     full = λ u t used e. (begun.each u t e).cells used;
-    values = λ k n place u t used at windowed input e. (let fits : n.window ≤ term_window p u = term-window-in p k place u n used at windowed input in omega (arith, fits, (begun.each u t e).capacity));
-    bars = λ k n place c used at input. (let fits : n.window ≤ column_window p c = column-window-in p k place n c used at input in omega (arith, fits, columns_fit c));
+    values = λ k n place u t used at windowed input e. (let fits = term-window-in p k place n used at u windowed input in omega (arith, fits, (begun.each u t e).capacity));
+    bars = λ k n place c used at input. (let fits = column-window-in p k place n used at c input in omega (arith, fits, columns_fit c));
     bar_rings = are;
   }
 

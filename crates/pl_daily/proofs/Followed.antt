@@ -8,6 +8,7 @@ use Rattle.pl_spec.specs.declared.Frequency.{Frequency}
 use Rattle.pl_spec.specs.Rounding.{IsCell}
 use Rattle.pl_pipeline.specs.Table.{Pipeline}
 use Rattle.pl_terms.specs.Uses.{is_used}
+use Rattle.pl_daily.specs.Capacities.{deepest}
 use Rattle.pl_daily.specs.Days.{Start, FedDay}
 use Rattle.pl_daily.specs.declared.columns.BarRings.{BarRings}
 use Rattle.pl_daily.specs.declared.term_day.TermCells.{TermCells}
@@ -80,9 +81,9 @@ terms_more assets p rings now k was made are is inside full room = record {
   ];
   values = λ j n place u t used e kind input at. elim (cases_eq u k) [
     | inl same ↦
-        let fits : n.window ≤ was.rings.capacity = are.values j n place u was used e kind input (ap (slice_get now) same ∙ is) in
+        let fits : n.window + deepest p j ≤ was.rings.capacity = are.values j n place u was used e kind input (ap (slice_get now) same ∙ is) in
         let made_is : made ≡ t = set_there now k made t inside (ap (slice_get (set now k made)) (sym same) ∙ at) in
-        subst (λ (c : TermCells). n.window ≤ c.rings.capacity) made_is (omega (arith, fits, room))
+        subst (λ (c : TermCells). n.window + deepest p j ≤ c.rings.capacity) made_is (omega (arith, fits, room))
     | inr other ↦ are.values j n place u t used e kind input (sym (slice_get-set_other now k u made other) ∙ at)
   ];
   bars = are.bars;

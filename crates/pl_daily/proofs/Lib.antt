@@ -10,6 +10,7 @@ pub mod Begins
 pub mod Downsampled
 pub mod Placed
 pub mod Followed
+pub mod Depths
 pub mod Greatest
 pub mod NodeReaches
 pub mod Firsts

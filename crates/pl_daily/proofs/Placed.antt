@@ -92,7 +92,8 @@ module _ (t : TermDay) (next : FedDay) (days : List FedDay) (s : StartCells)
       let x = slice_get-some t.terms.now u h.1 in
       let full = are.full u x.0 h.2 x.1 in
       let hold = held.done u x.0 h.0 h.2 x.1 in
-      let fits : n.window ≤ x.0.rings.capacity = are.values t.term.0 n place u x.0 used node kind e x.1 in
+      let room = are.values t.term.0 n place u x.0 used node kind e x.1 in
+      let fits : n.window ≤ x.0.rings.capacity = omega (arith, room) in
       let some : 1 ≤ n.window = ((is-pipeline p checked).windows t.term.0 n node).0 in
       let has : 0 < x.0.rings.capacity = omega (arith, fits, some) in
       record {
@@ -104,7 +105,7 @@ module _ (t : TermDay) (next : FedDay) (days : List FedDay) (s : StartCells)
   bars_held : (place : ℕ) (c : Column) → slice_get n.inputs place ≡ Some (BarColumn c) → HoldsBars t v c
   bars_held place c e = record {
     rings = are.bar_rings.rings c;
-    fits = are.bars t.term.0 n place c used node e;
+    fits = (let room = are.bars t.term.0 n place c used node e in omega (arith, room));
     each = λ i l. ap (λ (b : Ring). b.items) ((bars.bars c).each i l)
         ∙ ap (λ a. bar_window w c (rings_of t.bars.now c).capacity a (pos (length days))) (sym (sid_is t.assets.now i l));
   }

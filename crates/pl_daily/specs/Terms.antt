@@ -15,6 +15,7 @@ use Rattle.pl_assets.specs.Labels.{AreLabels, LabelTable}
 use Rattle.pl_terms.specs.Checked.{IsChecked, pipeline_of}
 use Rattle.pl_terms.specs.Sorts.{is_windowed}
 use Rattle.pl_terms.specs.Uses.{is_used}
+use Rattle.pl_daily.specs.Capacities.{deepest}
 use Rattle.pl_daily.specs.Days.{Start, FedDay, fed, days_of, last_day, last_session, IsStart, AreFed}
 use Rattle.pl_daily.specs.declared.columns.BarRings.{BarRings}
 use Rattle.pl_daily.specs.Columns.{AreBarRings, HoldColumns, rings_of}
@@ -53,9 +54,9 @@ pub record AreTerms (assets : ℕ) (p : Pipeline) (rings : BarRings) (terms : Li
   pub many : length terms ≡ length p.graph
   pub full : (u : ℕ) (t : TermCells) → is_used p u ≡ true → slice_get terms u ≡ Some t → AreTermCells assets t
   pub values : (k : ℕ) (n : Node) (place u : ℕ) (t : TermCells) → is_used p k ≡ true → slice_get p.graph k ≡ Some n → is_windowed n.kind ≡ true
-      → slice_get n.inputs place ≡ Some (TermInput u) → slice_get terms u ≡ Some t → n.window ≤ t.rings.capacity
+      → slice_get n.inputs place ≡ Some (TermInput u) → slice_get terms u ≡ Some t → n.window + deepest p k ≤ t.rings.capacity
   pub bars : (k : ℕ) (n : Node) (place : ℕ) (c : Column) → is_used p k ≡ true → slice_get p.graph k ≡ Some n
-      → slice_get n.inputs place ≡ Some (BarColumn c) → n.window ≤ (rings_of rings c).capacity
+      → slice_get n.inputs place ≡ Some (BarColumn c) → n.window + deepest p k ≤ (rings_of rings c).capacity
   pub bar_rings : AreBarRings assets rings
 
 -- how many cells the rings of each term hold

@@ -18,6 +18,7 @@ ghost use Rattle.pl_daily.specs.Kept.{kept_places};
 ghost use Rattle.pl_daily.specs.Reaches.{FollowFirst};
 ghost use Rattle.pl_daily.specs.Steps.{Answers, IsMidway, TakeTerms, sessions_of};
 
+use crate::capacities::depths_of;
 use crate::columns::BarRings;
 use crate::day::Day;
 use crate::fill::{fill_terms, take_reaches};
@@ -154,6 +155,7 @@ impl<'a> Daily<'a> {
     {
         let many = assets.len();
         let terms = count(checked);
+        let depths = depths_of(alloc, checked)?;
         Ok(Daily {
             checked,
             assets,
@@ -162,8 +164,8 @@ impl<'a> Daily<'a> {
             fed: 0,
             last: 0,
             answered: false,
-            bars: begin_rings(alloc, many, column_windows(checked))?,
-            terms: begin_terms(alloc, checked, many)?,
+            bars: begin_rings(alloc, many, column_windows(checked, &depths))?,
+            terms: begin_terms(alloc, checked, &depths, many)?,
             starts: begin_starts(alloc, checked, many)?,
             since: begin_since(alloc, terms)?,
             kept: Vec::with_capacity(alloc, many)?,

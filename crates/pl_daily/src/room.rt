@@ -6,7 +6,7 @@ ghost use Rattle.pl_terms.specs.Uses as uses;
 ghost use Rattle.pl_spec.specs.Rounding.{IsCell};
 ghost use Rattle.pl_values.specs.Arrays.{empty_cell};
 ghost use Rattle.pl_daily.specs.Capacities as spec;
-ghost use Rattle.pl_daily.specs.Inside.{IsNumber};
+ghost use Rattle.pl_daily.specs.Inside.{AreDepths, IsNumber};
 ghost use Rattle.pl_daily.specs.Room.{AreBegun, AreBegunStarts, HasColumns, IsBegun, IsRoom, no_session};
 ghost use Rattle.pl_daily.specs.Terms.{Downsamples, IsStartRoom};
 
@@ -56,15 +56,16 @@ impl Room {
 }
 
 /// How many sessions the rings of each bar column need.
-pub(crate) fn column_windows(checked: &Checked) -> Capacities
+pub(crate) fn column_windows(checked: &Checked, depths: &[usize]) -> Capacities
+    requires { AreDepths (pipeline_of checked.now) depths.now }
     ensures { HasColumns (pipeline_of checked.now) result }
 {
     Capacities {
-        open_price: column_window(checked, Column::OpenPrice),
-        high: column_window(checked, Column::High),
-        low: column_window(checked, Column::Low),
-        close: column_window(checked, Column::Close),
-        volume: column_window(checked, Column::Volume),
+        open_price: column_window(checked, depths, Column::OpenPrice),
+        high: column_window(checked, depths, Column::High),
+        low: column_window(checked, depths, Column::Low),
+        close: column_window(checked, depths, Column::Close),
+        volume: column_window(checked, depths, Column::Volume),
     }
 }
 
@@ -87,34 +88,45 @@ fn empty_of(checked: &Checked, k: usize) -> i64
 }
 
 // How many sessions the rings of a term need.
-fn ring_size(checked: &Checked, k: usize) -> usize
-    requires { IsNumber (pipeline_of checked.now) k }
+fn ring_size(checked: &Checked, depths: &[usize], k: usize) -> usize
+    requires number { IsNumber (pipeline_of checked.now) k }
+    requires depths { AreDepths (pipeline_of checked.now) depths.now }
     ensures { result ≡ spec.term_window (pipeline_of checked.now) k }
 {
-    term_window(checked, TermId(k as u8))
+    term_window(checked, depths, TermId(k as u8))
 }
 
 // What is held of a term before the first day.
-fn begin_one(alloc: Global, checked: &Checked, assets: usize, k: usize) -> Result<TermCells, Memory>
-    requires { IsNumber (pipeline_of checked.now) k }
+fn begin_one(
+    alloc: Global,
+    checked: &Checked,
+    depths: &[usize],
+    assets: usize,
+    k: usize,
+) -> Result<TermCells, Memory>
+    requires number { IsNumber (pipeline_of checked.now) k }
+    requires depths { AreDepths (pipeline_of checked.now) depths.now }
     ensures { IfOk result (IsBegun assets (pipeline_of checked.now) k) }
 {
     let cells = cell_count(checked, assets, k);
-    begin_term(alloc, cells, ring_size(checked, k), empty_of(checked, k))
+    let size = ring_size(checked, depths, k);
+    begin_term(alloc, cells, size, empty_of(checked, k))
 }
 
 /// What is held of all terms before the first day.
 pub(crate) fn begin_terms(
     alloc: Global,
     checked: &Checked,
+    depths: &[usize],
     assets: usize,
 ) -> Result<Vec<TermCells>, Memory>
+    requires { AreDepths (pipeline_of checked.now) depths.now }
     ensures { IfOk result (λ terms. AreBegun assets (pipeline_of checked.now)
         (length (pipeline_of checked.now).graph) terms.items) }
 {
     let mut terms = Vec::new(alloc);
     for k in 0..count(checked) {
-        let term = begin_one(alloc, checked, assets, k)?;
+        let term = begin_one(alloc, checked, depths, assets, k)?;
         terms.push(term)?;
     }
     Ok(terms)

@@ -1,4 +1,4 @@
-use Rattle.std.proofs.Common.{◌≡◌, true, ◌∙◌, sym, subst, ap, length, arith}
+use Rattle.std.proofs.Common.{◌≡◌, true, ◌∙◌, sym, subst, ap, arith}
 use Rattle.pl_pipeline.specs.Kind.{Kind}
 use Rattle.pl_cross.specs.Section.{HasParameters, is_section}
 use Rattle.pl_cross.specs.Listing.{labels_in, Fits}
