@@ -141,7 +141,8 @@ pub(crate) fn bound_of(graph: &Graph, uses: &[Use], cones: &[Cone]) -> usize
     requires uses { length uses.now ≡ length graph.now }
     requires cones { cones_of cones.now
         ≡ map (cone_depths (graph_of graph.now)) (range_with_len 0 (length graph.now)) }
-    ensures value { (outputs : List ℕ) → AreUsesBy (reads_of (graph_of graph.now)) (graph_of graph.now) outputs uses.now
+    ensures value { (outputs : List ℕ)
+        → AreUsesBy (reads_of (graph_of graph.now)) (graph_of graph.now) outputs uses.now
         → result ≡ most_held (graph_of graph.now) outputs }
     ensures few { result ≤ most_terms + 5 }
 {

@@ -148,8 +148,8 @@ impl Plan {
         self.slots[t.0 as usize].own
     }
 
-    /// The slot of the i-th distinct bar column that a used term or its cone reads while the term is computed:
-    /// of those that no live term has the i-th.
+    /// The slot of the i-th distinct bar column that a used term or its cone reads, while the term is
+    /// computed: of those that no live term has the i-th.
     #[tactic(auto, unfolding(crate::specs::Plans::is_used, crate::specs::Plans::column_slot))]
     pub fn column_slot(&self, t: TermId, i: usize) -> usize
         requires used { spec.is_used self.now t.0 ≡ true }
