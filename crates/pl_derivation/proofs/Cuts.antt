@@ -7,7 +7,7 @@ use Rattle.pl_spec.specs.Decimals.{sid_in}
 use Rattle.std.proofs.lemmas.List.Quantifiers.{position-Some}
 use Rattle.pl_spec.proofs.Places.{nowhere}
 use Rattle.pl_derivation.specs.Lines.Line.{SeenLine}
-use Rattle.pl_derivation.specs.Texts.{pieces, column_in, known_in, numbers_in, seen_line, value_line, line_in_fields}
+use Rattle.pl_derivation.specs.Texts.{pieces, column_in, known_in, numbers_in, seen_line, seen_value_line, value_line, line_in_fields}
 use Rattle.pl_derivation.specs.Reading.{bar_line}
 use Rattle.pl_derivation.proofs.TextsSaid.{some_piece}
 
@@ -40,6 +40,13 @@ too_many : (day : List ℕ) (ps : List (List ℕ)) → 1 ≤ length ps → known
 too_many day [] h = absurd (omega arith)
 too_many day (p ∷ ps) h = refl
 
+too_many_numbers : (t a own day v : List ℕ) (ps : List (List ℕ)) → 1 ≤ length ps → seen_value_line (t ∷ a ∷ own ∷ day ∷ v ∷ ps) ≡ None
+too_many_numbers t a own day v [] h = absurd (omega arith)
+too_many_numbers t a own day v (p ∷ ps) h = refl
+
+pub number_more : (t a own day v r : List ℕ) → seen_value_line (t ∷ a ∷ own ∷ day ∷ v ∷ pieces 32 r) ≡ None
+number_more t a own day v r = too_many_numbers t a own day v (pieces 32 r) (some_piece 32 r)
+
 pub known_more : (day r : List ℕ) → known_in (day ∷ pieces 32 r) ≡ None
 known_more day r = too_many day (pieces 32 r) (some_piece 32 r)
 
@@ -61,9 +68,10 @@ pub seen_none : (c a bar day r : List ℕ) → None ≡ numbers_in (pieces 32 r)
 seen_none c a bar day r e = seen_by c a bar day (pieces 32 r) (some_piece 32 r) ∙ ap (option_and_then (bar_line c a bar day)) (sym e)
 
 pub lone_word : (word : List ℕ) → line_in_fields (word ∷ []) ≡ None
-lone_word word = here (bytes_eq word (codes "seen")) (bytes_eq word (codes "value"))
+lone_word word = here (bytes_eq word (codes "seen")) (bytes_eq word (codes "value")) (bytes_eq word (codes "seen-value"))
   where
-    here : (b c : Bool) → (if b then seen_line [] else if c then value_line [] else None) ≡ None
-    here true c = refl
-    here false true = refl
-    here false false = refl
+    here : (b c d : Bool) → (if b then seen_line [] else if c then value_line [] else if d then seen_value_line [] else None) ≡ None
+    here true c d = refl
+    here false true d = refl
+    here false false true = refl
+    here false false false = refl

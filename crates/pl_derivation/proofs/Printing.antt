@@ -1,5 +1,6 @@
 -- Fields that are put one after the other are the text of a line.
-use Rattle.std.proofs.Common.{◌≡◌, ℕ, ℤ, pos, List, [], ◌∷◌, ◌++◌, map, Some, codes, refl, sym, ◌∙◌, ap, append_assoc, append-nil, slice_get, take, length, ◌<◌, ◌+◌, fold, get_or}
+use Rattle.std.proofs.Common.{◌≡◌, ℕ, ℤ, pos, List, [], ◌∷◌, ◌++◌, map, Some, codes, refl, sym, ◌∙◌, ap, append_assoc, append-nil, slice_get, take, length, ◌<◌, ◌+◌, fold, get_or, if◌then◌else◌, Result, Ok, Err}
+use Rattle.std.specs.Result.{is_ok, IfOk}
 use Rattle.std.proofs.lemmas.Grind.{flat_map-append}
 use Rattle.std.specs.List.{flat_map, join_by}
 use Rattle.std.proofs.lemmas.List.Folds.{flat_map-map}
@@ -39,6 +40,20 @@ pub value_joined : (b t a day v : List ℕ) (known : List ℤ)
     → ((((((b ++ codes "value") ++ ((32 ∷ []) ++ t)) ++ ((32 ∷ []) ++ a)) ++ ((32 ∷ []) ++ day)) ++ ((32 ∷ []) ++ v)) ++ flat_map (λ x. (32 ∷ []) ++ date_text x) known) ++ 10 ∷ []
     ≡ b ++ (join_by (λ f. f) (32 ∷ []) (codes "value" ∷ t ∷ a ∷ day ∷ v ∷ map date_text known) ++ 10 ∷ [])
 value_joined b t a day v known = joined b (codes "value") (t ∷ a ∷ day ∷ v ∷ []) known date_text
+
+-- a word and five fields, put one after the other
+pub seen_value_joined : (b t a own day v : List ℕ) (b0 b1 b2 b3 b4 b5 : List ℕ) → b0 ≡ b ++ codes "seen-value" → b1 ≡ b0 ++ ((32 ∷ []) ++ t) → b2 ≡ b1 ++ ((32 ∷ []) ++ a)
+    → b3 ≡ b2 ++ ((32 ∷ []) ++ own) → b4 ≡ b3 ++ ((32 ∷ []) ++ day) → b5 ≡ b4 ++ ((32 ∷ []) ++ v)
+    → b5 ++ 10 ∷ [] ≡ b ++ (join_by (λ f. f) (32 ∷ []) (codes "seen-value" ∷ t ∷ a ∷ own ∷ day ∷ v ∷ []) ++ 10 ∷ [])
+seen_value_joined b t a own day v b0 b1 b2 b3 b4 b5 e0 e1 e2 e3 e4 e5 =
+    rw (e5, e4, e3, e2, e1, e0)
+    (ap (λ x. x ++ 10 ∷ []) (sym (append-nil (fold (λ bytes f. bytes ++ ((32 ∷ []) ++ f)) (b ++ codes "seen-value") (t ∷ a ∷ own ∷ day ∷ v ∷ []))))
+    ∙ joined b (codes "seen-value") (t ∷ a ∷ own ∷ day ∷ v ∷ []) [] number_text)
+
+-- what a call leaves that writes all or nothing
+pub where_ok : {A E X : Type 0} (r : Result A E) (now whole part said : X) → now ≡ (if is_ok r then whole else part) → whole ≡ said → IfOk r (λ _. now ≡ said)
+where_ok (Ok x) now whole part said e f = e ∙ f
+where_ok (Err x) now whole part said e f = tt
 
 pub text_begun : text_of [] ≡ []
 unfolding text_of

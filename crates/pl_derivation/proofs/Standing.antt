@@ -8,13 +8,12 @@ use Rattle.std.proofs.lemmas.List.Folds.{list_any-append}
 use Rattle.std.specs.Cmp.{both_ways}
 use Rattle.pl_spec.specs.World.{World}
 use Rattle.pl_pipeline.specs.Term.{IsGraph}
-use Rattle.pl_pipeline.specs.NodeValue.{AllReadSteady}
 use Rattle.pl_pipeline.specs.Table.{Pipeline}
 use Rattle.pl_derivation.specs.Facts.{Fact, Reading, number_in, known_day, premises, single_step}
-use Rattle.pl_derivation.specs.Facts.Fact.{Seen, TermValue}
+use Rattle.pl_derivation.specs.Facts.Fact.{Seen}
 use Rattle.pl_derivation.specs.Lines.{Line}
 use Rattle.pl_derivation.specs.Right.{fact_of, is_about, is_stated, reading_of, is_fitting, states_step, is_right_about, is_right, wrong_behind, first_wrong}
-use Rattle.pl_derivation.specs.Lines.Line.{SeenLine, ValueLine}
+use Rattle.pl_derivation.specs.Lines.Line.{SeenLine, ValueLine, SeenValueLine}
 use Rattle.pl_cross.specs.Arrays.{HasTexts}
 use Rattle.pl_derivation.specs.Laws.{states_world}
 use Rattle.pl_spec.proofs.Each.{Each, each_both, each_more, each_list_all, list_all_each}
@@ -25,11 +24,12 @@ use Rattle.pl_derivation.proofs.Truths.{and3, fact_is, States, stated_true, righ
 and3_from : (x y z : Bool) → x ≡ true → y ≡ true → z ≡ true → (x && y && z) ≡ true
 and3_from x y z h i j = rw (h, i, j) refl
 
-module _ (w : World) (p : Pipeline) (known : HasTexts w) (ok : IsGraph p.graph) (steady : AllReadSteady p.graph) where
+module _ (w : World) (p : Pipeline) (known : HasTexts w) (ok : IsGraph p.graph) where
   step_alike : (r : Reading) (l : Line) (f : Fact) → single_step w p r f ≡ number_in w p f → states_step w p r l f ≡ states_world w p l f
   step_alike r (SeenLine c' a' bar day cells) (Seen c a s d) e = refl
-  step_alike r (SeenLine c' a' bar day cells) (TermValue t a d) e = refl
+  step_alike r (SeenLine c' a' bar day cells) f e = refl
   step_alike r (ValueLine t a day v known) f e = ap (λ x. int_eq v x && option_eq int_eq known (known_day w p f)) e
+  step_alike r (SeenValueLine t a own day v) f e = ap (int_eq v) e
 
   abbrev stands : List Line → Fact → Bool
   stands lines f = list_all (is_stated w lines) (premises w p (number_in w p) f)
@@ -45,7 +45,7 @@ module _ (w : World) (p : Pipeline) (known : HasTexts w) (ok : IsGraph p.graph) 
           = each_more _ _ (premises w p (reading_of w lines) f) (λ g i. stated_true w p lines g h i) (each_list_all (is_stated w lines) (premises w p (reading_of w lines) f) parts.1) in
           let both = fact_same w p (reading_of w lines) (number_in w p) f agree in
           let stand : stands lines f ≡ true = rw both.0 at parts.1 in
-          let states : states_world w p l f ≡ true = sym (step_alike (reading_of w lines) l f (both.1 ∙ step_true w p known ok steady f)) ∙ parts.2 in
+          let states : states_world w p l f ≡ true = sym (step_alike (reading_of w lines) l f (both.1 ∙ step_true w p known ok f)) ∙ parts.2 in
           and3_from _ _ _ parts.0 stand states
 
       back : (is_fitting w p f && stands lines f && states_world w p l f) ≡ true → is_right_about w p lines l (Some f) ≡ true
@@ -55,7 +55,7 @@ module _ (w : World) (p : Pipeline) (known : HasTexts w) (ok : IsGraph p.graph) 
           = each_more _ _ (premises w p (number_in w p) f) (λ g i. sym (stated_true w p lines g h i)) (each_list_all (is_stated w lines) (premises w p (number_in w p) f) parts.1) in
           let both = fact_same w p (number_in w p) (reading_of w lines) f agree in
           let stand : list_all (is_stated w lines) (premises w p (reading_of w lines) f) ≡ true = rw both.0 at parts.1 in
-          let states : states_step w p (reading_of w lines) l f ≡ true = step_alike (reading_of w lines) l f (sym both.1 ∙ step_true w p known ok steady f) ∙ parts.2 in
+          let states : states_step w p (reading_of w lines) l f ≡ true = step_alike (reading_of w lines) l f (sym both.1 ∙ step_true w p known ok f) ∙ parts.2 in
           and3_from _ _ _ parts.0 stand states
 
   -- ---- what right lines tell of has its premises among them
@@ -88,7 +88,7 @@ module _ (w : World) (p : Pipeline) (known : HasTexts w) (ok : IsGraph p.graph) 
   go lines [] h closed e = rw (append-nil lines) (h, closed)
   go lines (l ∷ ls) h closed e =
       step (is_right w p lines l) refl e
-      (λ i. go (lines ++ l ∷ []) ls (each_both (States w p) lines (l ∷ []) h (right_states w p known ok steady lines h l i, tt)) (closed_more lines h closed l i))
+      (λ i. go (lines ++ l ∷ []) ls (each_both (States w p) lines (l ∷ []) h (right_states w p known ok lines h l i, tt)) (closed_more lines h closed l i))
     where
       step : (b : Bool) → is_right w p lines l ≡ b → wrong_behind w p lines (l ∷ ls) ≡ None
           → (is_right w p lines l ≡ true → wrong_behind w p (lines ++ l ∷ []) ls ≡ None → Each (States w p) ((lines ++ l ∷ []) ++ ls) × Closed ((lines ++ l ∷ []) ++ ls))

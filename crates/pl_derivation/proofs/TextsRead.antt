@@ -19,7 +19,7 @@ use Rattle.pl_spec.proofs.DatesRead.{date_spelling-bytes, date_in-IsDate}
 use Rattle.pl_spec.proofs.DatesWritten.{IsDate-date_text}
 use Rattle.pl_spec.proofs.SidsRead.{sid_in-decimal}
 use Rattle.pl_derivation.specs.Lines.{Line}
-use Rattle.pl_derivation.specs.Lines.Line.{SeenLine, ValueLine}
+use Rattle.pl_derivation.specs.Lines.Line.{SeenLine, ValueLine, SeenValueLine}
 use Rattle.pl_derivation.specs.Texts.{number_text, fields_of, body_of, text_of, pieces, column_in, number_of_text, numbers_in, known_in, line_in_fields, line_in, lines_from, lines_in, AreCells, IsWritable, AreWritable}
 use Rattle.pl_spec.proofs.Each.{Each, each_both, each_in_map, each_all, each_more}
 use Rattle.pl_spec.specs.Names.{column_name}
@@ -119,6 +119,8 @@ fields_plain (SeenLine c a bar day cells) h =
     (literal_plain (codes "seen") refl, (column_plain c, (sid_plain a h.0, (date_plain bar h.1, (date_plain day h.2, numbers_plain cells h.4)))))
 fields_plain (ValueLine t a day v known) h =
     (literal_plain (codes "value") refl, (sid_plain t h.0, (sid_plain a h.1, (date_plain day h.2, (number_plain v h.3, known_plain known h.4)))))
+fields_plain (SeenValueLine t a own day v) h =
+    (literal_plain (codes "seen-value") refl, (sid_plain t h.0, (sid_plain a h.1, (date_plain own h.2, (date_plain day h.3, (number_plain v h.4, tt))))))
 
 -- ---- fields are read back
 
@@ -191,6 +193,7 @@ fields_back (SeenLine c a bar day []) h = absurd (let some : 1 ≤ 0 = h.3 in om
 fields_back (SeenLine c a bar day (x ∷ xs)) h =
     rw (column_back c, sid_back a h.0, date_back bar h.1, date_back day h.2, number_back x h.4.0, numbers_back xs h.4.1) refl
 fields_back (ValueLine t a day v known) h = rw (sid_back t h.0, sid_back a h.1, date_back day h.2, number_back v h.3, known_back known h.4) refl
+fields_back (SeenValueLine t a own day v) h = rw (sid_back t h.0, sid_back a h.1, date_back own h.2, date_back day h.3, number_back v h.4) refl
 
 -- ---- lines are read back
 
@@ -201,6 +204,7 @@ body_cut (f ∷ fs) some h = pieces_joined f fs (each_more _ _ f (λ x i. i.0) h
 some_fields : (l : Line) → 1 ≤ length (fields_of l)
 some_fields (SeenLine c a bar day cells) = omega arith
 some_fields (ValueLine t a day v known) = omega arith
+some_fields (SeenValueLine t a own day v) = omega arith
 
 pub line_back : (l : Line) → IsWritable l → line_in (body_of l) ≡ Some l
 unfolding line_in
@@ -236,6 +240,7 @@ text_there : (l : Line) (ls : List Line) → bytes_eq (text_of (l ∷ ls)) [] �
 unfolding text_of
 text_there (SeenLine c a bar day cells) ls = refl
 text_there (ValueLine t a day v known) ls = refl
+text_there (SeenValueLine t a own day v) ls = refl
 
 pub read : (lines : List Line) → AreWritable lines → 1 ≤ length lines → length lines ≤ most_lines → lines_in (text_of lines) ≡ Ok lines
 unfolding lines_in

@@ -19,8 +19,8 @@ use Rattle.pl_spec.proofs.SidsRead.{decimal-sid_in}
 use Rattle.pl_spec.proofs.Within.{missing-far}
 use Rattle.pl_spec.specs.Names.{column_name}
 use Rattle.pl_derivation.specs.Lines.{Line}
-use Rattle.pl_derivation.specs.Lines.Line.{SeenLine, ValueLine}
-use Rattle.pl_derivation.specs.Texts.{number_text, fields_of, body_of, in_first, pieces, column_in, number_of_text, numbers_in, known_in, seen_line, value_line, line_in_fields, line_in, AreCells, IsWritable}
+use Rattle.pl_derivation.specs.Lines.Line.{SeenLine, ValueLine, SeenValueLine}
+use Rattle.pl_derivation.specs.Texts.{number_text, fields_of, body_of, in_first, pieces, column_in, number_of_text, numbers_in, known_in, seen_line, seen_value_line, value_line, line_in_fields, line_in, AreCells, IsWritable}
 
 -- ---- pieces put together again
 
@@ -172,15 +172,49 @@ value_said (t ∷ a ∷ day ∷ v ∷ more) l h =
     )
 value_said fs l h = absurd (let bad : None ≡ Some l = h in cc)
 
+seen_value_said : (fs : List (List ℕ)) (l : Line) → seen_value_line fs ≡ Some l → IsWritable l × (codes "seen-value" ∷ fs ≡ fields_of l)
+seen_value_said (t ∷ a ∷ own ∷ day ∷ v ∷ []) l h =
+    let term = then_some _ (sid_in t) l h in
+    let sid = then_some _ (sid_in a) l term.2 in
+    let first = then_some _ (date_in own) l sid.2 in
+    let last = then_some _ (date_in day) l first.2 in
+    let value = map_some _ (number_of_text v) l last.2 in
+    let is : l ≡ SeenValueLine term.0 sid.0 first.0 last.0 value.0 = value.2 in
+    let one = decimal-sid_in t term.0 term.1 in
+    let two = decimal-sid_in a sid.0 sid.1 in
+    let three = date_said own first.0 first.1 in
+    let four = date_said day last.0 last.1 in
+    let five = number_said v value.0 value.1 in
+    let e : t ≡ decimal term.0 = one.1 in
+    let f : a ≡ decimal sid.0 = two.1 in
+    let g : own ≡ date_text first.0 = three.0 in
+    let i : day ≡ date_text last.0 = four.0 in
+    let j : v ≡ number_text value.0 = five.0 in
+    rw is (
+      (one.0, two.0, three.1, four.1, five.1),
+      ap (λ x. codes "seen-value" ∷ x ∷ a ∷ own ∷ day ∷ v ∷ []) e
+          ∙ ap (λ x. codes "seen-value" ∷ decimal term.0 ∷ x ∷ own ∷ day ∷ v ∷ []) f
+          ∙ ap (λ x. codes "seen-value" ∷ decimal term.0 ∷ decimal sid.0 ∷ x ∷ day ∷ v ∷ []) g
+          ∙ ap (λ x. codes "seen-value" ∷ decimal term.0 ∷ decimal sid.0 ∷ date_text first.0 ∷ x ∷ v ∷ []) i
+          ∙ ap (λ x. codes "seen-value" ∷ decimal term.0 ∷ decimal sid.0 ∷ date_text first.0 ∷ date_text last.0 ∷ x ∷ []) j,
+    )
+seen_value_said fs l h = absurd (let bad : None ≡ Some l = h in cc)
+
 fields_said : (fs : List (List ℕ)) (l : Line) → line_in_fields fs ≡ Some l → IsWritable l × (fs ≡ fields_of l)
 fields_said [] l h = absurd (let bad : None ≡ Some l = h in cc)
 fields_said (word ∷ fs) l h = first (bytes_eq word (codes "seen")) refl h
   where
-    second : (b : Bool) → bytes_eq word (codes "value") ≡ b → (if b then value_line fs else None) ≡ Some l → IsWritable l × (word ∷ fs ≡ fields_of l)
-    second true e h = let said = value_said fs l h in (said.0, ap (λ x. x ∷ fs) (same_text word (codes "value") e) ∙ said.1)
-    second false e h = absurd (let bad : None ≡ Some l = h in cc)
+    third : (b : Bool) → bytes_eq word (codes "seen-value") ≡ b → (if b then seen_value_line fs else None) ≡ Some l → IsWritable l × (word ∷ fs ≡ fields_of l)
+    third true e h = let said = seen_value_said fs l h in (said.0, ap (λ x. x ∷ fs) (same_text word (codes "seen-value") e) ∙ said.1)
+    third false e h = absurd (let bad : None ≡ Some l = h in cc)
 
-    first : (b : Bool) → bytes_eq word (codes "seen") ≡ b → (if b then seen_line fs else if bytes_eq word (codes "value") then value_line fs else None) ≡ Some l
+    second : (b : Bool) → bytes_eq word (codes "value") ≡ b → (if b then value_line fs else if bytes_eq word (codes "seen-value") then seen_value_line fs else None) ≡ Some l
+        → IsWritable l × (word ∷ fs ≡ fields_of l)
+    second true e h = let said = value_said fs l h in (said.0, ap (λ x. x ∷ fs) (same_text word (codes "value") e) ∙ said.1)
+    second false e h = third (bytes_eq word (codes "seen-value")) refl h
+
+    first : (b : Bool) → bytes_eq word (codes "seen") ≡ b
+        → (if b then seen_line fs else if bytes_eq word (codes "value") then value_line fs else if bytes_eq word (codes "seen-value") then seen_value_line fs else None) ≡ Some l
         → IsWritable l × (word ∷ fs ≡ fields_of l)
     first true e h = let said = seen_said fs l h in (said.0, ap (λ x. x ∷ fs) (same_text word (codes "seen") e) ∙ said.1)
     first false e h = second (bytes_eq word (codes "value")) refl h

@@ -14,13 +14,12 @@ use Rattle.pl_spec.specs.Rounding.{MISSING}
 use Rattle.pl_spec.specs.World.{World, day_of, bar_cell, column_number}
 use Rattle.pl_spec.specs.Window.{Effect, changed, after_all, effects, seen_cell}
 use Rattle.pl_pipeline.specs.Term.{IsGraph}
-use Rattle.pl_pipeline.specs.NodeValue.{AllReadSteady}
 use Rattle.pl_pipeline.specs.Table.{Pipeline}
 use Rattle.pl_derivation.specs.Facts.{Fact, Reading, same_fact, number_in, known_day, premises, single_step}
-use Rattle.pl_derivation.specs.Facts.Fact.{Seen, TermValue}
+use Rattle.pl_derivation.specs.Facts.Fact.{Seen, TermValue, SeenValue}
 use Rattle.pl_derivation.specs.Lines.{Line}
 use Rattle.pl_derivation.specs.Right.{session_of, fact_of, last_cell, number_stated, is_about, is_stated, reading_of, is_fitting, after_each, seen_cells, states_step, is_right_about, is_right, wrong_behind, first_wrong}
-use Rattle.pl_derivation.specs.Lines.Line.{SeenLine, ValueLine}
+use Rattle.pl_derivation.specs.Lines.Line.{SeenLine, ValueLine, SeenValueLine}
 use Rattle.pl_cross.specs.Arrays.{HasTexts}
 use Rattle.pl_derivation.specs.Laws.{IsTrueLine}
 use Rattle.pl_spec.proofs.Each.{Each, each_both, each_more, each_list_all, each_at}
@@ -43,7 +42,7 @@ pub and3 : (x y z : Bool) → (x && y && z) ≡ true → (x ≡ true) × (y ≡ 
 and3 true y z h = let p = and_parts y z h in (refl, p.0, p.1)
 and3 false y z h = absurd (true≢false (sym h))
 
-and4 : (x y z u : Bool) → (x && y && z && u) ≡ true → (x ≡ true) × (y ≡ true) × (z ≡ true) × (u ≡ true)
+pub and4 : (x y z u : Bool) → (x && y && z && u) ≡ true → (x ≡ true) × (y ≡ true) × (z ≡ true) × (u ≡ true)
 and4 true y z u h = let p = and3 y z u h in (refl, p.0, p.1, p.2)
 and4 false y z u h = absurd (true≢false (sym h))
 
@@ -54,12 +53,15 @@ same_is (Seen c a s d) (Seen c' a' s' d') h =
 same_is (TermValue t a d) (TermValue t' a' d') h =
     let p = and3 (t == t') (a == a') (int_eq d d') h in
     rw (eqb-true t t' p.0, eqb-true a a' p.1, int_eq-true d d' p.2) refl
-same_is (Seen c a s d) (TermValue t' a' d') h = absurd (true≢false (sym h))
-same_is (TermValue t a d) (Seen c' a' s' d') h = absurd (true≢false (sym h))
+same_is (SeenValue t a s d) (SeenValue t' a' s' d') h =
+    let p = and4 (t == t') (a == a') (int_eq s s') (int_eq d d') h in
+    rw (eqb-true t t' p.0, eqb-true a a' p.1, int_eq-true s s' p.2, int_eq-true d d' p.3) refl
+same_is f g h = absurd (true≢false (sym h))
 
 pub is_same : (f : Fact) → same_fact f f ≡ true
 is_same (Seen c a s d) = rw (nat_same (column_number c), nat_same a, int_eq-itself s, int_eq-itself d) refl
 is_same (TermValue t a d) = rw (nat_same t, nat_same a, int_eq-itself d) refl
+is_same (SeenValue t a s d) = rw (nat_same t, nat_same a, int_eq-itself s, int_eq-itself d) refl
 
 pub same_turned : (f g : Fact) → same_fact f g ≡ same_fact g f
 same_turned f g = both_ways _ _ (λ e. ap (same_fact g) (same_is f g e) ∙ is_same g) (λ e. ap (same_fact f) (same_is g f e) ∙ is_same f)
@@ -167,16 +169,17 @@ module _ (w : World) (p : Pipeline) where
   states_number r (SeenLine c' a' bar day cells) (Seen c a s d) h =
       let same : cells ≡ seen_cells w a c s d = (slice_eq-Decides Decides-int_eq cells (seen_cells w a c s d) _ refl).0 h in
       ap last_cell same ∙ last_seen w a c s d
-  states_number r (SeenLine c' a' bar day cells) (TermValue t a d) h = absurd (true≢false (sym h))
+  states_number r (SeenLine c' a' bar day cells) f h = absurd (true≢false (sym h))
   states_number r (ValueLine t a day v known) f h =
       int_eq-true v (single_step w p r f) (and_parts (int_eq v (single_step w p r f)) (option_eq int_eq known (known_day w p f)) h).0
+  states_number r (SeenValueLine t a own day v) f h = int_eq-true v (single_step w p r f) h
 
   -- the day that a line of a value states
   states_known : (r : Reading) (t a : ℕ) (day v : ℤ) (known : Option ℤ) (f : Fact) → states_step w p r (ValueLine t a day v known) f ≡ true → known ≡ known_day w p f
   states_known r t a day v known f h =
       day_same known (known_day w p f) (and_parts (int_eq v (single_step w p r f)) (option_eq int_eq known (known_day w p f)) h).1
 
-  module _ (known : HasTexts w) (ok : IsGraph p.graph) (steady : AllReadSteady p.graph) where
+  module _ (known : HasTexts w) (ok : IsGraph p.graph) where
     -- after true lines a right line is true
     right_about : (lines : List Line) → Each States lines → (l : Line) (f : Fact) → is_right_about w p lines l (Some f) ≡ true → number_stated l ≡ number_in w p f
     right_about lines h l f e =
@@ -184,7 +187,7 @@ module _ (w : World) (p : Pipeline) where
         let stand = each_list_all (is_stated w lines) (premises w p (reading_of w lines) f) parts.1 in
         let agree : Each (λ g. reading_of w lines g ≡ number_in w p g) (premises w p (reading_of w lines) f)
         = each_more _ _ (premises w p (reading_of w lines) f) (λ g i. stated_true lines g h i) stand in
-        states_number (reading_of w lines) l f parts.2 ∙ (fact_same w p (reading_of w lines) (number_in w p) f agree).1 ∙ step_true w p known ok steady f
+        states_number (reading_of w lines) l f parts.2 ∙ (fact_same w p (reading_of w lines) (number_in w p) f agree).1 ∙ step_true w p known ok f
 
     pub right_states : (lines : List Line) → Each States lines → (l : Line) → is_right w p lines l ≡ true → States l
     right_states lines h l e f i = right_about lines h l f (rw i at e)
@@ -210,6 +213,11 @@ module _ (w : World) (p : Pipeline) where
             let parts = and3 (is_fitting w p f) (list_all (is_stated w lines) (premises w p r f)) (states_step w p r (ValueLine t a day v known) f) e in
             let stated : known ≡ known_day w p f = states_known r t a day v known f parts.2 in
             (at.0, session_is w day at.0 at.1, rw fact at n, rw fact at stated)
+        true_line (SeenValueLine t a own day v) f i e n =
+            let first = then_some _ (session_of w own) f i in
+            let last = map_some _ (session_of w day) f first.2 in
+            let fact : f ≡ SeenValue t a (pos first.0) (pos last.0) = last.2 in
+            (first.0, last.0, session_is w own first.0 first.1, session_is w day last.0 last.1, rw fact at n)
 
         found : (o : Option Fact) → fact_of w l ≡ o → IsTrueLine w p l
         found None i = let no : false ≡ true = rw i at e in absurd (true≢false (sym no))

@@ -12,11 +12,10 @@ use Rattle.std.proofs.lemmas.List.{map-append}
 use Rattle.std.proofs.lemmas.Option.{slice_get_within, get_or_from_slice_get}
 use Rattle.pl_spec.specs.World.{World, IsWorld, day_of}
 use Rattle.pl_pipeline.specs.Term.{IsGraph}
-use Rattle.pl_pipeline.specs.NodeValue.{AllReadSteady}
 use Rattle.pl_pipeline.specs.Table.{Pipeline}
 use Rattle.pl_spec.proofs.Places.{is_at}
 use Rattle.pl_derivation.specs.Facts.{Fact, Reading, same_fact, number_in, known_day, premises, single_step}
-use Rattle.pl_derivation.specs.Facts.Fact.{Seen, TermValue}
+use Rattle.pl_derivation.specs.Facts.Fact.{Seen, TermValue, SeenValue}
 use Rattle.pl_derivation.specs.Lines.{Line}
 use Rattle.pl_derivation.specs.Right.{session_of, fact_of, number_stated, is_about, is_stated, reading_of, is_fitting, seen_cells, states_step, is_right, wrong_behind}
 use Rattle.pl_derivation.specs.Walks.{IsOnce, is_in, finish, depth_of, date_of, line_for, facts_for, derivation}
@@ -48,7 +47,7 @@ date_is w d s = rw (s.2, s.3) refl
 pub in_last : (done : List Fact) (f : Fact) → is_in (done ++ f ∷ []) f ≡ true
 in_last done f = list_any-append (same_fact f) done (f ∷ []) ∙ or_right (is_in done f) (is_in (f ∷ []) f) (or_left (same_fact f f) false (is_same f))
 
-module _ (w : World) (p : Pipeline) (ok : IsWorld w) (known : HasTexts w) (graph : IsGraph p.graph) (steady : AllReadSteady p.graph) (windows : HasSessions p.graph) where
+module _ (w : World) (p : Pipeline) (ok : IsWorld w) (known : HasTexts w) (graph : IsGraph p.graph) (windows : HasSessions p.graph) where
   abbrev Fit : Fact → Type 0
   Fit f = Fits w p graph windows f
 
@@ -58,11 +57,13 @@ module _ (w : World) (p : Pipeline) (ok : IsWorld w) (known : HasTexts w) (graph
   -- a fact's line is about it
   line_is : (f : Fact) → Fit f → fact_of w (line_for w p f) ≡ Some f
   line_is (Seen c a s d) h = let e : s ≡ pos h.1.0 = h.1.2 in let f : d ≡ pos h.2.0 = h.2.2 in rw (date_session s h.1, date_session d h.2) (rw (e, f) refl)
+  line_is (SeenValue t a s d) h = let e : s ≡ pos h.1.0 = h.1.2 in let f : d ≡ pos h.2.0 = h.2.2 in rw (date_session s h.1, date_session d h.2) (rw (e, f) refl)
   line_is (TermValue t a d) h = let f : d ≡ pos h.1.0 = h.1.2 in rw (date_session d h.1) (rw f refl)
 
   line_number : (f : Fact) → number_stated (line_for w p f) ≡ number_in w p f
   line_number (Seen c a s d) = last_seen w a c s d
   line_number (TermValue t a d) = refl
+  line_number (SeenValue t a s d) = refl
 
   line_states : (f : Fact) → Fit f → States w p (line_for w p f)
   line_states f h g e =
@@ -87,12 +88,14 @@ module _ (w : World) (p : Pipeline) (ok : IsWorld w) (known : HasTexts w) (graph
   fitting : (f : Fact) → Fit f → is_fitting w p f ≡ true
   fitting (Seen c a s d) h = h.0
   fitting (TermValue t a d) h = h.0
+  fitting (SeenValue t a s d) h = h.0
 
   states_step_of : (r : Reading) (f : Fact) → single_step w p r f ≡ number_in w p f → states_step w p r (line_for w p f) f ≡ true
   states_step_of r (Seen c a s d) e = (slice_eq-Decides Decides-int_eq (seen_cells w a c s d) (seen_cells w a c s d) _ refl).1 refl
   states_step_of r (TermValue t a d) e =
       and_from (int_eq (number_in w p (TermValue t a d)) (single_step w p r (TermValue t a d))) (option_eq int_eq (known_day w p (TermValue t a d)) (known_day w p (TermValue t a d)))
       ((Decides-int_eq (number_in w p (TermValue t a d)) (single_step w p r (TermValue t a d))).1 (sym e)) (same_day (known_day w p (TermValue t a d)))
+  states_step_of r (SeenValue t a s d) e = (Decides-int_eq (number_in w p (SeenValue t a s d)) (single_step w p r (SeenValue t a s d))).1 (sym e)
 
   -- a fact's line is right after those of its premises
   line_right : (done : List Fact) → Each Fit done → (f : Fact) → Fit f → Each (λ g. is_in done g ≡ true) (premises w p (number_in w p) f)
@@ -106,7 +109,7 @@ module _ (w : World) (p : Pipeline) (ok : IsWorld w) (known : HasTexts w) (graph
       = list_all_each (is_stated w (lines_of done)) (premises w p (number_in w p) f) (each_more _ _ (premises w p (number_in w p) f) (λ g i. stands done g h i) behind) in
       let stated_too : list_all (is_stated w (lines_of done)) (premises w p (reading_of w (lines_of done)) f) ≡ true = rw both.0 at stated in
       let step : states_step w p (reading_of w (lines_of done)) (line_for w p f) f ≡ true
-      = states_step_of (reading_of w (lines_of done)) f (sym both.1 ∙ step_true w p known graph steady f) in
+      = states_step_of (reading_of w (lines_of done)) f (sym both.1 ∙ step_true w p known graph f) in
       rw (line_is f fit, fitting f fit, stated_too, step) refl
 
   -- ---- the walk
@@ -195,6 +198,7 @@ module _ (w : World) (p : Pipeline) (ok : IsWorld w) (known : HasTexts w) (graph
   some_depth : (f : Fact) → depth_of f ≡ 0 → ⊥
   some_depth (Seen c a s d) l = omega arith
   some_depth (TermValue t a d) l = omega arith
+  some_depth (SeenValue t a s d) l = omega arith
 
   finish_one : (depth : ℕ) → Finishes depth
   finish_one zero done f h r = absurd (some_depth f (let l : depth_of f ≤ 0 = r.1 in omega arith))

@@ -7,10 +7,12 @@ use Rattle.pl_spec.specs.World.{World}
 use Rattle.pl_spec.specs.declared.Figure.TheVariants as figure
 use Rattle.pl_pipeline.specs.Kind.{Kind}
 use Rattle.pl_pipeline.specs.Table.{Pipeline}
-use Rattle.pl_laws.proofs.Worked.Worlds.{opened, plain, split, latest_close, of_terms, units}
+use Rattle.pl_pipeline.specs.Term.{Node}
+use Rattle.pl_pipeline.specs.declared.WindowKind.TheVariants.{Latest, Returns, SimpleMovingAverage, WindowSum}
+use Rattle.pl_laws.proofs.Worked.Worlds.{opened, plain, split, latest_close, of_bars, of_terms, pipeline, named, units}
 use Rattle.pl_derivation.specs.Lines.{Line}
 use Rattle.pl_derivation.specs.Right.{first_wrong}
-use Rattle.pl_derivation.specs.Lines.Line.{SeenLine, ValueLine}
+use Rattle.pl_derivation.specs.Lines.Line.{SeenLine, ValueLine, SeenValueLine}
 use Rattle.pl_derivation.specs.Walks.{derivation}
 
 seen_and_value : List Line
@@ -62,3 +64,70 @@ with_the_day_of_an_older_record = refl
 without_the_records_day : first_wrong scored its_number (ValueLine 0 1 (pos 19730) (units 4) None ∷ []) ≡ Some 1
 unfolding opened scored scored_from its_number score
 without_the_records_day = refl
+
+-- ---- windows over values that move with the bars
+
+-- a formula over a window of two sessions of term 0
+abbrev over_two : Kind → Node
+over_two k = record (of_terms k (0 ∷ [])) { window = 2 }
+
+abbrev over_first : Node → Kind → Pipeline
+over_first n k = pipeline (n ∷ over_two k ∷ []) (named (99 ∷ []) 1 ∷ [])
+
+mean_of_latest : Pipeline
+mean_of_latest = over_first (of_bars Latest (Close ∷ []) 1) (Kind.Window SimpleMovingAverage)
+
+-- On 2024-01-04 the latest closes of the sessions before are seen from the split on: 50 and 51.
+its_lines : List Line
+its_lines =
+    SeenLine Close 1 (pos 19724) (pos 19726) (units 100 ∷ units 50 ∷ [])
+    ∷ SeenValueLine 0 1 (pos 19725) (pos 19726) (units 50)
+    ∷ SeenLine Close 1 (pos 19725) (pos 19726) (units 102 ∷ units 51 ∷ [])
+    ∷ ValueLine 0 1 (pos 19726) (units 51) None
+    ∷ ValueLine 1 1 (pos 19726) (pos 50500000) None ∷ []
+
+a_mean_of_latest_closes : derivation split mean_of_latest 1 1 (pos 2) ≡ its_lines
+unfolding opened mean_of_latest its_lines
+a_mean_of_latest_closes = refl
+
+its_lines_are_right : first_wrong split mean_of_latest its_lines ≡ None
+unfolding opened mean_of_latest its_lines
+its_lines_are_right = refl
+
+-- the value that the latest close had on its own session is no premise, though it is a right line
+over_own_values : first_wrong split mean_of_latest
+    (SeenLine Close 1 (pos 19724) (pos 19725) (units 100 ∷ [])
+    ∷ ValueLine 0 1 (pos 19725) (units 100) None
+    ∷ SeenLine Close 1 (pos 19725) (pos 19726) (units 102 ∷ units 51 ∷ [])
+    ∷ ValueLine 0 1 (pos 19726) (units 51) None
+    ∷ ValueLine 1 1 (pos 19726) (pos 75500000) None ∷ []) ≡ Some 5
+unfolding opened mean_of_latest
+over_own_values = refl
+
+-- nor is a value seen from its own session
+seen_from_itself : first_wrong split mean_of_latest
+    (SeenLine Close 1 (pos 19725) (pos 19726) (units 102 ∷ units 51 ∷ []) ∷ SeenValueLine 0 1 (pos 19726) (pos 19726) (units 51) ∷ []) ≡ Some 2
+unfolding opened mean_of_latest
+seen_from_itself = refl
+
+-- a change keeps its values, so none is told as it is seen from a later session
+sum_of_changes : Pipeline
+sum_of_changes = over_first (of_bars Returns (Close ∷ []) 2) (Kind.Window WindowSum)
+
+a_sum_of_changes : derivation split sum_of_changes 1 1 (pos 3) ≡
+    SeenLine Close 1 (pos 19724) (pos 19726) (units 100 ∷ units 50 ∷ [])
+    ∷ SeenLine Close 1 (pos 19725) (pos 19726) (units 102 ∷ units 51 ∷ [])
+    ∷ ValueLine 0 1 (pos 19726) (pos 20000) None
+    ∷ SeenLine Close 1 (pos 19725) (pos 19727) (units 102 ∷ units 51 ∷ [])
+    ∷ SeenLine Close 1 (pos 19726) (pos 19727) (units 51 ∷ [])
+    ∷ ValueLine 0 1 (pos 19727) (pos 0) None
+    ∷ ValueLine 1 1 (pos 19727) (pos 20000) None ∷ []
+unfolding opened sum_of_changes
+a_sum_of_changes = refl
+
+a_change_as_it_is_seen : first_wrong split sum_of_changes
+    (SeenLine Close 1 (pos 19724) (pos 19727) (units 100 ∷ units 50 ∷ [])
+    ∷ SeenLine Close 1 (pos 19725) (pos 19727) (units 102 ∷ units 51 ∷ [])
+    ∷ SeenValueLine 0 1 (pos 19726) (pos 19727) (pos 20000) ∷ []) ≡ Some 3
+unfolding opened sum_of_changes
+a_change_as_it_is_seen = refl

@@ -7,7 +7,7 @@ use Rattle.std.specs.Cmp.Lexicographic.{pointwise}
 use Rattle.pl_spec.specs.World.{World, IsWorld, day_of}
 use Rattle.pl_spec.specs.Window.{seen_cell}
 use Rattle.pl_pipeline.specs.Term.{IsGraph, term_at}
-use Rattle.pl_pipeline.specs.NodeValue.{AllReadSteady}
+use Rattle.pl_pipeline.specs.Value.{From, seen}
 use Rattle.pl_pipeline.specs.Graph.{reach}
 use Rattle.pl_pipeline.specs.Table.{Pipeline, value_of, in_array}
 use Rattle.pl_derivation.specs.Facts.{Fact, number_in, known_day, premises}
@@ -16,7 +16,7 @@ use Rattle.pl_terms.specs.Checked.{IsChecked}
 use Rattle.pl_terms.specs.Uses.{is_used}
 use Rattle.pl_cross.specs.Arrays.{HasTexts}
 use Rattle.pl_derivation.specs.Lines.{Line}
-use Rattle.pl_derivation.specs.Lines.Line.{SeenLine, ValueLine}
+use Rattle.pl_derivation.specs.Lines.Line.{SeenLine, ValueLine, SeenValueLine}
 use Rattle.pl_derivation.specs.Right.{fact_of, is_stated, is_fitting, seen_cells, is_right, first_wrong, has_sid}
 use Rattle.pl_derivation.specs.Walks.{IsOnce, facts_for, line_for, derivation}
 
@@ -26,10 +26,13 @@ IsTrueLine w p (SeenLine c a bar day cells) =
     (s : ℕ) × (d : ℕ) × (day_of w (pos s) ≡ Some bar) × (day_of w (pos d) ≡ Some day) × (front : List ℤ) × (cells ≡ front ++ seen_cell w a c (pos s) (pos d) ∷ [])
 IsTrueLine w p (ValueLine t a day v known) =
     (d : ℕ) × (day_of w (pos d) ≡ Some day) × (v ≡ in_array w.texts (value_of w p t a (pos d))) × (known ≡ known_day w p (TermValue t a (pos d)))
+IsTrueLine w p (SeenValueLine t a own day v) =
+    (s : ℕ) × (d : ℕ) × (day_of w (pos s) ≡ Some own) × (day_of w (pos d) ≡ Some day)
+    × (v ≡ in_array w.texts (seen w p.names (term_at p.graph t) (From (pos d)) a (pos s)))
 
 -- Where no line of a list is wrong, each of them is true.
 abbrev pub RightLinesAreTrue : Type 0
-RightLinesAreTrue = (w : World) (p : Pipeline) → HasTexts w → IsGraph p.graph → AllReadSteady p.graph
+RightLinesAreTrue = (w : World) (p : Pipeline) → HasTexts w → IsGraph p.graph
     → (lines : List Line) → first_wrong w p lines ≡ None
     → (i : ℕ) (l : Line) → slice_get lines i ≡ Some l → IsTrueLine w p l
 
@@ -37,19 +40,20 @@ RightLinesAreTrue = (w : World) (p : Pipeline) → HasTexts w → IsGraph p.grap
 abbrev pub states_world : World → Pipeline → Line → Fact → Bool
 states_world w p (SeenLine c' a' bar day cells) (Seen c a s d) = pointwise int_eq cells (seen_cells w a c s d)
 states_world w p (ValueLine t a day v known) f = int_eq v (number_in w p f) && option_eq int_eq known (known_day w p f)
+states_world w p (SeenValueLine t a own day v) f = int_eq v (number_in w p f)
 states_world w p l f = false
 
 -- After right lines a line is right where its fact fits, each premise stands in these, and it states what the
 -- world has: what the first lines tell of the premises need not be kept.
 abbrev pub RightIsTrue : Type 0
-RightIsTrue = (w : World) (p : Pipeline) → HasTexts w → IsGraph p.graph → AllReadSteady p.graph
+RightIsTrue = (w : World) (p : Pipeline) → HasTexts w → IsGraph p.graph
     → (lines : List Line) → first_wrong w p lines ≡ None
     → (l : Line) (f : Fact) → fact_of w l ≡ Some f
     → is_right w p lines l ≡ (is_fitting w p f && list_all (is_stated w lines) (premises w p (number_in w p) f) && states_world w p l f)
 
 -- After right lines that tell of its fact already, a line is right where it states what the world has.
 abbrev pub RepeatsAreRight : Type 0
-RepeatsAreRight = (w : World) (p : Pipeline) → HasTexts w → IsGraph p.graph → AllReadSteady p.graph
+RepeatsAreRight = (w : World) (p : Pipeline) → HasTexts w → IsGraph p.graph
     → (lines : List Line) → first_wrong w p lines ≡ None
     → (l : Line) (f : Fact) → fact_of w l ≡ Some f → is_stated w lines f ≡ true → is_right w p lines l ≡ states_world w p l f
 

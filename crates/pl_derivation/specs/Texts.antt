@@ -13,7 +13,7 @@ use Rattle.pl_spec.specs.Dates.{IsDay, date_text, date_in}
 use Rattle.pl_spec.specs.Decimals.{sid_in}
 use Rattle.pl_spec.specs.Names.{column_name}
 use Rattle.pl_derivation.specs.Lines.{Line}
-use Rattle.pl_derivation.specs.Lines.Line.{SeenLine, ValueLine}
+use Rattle.pl_derivation.specs.Lines.Line.{SeenLine, ValueLine, SeenValueLine}
 
 -- ---- writing
 
@@ -24,6 +24,7 @@ number_text x = if is_missing x then 45 ∷ [] else signed_decimal x
 abbrev pub fields_of : Line → List (List ℕ)
 fields_of (SeenLine c a bar day cells) = codes "seen" ∷ column_name c ∷ decimal a ∷ date_text bar ∷ date_text day ∷ map number_text cells
 fields_of (ValueLine t a day v known) = codes "value" ∷ decimal t ∷ decimal a ∷ date_text day ∷ number_text v ∷ map date_text (option_to_list known)
+fields_of (SeenValueLine t a own day v) = codes "seen-value" ∷ decimal t ∷ decimal a ∷ date_text own ∷ date_text day ∷ number_text v ∷ []
 
 -- the fields with one space between two of them
 abbrev pub body_of : Line → List ℕ
@@ -81,10 +82,18 @@ value_line (t ∷ a ∷ day ∷ v ∷ more) =
     option_map (ValueLine term sid day value) (known_in more)) (number_of_text v)) (date_in day)) (sid_in a)) (sid_in t)
 value_line fields = None
 
+abbrev pub seen_value_line : List (List ℕ) → Option Line
+seen_value_line (t ∷ a ∷ own ∷ day ∷ v ∷ []) =
+    option_and_then (λ term. option_and_then (λ sid. option_and_then (λ own_day. option_and_then (λ view_day.
+    option_map (SeenValueLine term sid own_day view_day) (number_of_text v)) (date_in day)) (date_in own)) (sid_in a)) (sid_in t)
+seen_value_line fields = None
+
 abbrev pub line_in_fields : List (List ℕ) → Option Line
 line_in_fields [] = None
 line_in_fields (word ∷ fields) =
-    if bytes_eq word (codes "seen") then seen_line fields else if bytes_eq word (codes "value") then value_line fields else None
+    if bytes_eq word (codes "seen") then seen_line fields
+    else if bytes_eq word (codes "value") then value_line fields
+    else if bytes_eq word (codes "seen-value") then seen_value_line fields else None
 
 -- the line that a text is, without its line feed
 unfoldable pub line_in : List ℕ → Option Line
@@ -121,6 +130,7 @@ AreCells cells = Each IsCell cells
 abbrev pub IsWritable : Line → Type 0
 IsWritable (SeenLine c a bar day cells) = (a < 2 ^ 32) × IsDay bar × IsDay day × (1 ≤ length cells) × AreCells cells
 IsWritable (ValueLine t a day v known) = (t < 2 ^ 32) × (a < 2 ^ 32) × IsDay day × IsCell v × IfSome known IsDay
+IsWritable (SeenValueLine t a own day v) = (t < 2 ^ 32) × (a < 2 ^ 32) × IsDay own × IsDay day × IsCell v
 
 abbrev pub AreWritable : List Line → Type 0
 AreWritable lines = Each IsWritable lines

@@ -4,9 +4,9 @@ use Rattle.std.specs.List.{list_any}
 use Rattle.pl_spec.specs.World.{World, day_of}
 use Rattle.pl_pipeline.specs.Table.{Pipeline}
 use Rattle.pl_derivation.specs.Facts.{Fact, same_fact, number_in, known_day, premises}
-use Rattle.pl_derivation.specs.Facts.Fact.{Seen, TermValue}
+use Rattle.pl_derivation.specs.Facts.Fact.{Seen, TermValue, SeenValue}
 use Rattle.pl_derivation.specs.Lines.{Line}
-use Rattle.pl_derivation.specs.Lines.Line.{SeenLine, ValueLine}
+use Rattle.pl_derivation.specs.Lines.Line.{SeenLine, ValueLine, SeenValueLine}
 use Rattle.pl_derivation.specs.Right.{seen_cells}
 
 abbrev pub is_in : List Fact → Fact → Bool
@@ -27,6 +27,7 @@ finish w p (suc depth) done f =
 abbrev pub depth_of : Fact → ℕ
 depth_of (Seen c a s d) = suc zero
 depth_of (TermValue t a d) = suc (suc t)
+depth_of (SeenValue t a s d) = suc (suc t)
 
 -- the facts of the derivation of a fact, that fact last
 abbrev pub facts_for : World → Pipeline → Fact → List Fact
@@ -39,6 +40,7 @@ date_of w d = unwrap_or (day_of w d) (pos 0)
 abbrev pub line_for : World → Pipeline → Fact → Line
 line_for w p (Seen c a s d) = SeenLine c a (date_of w s) (date_of w d) (seen_cells w a c s d)
 line_for w p (TermValue t a d) = ValueLine t a (date_of w d) (number_in w p (TermValue t a d)) (known_day w p (TermValue t a d))
+line_for w p (SeenValue t a s d) = SeenValueLine t a (date_of w s) (date_of w d) (number_in w p (SeenValue t a s d))
 
 -- the derivation of the value of term t for asset a on session d
 abbrev pub derivation : World → Pipeline → ℕ → ℕ → ℤ → List Line

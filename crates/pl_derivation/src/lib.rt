@@ -10,6 +10,6 @@ mod print;
 mod read;
 
 pub use error::ExplainError;
-pub use line::{CellList, Derivation, Line, MOST_LINES, ValueLine};
+pub use line::{CellList, Derivation, Line, MOST_LINES, SeenValueLine, ValueLine};
 pub use print::print_lines;
 pub use read::{LinesError, read_lines};

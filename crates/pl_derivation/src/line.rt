@@ -52,8 +52,19 @@ pub struct ValueLine {
     pub known: Option<i32>,
 }
 
-/// What is said of one fact: a bar as it is seen from a later day, or the value of a term. Days are counted
-/// from 1970-01-01.
+/// That the value of a term for an asset on a day is seen as this from a later day, as a window of that day has
+/// it. Days are counted from 1970-01-01; `value` is in millionths, or `MISSING`.
+#[derive(Clone, Copy, Debug)]
+pub struct SeenValueLine {
+    pub term: u32,
+    pub sid: u32,
+    pub own_day: i32,
+    pub day: i32,
+    pub value: i64,
+}
+
+/// What is said of one fact: a bar as it is seen from a later day, the value of a term, or that value as it is
+/// seen from a later day. Days are counted from 1970-01-01.
 #[derive(Debug, Drop)]
 pub enum Line {
     Seen {
@@ -64,6 +75,7 @@ pub enum Line {
         cells: CellList,
     },
     Value(ValueLine),
+    SeenValue(SeenValueLine),
 }
 
 /// The most lines of a derivation. The limit is this project's own.

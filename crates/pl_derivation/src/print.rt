@@ -6,9 +6,9 @@ ghost use Rattle.pl_spec.specs.Names.{column_name};
 ghost use Rattle.pl_derivation.specs.Texts.{number_text, body_of, text_of, IsWritable};
 ghost use Rattle.pl_derivation.specs.Listed.{line_of};
 ghost use Rattle.pl_derivation.specs.Lines.Line.{SeenLine};
-ghost use Rattle.pl_derivation.specs.declared.line.Line.TheVariants.{Value};
+ghost use Rattle.pl_derivation.specs.declared.line.Line.TheVariants.{Value, SeenValue};
 
-use crate::line::{CellList, Derivation, Line, ValueLine};
+use crate::line::{CellList, Derivation, Line, SeenValueLine, ValueLine};
 use itoa::Buffer;
 use pl_fixed::{Memory, write_day};
 use pl_spec::Column;
@@ -121,6 +121,21 @@ fn put_value(bytes: &mut Vec<u8>, line: &ValueLine) -> Result<(), AllocError>
     bytes.extend_from_slice(b"\n")
 }
 
+fn put_seen_value(bytes: &mut Vec<u8>, seen: &SeenValueLine) -> Result<(), AllocError>
+    requires own_day { IsDay seen.now.own_day }
+    requires day { IsDay seen.now.day }
+    ensures { IfOk result (λ _. bytes.new.items
+        ≡ bytes.old.items ++ (body_of (line_of (SeenValue seen.now)) ++ 10 ∷ [])) }
+{
+    bytes.extend_from_slice(b"seen-value")?;
+    put_whole(bytes, seen.term)?;
+    put_whole(bytes, seen.sid)?;
+    put_day(bytes, seen.own_day)?;
+    put_day(bytes, seen.day)?;
+    put_number(bytes, seen.value)?;
+    bytes.extend_from_slice(b"\n")
+}
+
 fn put_line(bytes: &mut Vec<u8>, line: &Line) -> Result<(), AllocError>
     requires { IsWritable (line_of line.now) }
     ensures { IfOk result (λ _. bytes.new.items
@@ -135,6 +150,7 @@ fn put_line(bytes: &mut Vec<u8>, line: &Line) -> Result<(), AllocError>
             cells,
         } => put_seen(bytes, *column, *sid, *bar_day, *day, cells),
         Line::Value(value) => put_value(bytes, value),
+        Line::SeenValue(value) => put_seen_value(bytes, value),
     }
 }
 

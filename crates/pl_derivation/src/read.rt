@@ -1,11 +1,11 @@
 //! Reading the text of lines.
 ghost use Rattle.std.specs.Prelude.{◌≡◌, ◌<◌, ◌+◌, ◌∷◌, ◌++◌, ◌==◌, All, Ok, IfOk, IfErr, IfSome, length, option_map, drop, position, []};
 ghost use Rattle.pl_spec.specs.Rounding.{IsCell};
-ghost use Rattle.pl_derivation.specs.Texts.{pieces, column_in, known_in, numbers_in, seen_line, value_line, line_in, lines_in};
+ghost use Rattle.pl_derivation.specs.Texts.{pieces, column_in, known_in, numbers_in, seen_line, seen_value_line, value_line, line_in, lines_in};
 ghost use Rattle.pl_derivation.specs.Listed.{line_of};
 ghost use Rattle.pl_derivation.specs.Reading.{behind, bar_line, IsLinesFault};
 
-use crate::line::{CellList, Derivation, Line, MOST_LINES, ValueLine};
+use crate::line::{CellList, Derivation, Line, MOST_LINES, SeenValueLine, ValueLine};
 use crate::number::read_number;
 use pl_fixed::{read_day, read_sid};
 use pl_spec::Column;
@@ -122,6 +122,35 @@ fn value_in(term: &[u8], sid: &[u8], day: &[u8], value: &[u8], known: Option<&[u
     }))
 }
 
+// What follows the word `seen-value`.
+fn read_seen_value(text: &[u8]) -> Option<Line>
+    ensures { option_map line_of result ≡ seen_value_line (pieces 32 text.now) }
+{
+    let (term, rest) = cut(b' ', text);
+    let (sid, rest) = cut(b' ', rest?);
+    let (own_day, rest) = cut(b' ', rest?);
+    let (day, rest) = cut(b' ', rest?);
+    seen_value_in(term, sid, own_day, day, rest?)
+}
+
+// What four fields say of a value as it is seen, and the text of its number after them.
+#[tactic(auto, using(crate::proofs::Cuts::number_more))]
+fn seen_value_in(term: &[u8], sid: &[u8], own_day: &[u8], day: &[u8], text: &[u8]) -> Option<Line>
+    ensures { option_map line_of result
+        ≡ seen_value_line (term.now ∷ sid.now ∷ own_day.now ∷ day.now ∷ pieces 32 text.now) }
+{
+    let (value, None) = cut(b' ', text) else {
+        return None;
+    };
+    Some(Line::SeenValue(SeenValueLine {
+        term: read_sid(term)?,
+        sid: read_sid(sid)?,
+        own_day: read_day(own_day)?,
+        day: read_day(day)?,
+        value: read_number(value)?,
+    }))
+}
+
 // What the fields before the cells say of them.
 fn read_bar(column: &[u8], sid: &[u8], bar_day: &[u8], day: &[u8], cells: CellList) -> Option<Line>
     ensures { option_map line_of result ≡ bar_line column.now sid.now bar_day.now day.now cells }
@@ -170,6 +199,8 @@ fn read_line(alloc: Global, text: &[u8]) -> Result<Option<Line>, AllocError>
         read_seen(alloc, rest)
     } else if word == b"value".as_slice() {
         Ok(read_value(rest))
+    } else if word == b"seen-value".as_slice() {
+        Ok(read_seen_value(rest))
     } else {
         Ok(None)
     }

@@ -1,6 +1,7 @@
 -- Facts that are put after others, and what may stand in a derivation.
-use Rattle.std.proofs.Common.{◌≡◌, ℕ, ◌+◌, ◌-◌, ◌<◌, ◌≤◌, Bool, true, false, cond, ℤ, pos, ◌<ℤ◌, AllPairs, List, [], ◌∷◌, ◌++◌, length, map, take, filter, flat_map, Option, Some, None, option_map, slice_get, get_or, sym, ◌∙◌, ap, subst, arith, append_assoc, append-nil}
+use Rattle.std.proofs.Common.{◌≡◌, ℕ, ◌+◌, ◌-◌, ◌<◌, ◌≤◌, Bool, true, false, not, cond, ℤ, pos, ◌<ℤ◌, ◌≤ℤ◌, zero, suc, IfSome, refl, AllPairs, List, [], ◌∷◌, ◌++◌, length, map, take, filter, flat_map, Option, Some, None, option_map, slice_get, get_or, sym, ◌∙◌, ap, subst, arith, append_assoc, append-nil}
 use Rattle.std.specs.List.{range_with_len}
+use Rattle.std.specs.Int.RustNames.{int_lt}
 use Rattle.std.proofs.lemmas.Int.{ints}
 use Rattle.std.proofs.lemmas.Bool.{and_parts}
 use Rattle.std.proofs.lemmas.Grind.{flat_map-append}
@@ -12,6 +13,8 @@ use Rattle.pl_spec.specs.declared.AssetRow.{AssetRow}
 use Rattle.pl_spec.specs.Parts.{sid_at}
 use Rattle.pl_pipeline.specs.Term as spec
 use Rattle.pl_pipeline.specs.Term.{tree_over, trees, term_at}
+use Rattle.pl_pipeline.specs.Graph.{reach}
+use Rattle.pl_pipeline.specs.Value.{Own, is_steady}
 use Rattle.pl_pipeline.specs.Reaching.{HasWindows}
 use Rattle.pl_pipeline.proofs.Trees.{term_at-node}
 use Rattle.pl_terms.proofs.Windowed.{windowed}
@@ -22,9 +25,10 @@ use Rattle.pl_terms.specs.Checked.{Parts, pipeline_of, IsChecked}
 use Rattle.pl_terms.specs.Nodes.{node_of, input_of, number_of}
 use Rattle.pl_terms.specs.Uses.{is_used}
 use Rattle.pl_terms.proofs.Graphs.{graph-long, used-within}
-use Rattle.pl_derivation.specs.Facts.{Fact, number_in, premises, over_inputs, entry_facts, facts_now, number_facts}
-use Rattle.pl_derivation.specs.Facts.Fact.{TermValue}
-use Rattle.pl_derivation.specs.Right.{has_sid}
+use Rattle.pl_derivation.specs.Facts.{Fact, number_in, premises, value_fact, over_inputs, entry_facts, facts_now, number_facts}
+use Rattle.pl_derivation.specs.Right.{has_sid, is_fitting}
+use Rattle.pl_derivation.specs.Walks.{depth_of}
+use Rattle.pl_derivation.proofs.Truths.{and4}
 use Rattle.pl_derivation.proofs.Fits.{HasSessions, premises_ready}
 use Rattle.pl_spec.proofs.Each.{Each}
 use Rattle.pl_spec.proofs.Columns.{no_asset, sid-there}
@@ -33,8 +37,11 @@ use Rattle.pl_explain.specs.Keys.{fact_of}
 use Rattle.pl_world.specs.declared.world.World.{World}
 use Rattle.pl_world.specs.Worlds.{world_of, IsMade}
 use Rattle.pl_world.specs.Evaluations.{IsAsked, IsAskedInput}
-use Rattle.pl_explain.specs.Reading.{ArePut, IsRoomy}
-use Rattle.pl_explain.specs.Walking.{MayBeDerived, CanBeDerivedWithin}
+use Rattle.pl_explain.specs.Reading.{AreInGraph, ArePut, IsInGraph, IsRoomy}
+use Rattle.pl_world.specs.Views.{view_at, seen_in}
+use Rattle.pl_world.proofs.Views.{own-cell}
+use Rattle.pl_explain.specs.Given.{own_facts}
+use Rattle.pl_explain.specs.Walking.{HasDay, MayBeDerived, CanBeDerivedWithin}
 use Rattle.pl_explain.proofs.Values.{over-read}
 
 -- ---- putting
@@ -59,10 +66,10 @@ inputs-put n f o p q a b c d x y z h k l =
     ∙ ap (λ fs. map fact_of a ++ fs) (sym (over-read n f))
 
 -- the mask, the group and the inputs of an asset
-pub entry-put : (n : Node) (b : ℕ) (d : ℤ) (x y z u : List code.Fact) → ArePut x y (number_facts b d (option_map number_of n.mask)) → ArePut y z (number_facts b d (option_map number_of n.group))
-    → ArePut z u (over_inputs (facts_now b d) (node_of n)) → ArePut x u (entry_facts (node_of n) d b)
+pub entry-put : (g : spec.Graph) (n : Node) (b : ℕ) (d : ℤ) (x y z u : List code.Fact) → ArePut x y (number_facts b d (option_map number_of n.mask)) → ArePut y z (number_facts b d (option_map number_of n.group))
+    → ArePut z u (over_inputs (facts_now g Own b d) (node_of n)) → ArePut x u (entry_facts g (node_of n) d b)
 unfolding node_of
-entry-put n b d x y z u h k l = put-three x y z u (number_facts b d (option_map number_of n.mask)) (number_facts b d (option_map number_of n.group)) (over_inputs (facts_now b d) (node_of n)) h k l
+entry-put g n b d x y z u h k l = put-three x y z u (number_facts b d (option_map number_of n.mask)) (number_facts b d (option_map number_of n.group)) (over_inputs (facts_now g Own b d) (node_of n)) h k l
 
 -- one more of a row
 pub run-more : (f : ℕ → Fact) (first s : ℕ) → first ≤ s → (old now new : List code.Fact) → ArePut old now (map f (range_with_len first (s - first))) → ArePut now new (f s ∷ [])
@@ -117,20 +124,79 @@ sessions-held c checked k n e =
     let held : HasWindows (tree_over (trees (pipeline_of c).graph) n) = rw (term_at-node (pipeline_of c).graph k n checked.graph e) at all in
     held.0
 
-module _ (w : World) (c : Parts) (checked : IsChecked (pipeline_of c)) where
+-- an input of a node whose inputs stand in the graph
+pub in-place : (c : Parts) (n : Node) → AreInGraph c n → (k : ℕ) (o : Option Input) → o ≡ slice_get n.inputs k → k < 3 → IsInGraph c o
+in-place c n h zero o e l = subst (IsInGraph c) (sym e) h.first
+in-place c n h (suc zero) o e l = subst (IsInGraph c) (sym e) h.second
+in-place c n h (suc (suc zero)) o e l = subst (IsInGraph c) (sym e) h.third
+in-place c n h (suc (suc (suc k))) o e l = absurd (omega (arith, l))
+
+-- what may be said of a value that may stand
+record MayBeSeen (w : World) (c : Parts) (t a s : ℕ) (view : Option ℕ) : Type 0 where
+  sid : has_sid (world_of w) a ≡ true
+  used : is_used (pipeline_of c) t ≡ true
+  day : HasDay (world_of w) (pos s)
+  reaches : pos 0 ≤ℤ reach (world_of w).days (term_at (pipeline_of c).graph t) (pos s)
+  from : IfSome view (λ v. HasDay (world_of w) (pos v))
+
+may-be : (w : World) (c : Parts) (t a s : ℕ) (view : Option ℕ) → MayBeDerived w c (value_fact t a (pos s) (view_at view)) → MayBeSeen w c t a s view
+may-be w c t a s None h =
+    let fit = and_parts (has_sid (world_of w) a) (is_used (pipeline_of c) t) h.0 in
+    record { sid = fit.0; used = fit.1; day = h.1; reaches = h.2; from = tt }
+may-be w c t a s (Some v) h =
+    let fit = and4 (has_sid (world_of w) a) (is_used (pipeline_of c) t) (not (is_steady (term_at (pipeline_of c).graph t))) (int_lt (pos s) (pos v)) h.0 in
+    record { sid = fit.0; used = fit.1; day = h.1; reaches = h.3; from = h.2 }
+
+within-days : (w : World) (d : ℕ) → HasDay (world_of w) (pos d) → d < length w.sessions.now
+within-days w d h = let l = slice_get_within w.sessions.now h.0 h.1 h.3 in let e : pos d ≡ pos h.0 = h.2 in omega (arith, ints, l, e)
+
+-- a value's premises are those of its fact
+pub facts-of : (w : World) (c : Parts) (t a s : ℕ) (view : Option ℕ)
+    → premises (world_of w) (pipeline_of c) (number_in (world_of w) (pipeline_of c)) (value_fact t a (pos s) (view_at view)) ≡ own_facts w c t a s view
+facts-of w c t a s None = refl
+facts-of w c t a s (Some v) = refl
+
+pub depth-of : (t a s : ℕ) (view : Option ℕ) → depth_of (value_fact t a (pos s) (view_at view)) ≡ suc (suc t)
+depth-of t a s None = refl
+depth-of t a s (Some v) = refl
+
+-- and its number is what the term is seen as
+pub number-of : (w : World) (c : Parts) (t a s : ℕ) (view : Option ℕ) → seen_in w c t view a s ≡ number_in (world_of w) (pipeline_of c) (value_fact t a (pos s) (view_at view))
+number-of w c t a s None = own-cell w c t a s
+number-of w c t a s (Some v) = refl
+
+module _ (w : World) (c : Parts) (checked : IsChecked (pipeline_of c)) (t a s : ℕ) (view : Option ℕ) (h : MayBeDerived w c (value_fact t a (pos s) (view_at view))) where
+  abbrev fact : Fact
+  fact = value_fact t a (pos s) (view_at view)
+
+  seen : MayBeSeen w c t a s view
+  seen = may-be w c t a s view h
+
   -- the premises of a value that may stand may stand
-  pub premises-stand : (t a d : ℕ) → MayBeDerived w c (TermValue t a (pos d)) → Each (CanBeDerivedWithin w c (t + 1)) (premises (world_of w) (pipeline_of c) (number_in (world_of w) (pipeline_of c)) (TermValue t a (pos d)))
-  premises-stand t a d h = premises_ready (world_of w) (pipeline_of c) checked.graph (sessions-held c checked) (number_in (world_of w) (pipeline_of c)) (TermValue t a (pos d)) (t + 1) h (omega arith)
+  pub premises-stand : Each (CanBeDerivedWithin w c (t + 1)) (own_facts w c t a s view)
+  premises-stand =
+      let deep = depth-of t a s view in
+      subst (λ fs. Each (CanBeDerivedWithin w c (t + 1)) fs) (facts-of w c t a s view)
+      (premises_ready (world_of w) (pipeline_of c) checked.graph (sessions-held c checked) (number_in (world_of w) (pipeline_of c)) fact (t + 1) h (omega (arith, deep)))
 
-  module _ (t a d : ℕ) (h : MayBeDerived w c (TermValue t a (pos d))) where
-    pub worth-within : t < length c.graph
-    worth-within = let u = used-within (pipeline_of c) t (and_parts (has_sid (world_of w) a) (is_used (pipeline_of c) t) h.0).1 in let long = graph-long c.graph in omega (arith, u, long)
+  pub worth-within : t < length c.graph
+  worth-within = let u = used-within (pipeline_of c) t seen.used in let long = graph-long c.graph in omega (arith, u, long)
 
-    pub worth-day : d < length w.sessions.now
-    worth-day = let l = slice_get_within w.sessions.now h.1.0 h.1.1 h.1.3 in let e : pos d ≡ pos h.1.0 = h.1.2 in omega (arith, ints, l, e)
+  pub worth-day : s < length w.sessions.now
+  worth-day = within-days w s seen.day
 
-    pub worth-sid : has_sid (world_of w) a ≡ true
-    worth-sid = (and_parts (has_sid (world_of w) a) (is_used (pipeline_of c) t) h.0).0
+  pub view-within : (v : ℕ) → view ≡ Some v → v < length w.sessions.now
+  view-within v e = within-days w v (subst (λ o. IfSome o (λ v. HasDay (world_of w) (pos v))) e seen.from)
 
-    pub worth-asked : IsMade w → AllPairs (λ a b. a <ℤ b) w.sessions.now → IsAsked w c t d
-    worth-asked made days = record { made = made; term = worth-within; within = worth-day; days = days; reaches = h.2 }
+  pub worth-sid : has_sid (world_of w) a ≡ true
+  worth-sid = seen.sid
+
+  pub worth-fits : is_fitting (world_of w) (pipeline_of c) fact ≡ true
+  worth-fits = there view h
+    where
+      there : (o : Option ℕ) → MayBeDerived w c (value_fact t a (pos s) (view_at o)) → is_fitting (world_of w) (pipeline_of c) (value_fact t a (pos s) (view_at o)) ≡ true
+      there None h = h.0
+      there (Some v) h = h.0
+
+  pub worth-asked : IsMade w → AllPairs (λ a b. a <ℤ b) w.sessions.now → IsAsked w c t s
+  worth-asked made days = record { made = made; term = worth-within; within = worth-day; days = days; reaches = seen.reaches }

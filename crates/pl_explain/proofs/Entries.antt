@@ -8,7 +8,8 @@ use Rattle.pl_spec.specs.declared.AssetRow.{AssetRow}
 use Rattle.pl_spec.specs.Parts.{sid_at}
 use Rattle.pl_spec.specs.Rounding.{IsCell}
 use Rattle.pl_spec.specs.World.{exists, living_sids}
-use Rattle.pl_pipeline.specs.Term.{Node}
+use Rattle.pl_pipeline.specs.Term.{Graph, Node}
+use Rattle.pl_pipeline.specs.Value.{Own}
 use Rattle.pl_pipeline.specs.Term.Input.{TermInput}
 use Rattle.pl_derivation.specs.Facts.{Fact, number_facts, facts_now, over_inputs, entry_facts}
 use Rattle.pl_derivation.specs.Facts.Fact.{TermValue}
@@ -58,15 +59,15 @@ pub term-facts : (t : ℕ) (d : ℤ) (bs : List ℕ) → flat_map (λ b. number_
 term-facts t d [] = refl
 term-facts t d (b ∷ bs) = ap (λ l. TermValue t b d ∷ l) (term-facts t d bs)
 
-pub input-facts : (n : Node) (t : ℕ) (d : ℤ) → slice_get n.inputs 0 ≡ Some (TermInput t) → slice_get n.inputs 1 ≡ None → slice_get n.inputs 2 ≡ None
-    → (bs : List ℕ) → flat_map (λ b. over_inputs (facts_now b d) n) bs ≡ map (λ b. TermValue t b d) bs
-input-facts n t d e f g [] = refl
-input-facts n t d e f g (b ∷ bs) = ap (λ l. l ++ flat_map (λ b. over_inputs (facts_now b d) n) bs) one ∙ ap (λ l. TermValue t b d ∷ l) (input-facts n t d e f g bs)
+pub input-facts : (g : Graph) (n : Node) (t : ℕ) (d : ℤ) → slice_get n.inputs 0 ≡ Some (TermInput t) → slice_get n.inputs 1 ≡ None → slice_get n.inputs 2 ≡ None
+    → (bs : List ℕ) → flat_map (λ b. over_inputs (facts_now g Own b d) n) bs ≡ map (λ b. TermValue t b d) bs
+input-facts g n t d e f h [] = refl
+input-facts g n t d e f h (b ∷ bs) = ap (λ l. l ++ flat_map (λ b. over_inputs (facts_now g Own b d) n) bs) one ∙ ap (λ l. TermValue t b d ∷ l) (input-facts g n t d e f h bs)
   where
-    one : over_inputs (facts_now b d) n ≡ TermValue t b d ∷ []
-    one = rw (e, f, g) refl
+    one : over_inputs (facts_now g Own b d) n ≡ TermValue t b d ∷ []
+    one = rw (e, f, h) refl
 
-module _ (stated : FactNumbers) (n : Node) (d : ℤ) (bs : List ℕ) where
+module _ (stated : FactNumbers) (g : Graph) (n : Node) (d : ℤ) (bs : List ℕ) where
   abbrev pub masks : List Fact
   masks = flat_map (λ b. number_facts b d n.mask) bs
 
@@ -74,21 +75,21 @@ module _ (stated : FactNumbers) (n : Node) (d : ℤ) (bs : List ℕ) where
   groups = flat_map (λ b. number_facts b d n.group) bs
 
   abbrev pub inputs : List Fact
-  inputs = flat_map (λ b. over_inputs (facts_now b d) n) bs
+  inputs = flat_map (λ b. over_inputs (facts_now g Own b d) n) bs
 
-  whole : has_all stated (flat_map (entry_facts n d) bs) ≡ (has_all stated masks && has_all stated groups && has_all stated inputs)
-  whole = entries-split (has stated) (λ b. number_facts b d n.mask) (λ b. number_facts b d n.group) (λ b. over_inputs (facts_now b d) n) bs
+  whole : has_all stated (flat_map (entry_facts g n d) bs) ≡ (has_all stated masks && has_all stated groups && has_all stated inputs)
+  whole = entries-split (has stated) (λ b. number_facts b d n.mask) (λ b. number_facts b d n.group) (λ b. over_inputs (facts_now g Own b d) n) bs
 
-  pub entries-stated : has_all stated masks ≡ true → has_all stated groups ≡ true → has_all stated inputs ≡ true → has_all stated (flat_map (entry_facts n d) bs) ≡ true
+  pub entries-stated : has_all stated masks ≡ true → has_all stated groups ≡ true → has_all stated inputs ≡ true → has_all stated (flat_map (entry_facts g n d) bs) ≡ true
   entries-stated x y z = whole ∙ rw (x, y, z) refl
 
-  pub masks-lack : has_all stated masks ≡ false → has_all stated (flat_map (entry_facts n d) bs) ≡ false
+  pub masks-lack : has_all stated masks ≡ false → has_all stated (flat_map (entry_facts g n d) bs) ≡ false
   masks-lack x = whole ∙ and_left (has_all stated masks && has_all stated groups) (has_all stated inputs) (and_left (has_all stated masks) (has_all stated groups) x)
 
-  pub groups-lack : has_all stated groups ≡ false → has_all stated (flat_map (entry_facts n d) bs) ≡ false
+  pub groups-lack : has_all stated groups ≡ false → has_all stated (flat_map (entry_facts g n d) bs) ≡ false
   groups-lack x = whole ∙ and_left (has_all stated masks && has_all stated groups) (has_all stated inputs) (and_right (has_all stated masks) (has_all stated groups) x)
 
-  pub inputs-lack : has_all stated inputs ≡ false → has_all stated (flat_map (entry_facts n d) bs) ≡ false
+  pub inputs-lack : has_all stated inputs ≡ false → has_all stated (flat_map (entry_facts g n d) bs) ≡ false
   inputs-lack x = whole ∙ and_right (has_all stated masks && has_all stated groups) (has_all stated inputs) x
 
 -- ---- for the assets that exist, place by place

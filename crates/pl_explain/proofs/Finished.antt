@@ -20,18 +20,18 @@ use Rattle.pl_terms.specs.declared.node.Node.{Node}
 use Rattle.pl_terms.specs.Checked.{Parts, pipeline_of, IsChecked}
 use Rattle.pl_terms.specs.Nodes.{graph_of, number_of}
 use Rattle.pl_terms.specs.Uses.{is_used}
-use Rattle.pl_terms.proofs.Steady.{checked-steady}
 use Rattle.pl_cross.specs.Arrays.{HasTexts}
 use Rattle.pl_derivation.specs.declared.error.ExplainError.{ExplainError}
 use Rattle.pl_derivation.specs.declared.error.ExplainError.TheVariants.{Memory, TooLong}
 use Rattle.pl_derivation.specs.declared.line.Line.{Line}
 use Rattle.pl_derivation.specs.Listed.{line_of}
-use Rattle.pl_derivation.specs.Lines.Line.{SeenLine, ValueLine}
+use Rattle.pl_derivation.specs.Lines.Line.{SeenLine, ValueLine, SeenValueLine}
 use Rattle.pl_derivation.specs.Texts.{AreCells, AreWritable, IsWritable}
 use Rattle.pl_spec.proofs.Columns.{no_asset, sid-there}
 use Rattle.pl_spec.proofs.Each.{Each, each_front, each_back, each_of_map, each_at}
-use Rattle.pl_derivation.specs.Facts.{Fact, known_day, number_in, number_facts, premises}
-use Rattle.pl_derivation.specs.Facts.Fact.{Seen, TermValue}
+use Rattle.pl_derivation.specs.Facts.{Fact, known_day, number_in, number_facts, premises, value_fact}
+use Rattle.pl_derivation.specs.Facts.Fact.{Seen, TermValue, SeenValue}
+use Rattle.pl_world.specs.Views.{view_at}
 use Rattle.pl_derivation.specs.Laws as laws
 use Rattle.pl_derivation.specs.Right.{after_each, has_sid, is_fitting, seen_cells}
 use Rattle.pl_derivation.specs.Walks.{is_in, line_for, depth_of, derivation}
@@ -111,6 +111,13 @@ module _ (w : World) (c : Parts) where
       ap (λ y. ValueLine t a day y known) is ∙ ap (ValueLine t a day (number_in (world_of w) (pipeline_of c) (TermValue t a (pos d)))) since
       ∙ ap (λ o. ValueLine t a (unwrap_or o (pos 0)) (number_in (world_of w) (pipeline_of c) (TermValue t a (pos d))) (known_day (world_of w) (pipeline_of c) (TermValue t a (pos d)))) (sym at)
 
+  pub seen-line : (t a s d : ℕ) (own day x : ℤ) → slice_get w.sessions.now s ≡ Some own → slice_get w.sessions.now d ≡ Some day → x ≡ number_in (world_of w) (pipeline_of c) (SeenValue t a (pos s) (pos d))
+      → SeenValueLine t a own day x ≡ line_for (world_of w) (pipeline_of c) (SeenValue t a (pos s) (pos d))
+  seen-line t a s d own day x at_own at is =
+      let y : ℤ = number_in (world_of w) (pipeline_of c) (SeenValue t a (pos s) (pos d)) in
+      ap (λ y. SeenValueLine t a own day y) is ∙ ap (λ o. SeenValueLine t a own (unwrap_or o (pos 0)) y) (sym at)
+      ∙ ap (λ o. SeenValueLine t a (unwrap_or o (pos 0)) (unwrap_or (slice_get w.sessions.now d) (pos 0)) y) (sym at_own)
+
   pub bar-line : (k : Column) (a s d : ℕ) (bar_day day : ℤ) (cells : List ℤ) → slice_get w.sessions.now s ≡ Some bar_day → slice_get w.sessions.now d ≡ Some day
       → cells ≡ seen_cells (world_of w) a k (pos s) (pos d) → SeenLine k a bar_day day cells ≡ line_for (world_of w) (pipeline_of c) (Seen k a (pos s) (pos d))
   bar-line k a s d bar_day day cells at_bar at is =
@@ -178,9 +185,9 @@ module _ (w : World) (c : Parts) (most : ℕ) (f : Fact) (old mid new : Walk) (f
     }
 
 -- where there is no room for its premises
-module _ (w : World) (c : Parts) (t a d : ℕ) (old : Walk) (fresh : has old.stated (TermValue t a (pos d)) ≡ false) where
-  pub own-long : IsTooLong w c (t + 1) old (own_of w c (TermValue t a (pos d))) → IsTooLong w c (t + 2) old (TermValue t a (pos d) ∷ [])
-  own-long long = deeper-long w c (suc (t + 1)) (t + 2) old (TermValue t a (pos d) ∷ []) (omega arith) (long-first w c (t + 1) (TermValue t a (pos d)) old fresh long)
+module _ (w : World) (c : Parts) (t : ℕ) (f : Fact) (old : Walk) (fresh : has old.stated f ≡ false) where
+  pub own-long : IsTooLong w c (t + 1) old (own_of w c f) → IsTooLong w c (t + 2) old (f ∷ [])
+  own-long long = deeper-long w c (suc (t + 1)) (t + 2) old (f ∷ []) (omega arith) (long-first w c (t + 1) f old fresh long)
 
 -- ---- premises
 
@@ -188,21 +195,21 @@ module _ (w : World) (c : Parts) (t a d : ℕ) (old : Walk) (fresh : has old.sta
 pub mask-is : (m : Option TermId) (s sid a : ℕ) (xs ys : List code.Fact) → xs ≡ ys → map fact_of ys ≡ number_facts sid (pos s) (option_map number_of m) → sid ≡ a → map fact_of xs ≡ number_facts a (pos s) (option_map number_of m)
 mask-is m s sid a xs ys e h same = ap (map fact_of) e ∙ h ∙ ap (λ b. number_facts b (pos s) (option_map number_of m)) same
 
-module _ {w : World} {c : Parts} {old : Walk} (from : HoldsSoFar w c old) (t : ℕ) (n : Node) (is : slice_get c.graph t ≡ Some n) (a s : ℕ) (there : exists (world_of w) a (pos s) ≡ true)
+module _ {w : World} {c : Parts} {old : Walk} (from : HoldsSoFar w c old) (t : ℕ) (n : Node) (is : slice_get c.graph t ≡ Some n) (a s : ℕ) (view : Option ℕ) (there : exists (world_of w) a (pos s) ≡ true)
     (read : List Fact) (same : read ≡ number_facts a (pos s) (option_map number_of n.mask)) where
   abbrev own : List Fact
-  own = own_facts w c t a s
+  own = own_facts w c t a s view
 
   front : (rest : List Fact) × (own ≡ read ++ rest)
   front =
-      let f = premises-front w c from.table.ready.checked t n is a s from.table.ready.texts there in
+      let f = premises-front w c from.table.ready.checked t n is a s view from.table.ready.texts there in
       (f.0, f.1 ∙ ap (λ l. l ++ f.0) (sym same))
 
-  kept : mask_passes w c n.mask a s ≡ true → own ≡ read ++ facts_read w c t a s
-  kept passed = premises-masked w c from.table.ready.checked t n is a s from.table.ready.texts there true passed ∙ ap (λ l. l ++ facts_read w c t a s) (sym same)
+  kept : mask_passes w c n.mask a s ≡ true → own ≡ read ++ facts_read w c t a s view
+  kept passed = premises-masked w c from.table.ready.checked t n is a s view from.table.ready.texts there true passed ∙ ap (λ l. l ++ facts_read w c t a s view) (sym same)
 
-  pub mask-stands : MayBeDerived w c (TermValue t a (pos s)) → Each (CanBeDerivedWithin w c (t + 1)) read
-  mask-stands h = each_front (CanBeDerivedWithin w c (t + 1)) read front.0 (subst (λ fs. Each (CanBeDerivedWithin w c (t + 1)) fs) front.1 (premises-stand w c from.table.ready.checked t a s h))
+  pub mask-stands : MayBeDerived w c (value_fact t a (pos s) (view_at view)) → Each (CanBeDerivedWithin w c (t + 1)) read
+  mask-stands h = each_front (CanBeDerivedWithin w c (t + 1)) read front.0 (subst (λ fs. Each (CanBeDerivedWithin w c (t + 1)) fs) front.1 (premises-stand w c from.table.ready.checked t a s view h))
 
   pub mask-long : IsTooLong w c (t + 1) old read → IsTooLong w c (t + 1) old own
   mask-long long = subst (λ fs. IsTooLong w c (t + 1) old fs) (sym front.1) (long-front w c (t + 1) old read front.0 long)
@@ -217,26 +224,26 @@ module _ {w : World} {c : Parts} {old : Walk} (from : HoldsSoFar w c old) (t : �
     pub mask-known : o ≡ None → ⊥
     mask-known e = let bad : None ≡ Some (mask_passes w c n.mask a s) = sym e ∙ known in cc
 
-    pub facts-stand : o ≡ Some true → MayBeDerived w c (TermValue t a (pos s)) → Each (CanBeDerivedWithin w c (t + 1)) (facts_read w c t a s)
+    pub facts-stand : o ≡ Some true → MayBeDerived w c (value_fact t a (pos s) (view_at view)) → Each (CanBeDerivedWithin w c (t + 1)) (facts_read w c t a s view)
     facts-stand e h =
-        each_back (CanBeDerivedWithin w c (t + 1)) read (facts_read w c t a s)
-        (subst (λ fs. Each (CanBeDerivedWithin w c (t + 1)) fs) (kept (passed true e)) (premises-stand w c from.table.ready.checked t a s h))
+        each_back (CanBeDerivedWithin w c (t + 1)) read (facts_read w c t a s view)
+        (subst (λ fs. Each (CanBeDerivedWithin w c (t + 1)) fs) (kept (passed true e)) (premises-stand w c from.table.ready.checked t a s view h))
 
     pub stopped-finished : o ≡ Some false → Finishes w c (t + 1) old mid own
     stopped-finished e =
-        let barred = premises-masked w c from.table.ready.checked t n is a s from.table.ready.texts there false (passed false e) in
+        let barred = premises-masked w c from.table.ready.checked t n is a s view from.table.ready.texts there false (passed false e) in
         subst (λ fs. Finishes w c (t + 1) old mid fs) (sym (barred ∙ ap (λ l. l ++ []) (sym same) ∙ append-nil read)) first
 
-    pub passed-walked : o ≡ Some true → {T : Type 0} (new : Walk) (r : Result T ExplainError) → IsWalkTo w c (t + 1) (facts_read w c t a s) mid new r → IsWalkTo w c (t + 1) own old new r
+    pub passed-walked : o ≡ Some true → {T : Type 0} (new : Walk) (r : Result T ExplainError) → IsWalkTo w c (t + 1) (facts_read w c t a s view) mid new r → IsWalkTo w c (t + 1) own old new r
     passed-walked e new (Ok u) h = record {
       stands = h.stands;
-      finished = subst (λ fs. Finishes w c (t + 1) old new fs) (sym (kept (passed true e))) (walk-both w c (t + 1) old mid new read (facts_read w c t a s) first h.finished);
+      finished = subst (λ fs. Finishes w c (t + 1) old new fs) (sym (kept (passed true e))) (walk-both w c (t + 1) old mid new read (facts_read w c t a s view) first h.finished);
       long = tt;
     }
     passed-walked e new (Err x) h = record {
       stands = tt;
       finished = tt;
-      long = λ i. subst (λ fs. IsTooLong w c (t + 1) old fs) (sym (kept (passed true e))) (long-back w c (t + 1) old mid read (facts_read w c t a s) first (h.long i));
+      long = λ i. subst (λ fs. IsTooLong w c (t + 1) old fs) (sym (kept (passed true e))) (long-back w c (t + 1) old mid read (facts_read w c t a s view) first (h.long i));
     }
 
 -- ---- the value that is asked for
@@ -256,7 +263,7 @@ module _ (w : World) (c : Parts) (t col d : ℕ) (used : is_used (pipeline_of c)
   pub asked-right : IsChecked (pipeline_of c) → HasTexts (world_of w) → PartsMakeAWorld w
       → laws.IsDerivation (world_of w) (pipeline_of c) t (sid_at w.assets.now col) d (derivation (world_of w) (pipeline_of c) t (sid_at w.assets.now col) (pos d))
   asked-right checked known made =
-      complete (world_of w) (pipeline_of c) made.world known checked.graph (checked-steady (pipeline_of c) checked) (sessions-held c checked) t (sid_at w.assets.now col) d
+      complete (world_of w) (pipeline_of c) made.world known checked.graph (sessions-held c checked) t (sid_at w.assets.now col) d
       (record { used = used; known = sid-known w.assets.now col place; day = get_or w.sessions.now d (pos 0); session = day; reached = reached })
 
   pub asked-lean : IsChecked (pipeline_of c) → HasTexts (world_of w) → PartsMakeAWorld w
@@ -264,5 +271,5 @@ module _ (w : World) (c : Parts) (t col d : ℕ) (used : is_used (pipeline_of c)
   asked-lean checked known made =
       let asked : laws.IsAsked (world_of w) (pipeline_of c) t (sid_at w.assets.now col) d
       = record { used = used; known = sid-known w.assets.now col place; day = get_or w.sessions.now d (pos 0); session = day; reached = reached } in
-      let facts = walked (world_of w) (pipeline_of c) made.world known checked.graph (checked-steady (pipeline_of c) checked) (sessions-held c checked) t (sid_at w.assets.now col) d asked in
+      let facts = walked (world_of w) (pipeline_of c) made.world known checked.graph (sessions-held c checked) t (sid_at w.assets.now col) d asked in
       walk_is_lean (world_of w) (pipeline_of c) (suc t) (TermValue t (sid_at w.assets.now col) (pos d)) facts.0 facts.1 (asked-right checked known made).once

@@ -9,12 +9,11 @@ use Rattle.std.proofs.lemmas.List.Folds.{list_any-append}
 use Rattle.pl_spec.specs.Rounding.{IsCell}
 use Rattle.pl_spec.specs.World.{World as SpecWorld}
 use Rattle.pl_pipeline.specs.Term.{IsGraph}
-use Rattle.pl_pipeline.specs.NodeValue.{AllReadSteady}
 use Rattle.pl_pipeline.specs.Table.{Pipeline}
 use Rattle.pl_cross.specs.Arrays.{HasTexts}
 use Rattle.pl_derivation.specs.Lines.{Line}
 use Rattle.pl_derivation.specs.Facts.{Fact, same_fact, number_in, premises}
-use Rattle.pl_derivation.specs.Facts.Fact.{Seen, TermValue}
+use Rattle.pl_derivation.specs.Facts.Fact.{Seen, TermValue, SeenValue}
 use Rattle.pl_derivation.specs.Right.{fact_of, is_stated, is_about, is_fitting, is_right, first_wrong}
 use Rattle.pl_derivation.specs.Laws.{states_world}
 use Rattle.pl_derivation.proofs.Truths.{same_is, same_turned}
@@ -30,22 +29,23 @@ use Rattle.pl_explain.specs.Judging.{judged_about, judged, IsJudgement, IsTable,
 
 -- ---- judging
 
-module _ (w : SpecWorld) (p : Pipeline) (known : HasTexts w) (ok : IsGraph p.graph) (steady : AllReadSteady p.graph) (stated : FactNumbers) (lines : List Line) (none : first_wrong w p lines ≡ None)
+module _ (w : SpecWorld) (p : Pipeline) (known : HasTexts w) (ok : IsGraph p.graph) (stated : FactNumbers) (lines : List Line) (none : first_wrong w p lines ≡ None)
     (same : (f : Fact) → has stated f ≡ is_stated w lines f) where
   all-same : (fs : List Fact) → has_all stated fs ≡ list_all (is_stated w lines) fs
   all-same fs = ap (λ h. list_all h fs) (fun_ext same)
 
   anew : (l : Line) (f : Fact) → fact_of w l ≡ Some f → is_right w p lines l ≡ (is_fitting w p f && has_all stated (premises w p (number_in w p) f) && states_world w p l f)
-  anew l f e = right_is w p known ok steady lines none l f e ∙ ap (λ b. is_fitting w p f && b && states_world w p l f) (sym (all-same (premises w p (number_in w p) f)))
+  anew l f e = right_is w p known ok lines none l f e ∙ ap (λ b. is_fitting w p f && b && states_world w p l f) (sym (all-same (premises w p (number_in w p) f)))
 
   about : (l : Line) (f : Fact) → fact_of w l ≡ Some f → judged_about w p stated l (Some f) ≡ is_right w p lines l
   about l (Seen c a s d) e = sym (anew l (Seen c a s d) e)
+  about l (SeenValue t a s d) e = sym (anew l (SeenValue t a s d) e)
   about l (TermValue t a d) e = here (has stated (TermValue t a d)) refl
     where
       here : (b : Bool) → has stated (TermValue t a d) ≡ b
           → (if b then states_world w p l (TermValue t a d)
           else is_fitting w p (TermValue t a d) && has_all stated (premises w p (number_in w p) (TermValue t a d)) && states_world w p l (TermValue t a d)) ≡ is_right w p lines l
-      here true i = sym (repeat_is w p known ok steady lines none l (TermValue t a d) e (sym (same (TermValue t a d)) ∙ i))
+      here true i = sym (repeat_is w p known ok lines none l (TermValue t a d) e (sym (same (TermValue t a d)) ∙ i))
       here false i = sym (anew l (TermValue t a d) e)
 
   pub judged-right : (l : Line) → judged w p stated l ≡ is_right w p lines l

@@ -9,6 +9,8 @@ use Rattle.pl_spec.specs.World.{living_sids}
 use Rattle.pl_terms.specs.declared.node.Input.TheVariants as input
 use Rattle.pl_terms.specs.declared.node.Node.{Node}
 use Rattle.pl_terms.specs.declared.node.TermId.{TermId}
+use Rattle.pl_pipeline.specs.Value.{Own}
+use Rattle.pl_terms.specs.Checked.{pipeline_of}
 use Rattle.pl_terms.specs.Kinds.{kind_of}
 use Rattle.pl_terms.specs.Nodes.{input_of, node_of, number_of}
 use Rattle.pl_cross.specs.Section.{is_section}
@@ -31,7 +33,7 @@ use Rattle.pl_explain.proofs.Values.{section-alone}
 
 -- what each asset that exists has to tell of a node
 abbrev pub entries : Basis → ℕ → Node → List Fact
-entries b s n = flat_map (entry_facts (node_of n) (pos s)) (living_sids (world_of b.world) (pos s))
+entries b s n = flat_map (entry_facts (pipeline_of b.checked.now).graph (node_of n) (pos s)) (living_sids (world_of b.world) (pos s))
 
 module _ {b : Basis} {s : ℕ} (on : IsAskedOn b s) (t : ℕ) (n : Node) (is : slice_get b.checked.now.graph t ≡ Some n) where
   abbrev bs : List ℕ
@@ -53,20 +55,20 @@ module _ {b : Basis} {s : ℕ} (on : IsAskedOn b s) (t : ℕ) (n : Node) (is : s
 
   pub no-masks : OptionalRow n.mask None → (m : Node) → slice_get b.checked.now.graph t ≡ Some m → has_all b.stated.now (entries b s m) ≡ false
   unfolding node_of
-  no-masks h = lacks (masks-lack b.stated.now (node_of n) (pos s) bs (lacked b.stated.now None h refl))
+  no-masks h = lacks (masks-lack b.stated.now (pipeline_of b.checked.now).graph (node_of n) (pos s) bs (lacked b.stated.now None h refl))
 
   pub no-groups : OptionalRow n.group None → (m : Node) → slice_get b.checked.now.graph t ≡ Some m → has_all b.stated.now (entries b s m) ≡ false
   unfolding node_of
-  no-groups h = lacks (groups-lack b.stated.now (node_of n) (pos s) bs (lacked b.stated.now None h refl))
+  no-groups h = lacks (groups-lack b.stated.now (pipeline_of b.checked.now).graph (node_of n) (pos s) bs (lacked b.stated.now None h refl))
 
   module _ (kind : is_section (kind_of n.kind) ≡ true) (u : TermId) (own : slice_get n.inputs 0 ≡ Some (input.Term u)) where
-    reads : flat_map (λ a. over_inputs (facts_now a (pos s)) (node_of n)) bs ≡ map (λ a. TermValue u.0 a (pos s)) bs
+    reads : flat_map (λ a. over_inputs (facts_now (pipeline_of b.checked.now).graph Own a (pos s)) (node_of n)) bs ≡ map (λ a. TermValue u.0 a (pos s)) bs
     reads =
-        let none = section-alone b.world b.checked.now on.ready.checked t n is 0 0 kind in
-        input-facts (node_of n) u.0 (pos s) (inputs-at n 0 ∙ ap (option_map input_of) own) none.0 none.1 bs
+        let none = section-alone b.world b.checked.now on.ready.checked t n is 0 0 None kind in
+        input-facts (pipeline_of b.checked.now).graph (node_of n) u.0 (pos s) (inputs-at n 0 ∙ ap (option_map input_of) own) none.0 none.1 bs
 
     pub no-values : Row u None → (m : Node) → slice_get b.checked.now.graph t ≡ Some m → has_all b.stated.now (entries b s m) ≡ false
-    no-values h = lacks (inputs-lack b.stated.now (node_of n) (pos s) bs (ap (has_all b.stated.now) reads ∙ lacked b.stated.now None h refl))
+    no-values h = lacks (inputs-lack b.stated.now (pipeline_of b.checked.now).graph (node_of n) (pos s) bs (ap (has_all b.stated.now) reads ∙ lacked b.stated.now None h refl))
 
     module _ (xs : List ℤ) (ms gs : Option (List ℤ)) (x : Row u (Some xs)) (y : OptionalRow n.mask (Some ms)) (z : OptionalRow n.group (Some gs)) where
       pub are-rows : AreRowsOf b.world b.checked.now t s xs ms gs
@@ -85,7 +87,7 @@ module _ {b : Basis} {s : ℕ} (on : IsAskedOn b s) (t : ℕ) (n : Node) (is : s
 
       pub row-stands : (m : Node) → slice_get b.checked.now.graph t ≡ Some m → has_all b.stated.now (entries b s m) ≡ true
       unfolding node_of
-      row-stands = one-node (λ m. has_all b.stated.now (entries b s m) ≡ true) (entries-stated b.stated.now (node_of n) (pos s) bs (got b.stated.now (Some ms) ms y refl).0
+      row-stands = one-node (λ m. has_all b.stated.now (entries b s m) ≡ true) (entries-stated b.stated.now (pipeline_of b.checked.now).graph (node_of n) (pos s) bs (got b.stated.now (Some ms) ms y refl).0
           (got b.stated.now (Some gs) gs z refl).0 (ap (has_all b.stated.now) reads ∙ (got b.stated.now (Some xs) xs x refl).0))
 
 -- ---- a cell of a row

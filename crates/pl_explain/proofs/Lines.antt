@@ -1,5 +1,5 @@
 -- What is judged of a line of a bar, and of one of a value.
-use Rattle.std.proofs.Common.{◌≡◌, ℕ, ◌<◌, ◌≤◌, Bool, true, false, ◌&&◌, if◌then◌else◌, ℤ, pos, List, Option, Some, None, option_map, refl, sym, ◌∙◌, ap, subst, arith, [], ◌∷◌, suc, fold, All, inl}
+use Rattle.std.proofs.Common.{◌≡◌, ℕ, ◌<◌, ◌≤◌, Bool, true, false, not, ◌&&◌, if◌then◌else◌, ℤ, pos, List, Option, Some, None, option_map, refl, sym, ◌∙◌, ap, subst, arith, [], ◌∷◌, suc, fold, All, inl}
 use Rattle.std.specs.Option.{option_and_then, option_eq}
 use Rattle.std.specs.Ordering.{int_eq}
 use Rattle.std.specs.Int.RustNames.{int_lt}
@@ -12,16 +12,19 @@ use Rattle.pl_spec.specs.Rounding.{IsCell, MISSING}
 use Rattle.pl_spec.specs.declared.Column.{Column}
 use Rattle.pl_spec.specs.World.{World as SpecWorld}
 use Rattle.pl_pipeline.specs.Table.{Pipeline}
+use Rattle.pl_pipeline.specs.Term.{term_at}
+use Rattle.pl_pipeline.specs.Value.{is_steady}
 use Rattle.pl_terms.specs.Checked.{Parts, pipeline_of}
 use Rattle.pl_terms.specs.Uses.{is_used}
 use Rattle.pl_derivation.specs.Lines.{Line}
-use Rattle.pl_derivation.specs.Lines.Line.{SeenLine, ValueLine}
-use Rattle.pl_derivation.specs.Facts.{known_day, number_in}
-use Rattle.pl_derivation.specs.Facts.Fact.{Seen, TermValue}
+use Rattle.pl_derivation.specs.Lines.Line.{SeenLine, ValueLine, SeenValueLine}
+use Rattle.pl_derivation.specs.Facts.{Fact, known_day, number_in}
+use Rattle.pl_derivation.specs.Facts.Fact.{Seen, TermValue, SeenValue}
 use Rattle.pl_derivation.specs.Right.{session_of, fact_of, has_sid, is_fitting, seen_cells, last_cell}
 use Rattle.pl_world.specs.declared.world.World.{World}
 use Rattle.pl_world.specs.Worlds.{world_of}
-use Rattle.pl_world.specs.Evaluations.{cell_in}
+use Rattle.pl_world.specs.Views.{seen_in}
+use Rattle.pl_world.proofs.Views.{own-cell}
 use Rattle.pl_explain.specs.declared.fact_numbers.FactNumbers.{FactNumbers}
 use Rattle.pl_explain.specs.declared.rows.Rows.{Rows}
 use Rattle.pl_explain.specs.Looking.{look, IsInsertionOf}
@@ -35,6 +38,22 @@ less-not s d h = grind (arith, ints)
 
 less-is : (s d : ℕ) → s < d → int_lt (pos s) (pos d) ≡ true
 less-is s d h = grind (arith, ints)
+
+-- where one of four tests fails, all four do
+second-fails : (a b c d : Bool) → b ≡ false → (a && b && c && d) ≡ false
+second-fails true b c d e = rw e refl
+second-fails false b c d e = refl
+
+third-fails : (a b c d : Bool) → c ≡ false → (a && b && c && d) ≡ false
+third-fails true true c d e = rw e refl
+third-fails true false c d e = refl
+third-fails false b c d e = refl
+
+fourth-fails : (a b c d : Bool) → d ≡ false → (a && b && c && d) ≡ false
+fourth-fails true true true d e = e
+fourth-fails true true false d e = refl
+fourth-fails true false c d e = refl
+fourth-fails false b c d e = refl
 
 module _ {w : World} {c : Parts} {stated : FactNumbers} {rows : Rows} (table : IsTable w c stated rows) where
   abbrev v : SpecWorld
@@ -114,7 +133,7 @@ module _ {w : World} {c : Parts} {stated : FactNumbers} {rows : Rows} (table : I
     unfit e = not-right w c value stated rows table (here (session_of v day))
       where
         there : (d : ℕ) (b : Bool) → has stated (TermValue t sid (pos d)) ≡ b
-            → false ≡ (if b then states_both d else is_fitting v p (TermValue t sid (pos d)) && has_all stated (own_facts w c t sid d) && states_both d)
+            → false ≡ (if b then states_both d else is_fitting v p (TermValue t sid (pos d)) && has_all stated (own_facts w c t sid d None) && states_both d)
         there d true h = absurd (true≢false (sym (table.fits (TermValue t sid (pos d)) h) ∙ e))
         there d false h = rw e refl
 
@@ -138,9 +157,9 @@ module _ {w : World} {c : Parts} {stated : FactNumbers} {rows : Rows} (table : I
 
       -- what the judgement computes to, where the fact is stated already and where not
       judged-as : (b : Bool) → has stated (TermValue t sid (pos d)) ≡ b
-          → judged v p stated value ≡ (if b then states_both d else is_fitting v p (TermValue t sid (pos d)) && has_all stated (own_facts w c t sid d) && states_both d)
+          → judged v p stated value ≡ (if b then states_both d else is_fitting v p (TermValue t sid (pos d)) && has_all stated (own_facts w c t sid d None) && states_both d)
       judged-as b h = ap (judged_about v p stated value) fact-is
-          ∙ ap (λ r. if r then states_both d else is_fitting v p (TermValue t sid (pos d)) && has_all stated (own_facts w c t sid d) && states_both d) h
+          ∙ ap (λ r. if r then states_both d else is_fitting v p (TermValue t sid (pos d)) && has_all stated (own_facts w c t sid d None) && states_both d) h
 
       -- the day of the record of that term and that asset
       own-day : a ≡ sid → (b : Bool) → b ≡ option_eq int_eq known (known_day v p (TermValue u a (pos d))) → states_day d ≡ b
@@ -153,10 +172,10 @@ module _ {w : World} {c : Parts} {stated : FactNumbers} {rows : Rows} (table : I
           none : states_both d ≡ false
           none = ap (λ b. int_eq x (number_in v p (TermValue t sid (pos d))) && b) (own-day place false e) ∙ and-false (int_eq x (number_in v p (TermValue t sid (pos d))))
 
-          here : (b : Bool) → (if b then states_both d else is_fitting v p (TermValue t sid (pos d)) && has_all stated (own_facts w c t sid d) && states_both d) ≡ false
+          here : (b : Bool) → (if b then states_both d else is_fitting v p (TermValue t sid (pos d)) && has_all stated (own_facts w c t sid d None) && states_both d) ≡ false
           here true = none
-          here false = ap (λ b. is_fitting v p (TermValue t sid (pos d)) && has_all stated (own_facts w c t sid d) && b) none
-              ∙ and-false (is_fitting v p (TermValue t sid (pos d)) && has_all stated (own_facts w c t sid d))
+          here false = ap (λ b. is_fitting v p (TermValue t sid (pos d)) && has_all stated (own_facts w c t sid d None) && b) none
+              ∙ and-false (is_fitting v p (TermValue t sid (pos d)) && has_all stated (own_facts w c t sid d None))
 
       -- the record's own day
       module _ (place : a ≡ sid) (since : true ≡ option_eq int_eq known (known_day v p (TermValue u a (pos d)))) where
@@ -177,23 +196,23 @@ module _ {w : World} {c : Parts} {stated : FactNumbers} {rows : Rows} (table : I
           fits : is_fitting v p (TermValue t sid (pos d)) ≡ true
           fits = and_from (has_sid v sid) (is_used p t) known_sid used
 
-          judged-anew : judged v p stated value ≡ (has_all stated (own_facts w c u a d) && int_eq x (number_in v p (TermValue t sid (pos d))))
+          judged-anew : judged v p stated value ≡ (has_all stated (own_facts w c u a d None) && int_eq x (number_in v p (TermValue t sid (pos d))))
           judged-anew =
               let none : look stated (TermValue t sid (pos d)) ≡ None = ap (λ t. look stated (TermValue t sid (pos d))) (sym term) ∙ fresh in
               judged-as false (has-none stated (TermValue t sid (pos d)) none)
-              ∙ ap (λ r. is_fitting v p (TermValue t sid (pos d)) && has_all stated (own_facts w c t sid d) && r) number-alone
-              ∙ ap (λ r. r && has_all stated (own_facts w c t sid d) && int_eq x (number_in v p (TermValue t sid (pos d)))) fits
-              ∙ ap (λ a. has_all stated (own_facts w c t a d) && int_eq x (number_in v p (TermValue t sid (pos d)))) (sym place)
-              ∙ ap (λ t'. has_all stated (own_facts w c t' a d) && int_eq x (number_in v p (TermValue t sid (pos d)))) (sym term)
+              ∙ ap (λ r. is_fitting v p (TermValue t sid (pos d)) && has_all stated (own_facts w c t sid d None) && r) number-alone
+              ∙ ap (λ r. r && has_all stated (own_facts w c t sid d None) && int_eq x (number_in v p (TermValue t sid (pos d)))) fits
+              ∙ ap (λ a. has_all stated (own_facts w c t a d None) && int_eq x (number_in v p (TermValue t sid (pos d)))) (sym place)
+              ∙ ap (λ t'. has_all stated (own_facts w c t' a d None) && int_eq x (number_in v p (TermValue t sid (pos d)))) (sym term)
 
           -- one of its premises is not stated
-          pub value-lacks : IsGiven IsCell stated (own_facts w c u a d) (cell_in w c u a d) None → IsJudgement w c value stated stated after false
+          pub value-lacks : IsGiven IsCell stated (own_facts w c u a d None) (seen_in w c u None a d) None → IsJudgement w c value stated stated after false
           value-lacks h = not-right w c value stated after (other-rows w c stated rows after table kept)
               (sym (judged-anew ∙ ap (λ r. r && int_eq x (number_in v p (TermValue t sid (pos d)))) (lacked stated None h refl)))
 
-          module _ (y : ℤ) (h : IsGiven IsCell stated (own_facts w c u a d) (cell_in w c u a d) (Some y)) where
+          module _ (y : ℤ) (h : IsGiven IsCell stated (own_facts w c u a d None) (seen_in w c u None a d) (Some y)) where
             is : y ≡ number_in v p (TermValue t sid (pos d))
-            is = (got stated (Some y) y h refl).1 ∙ ap (λ t. number_in v p (TermValue t a (pos d))) term ∙ ap (λ a. number_in v p (TermValue t a (pos d))) place
+            is = (got stated (Some y) y h refl).1 ∙ own-cell w c u a d ∙ ap (λ t. number_in v p (TermValue t a (pos d))) term ∙ ap (λ a. number_in v p (TermValue t a (pos d))) place
 
             exact-as : (b : Bool) → b ≡ int_eq x y → b ≡ judged v p stated value
             exact-as b e = e ∙ ap (int_eq x) is ∙ sym (judged-anew ∙ ap (λ r. r && int_eq x (number_in v p (TermValue t sid (pos d)))) (got stated (Some y) y h refl).0)
@@ -209,6 +228,96 @@ module _ {w : World} {c : Parts} {stated : FactNumbers} {rows : Rows} (table : I
                   table = table-more (TermValue t sid (pos d)) x stated new own w c after (other-rows w c stated rows after table kept) ((Decides-int_eq x y).0 (sym e) ∙ is) cell fits;
                   stated = λ _. states-line (TermValue t sid (pos d)) x stated new own v value fact-is;
                 }
+
+  -- ---- a value as it is seen from a later session
+
+  module _ (t sid : ℕ) (own day x : ℤ) where
+    abbrev told : Line
+    told = SeenValueLine t sid own day x
+
+    -- a fact that fits nowhere
+    told-unfit : ((s d : ℕ) → is_fitting v p (SeenValue t sid (pos s) (pos d)) ≡ false) → IsJudgement w c told stated stated rows false
+    told-unfit e = not-right w c told stated rows table (here (session_of v own) (session_of v day))
+      where
+        here : (o q : Option ℕ) → false ≡ judged_about v p stated told (option_and_then (λ s. option_map (λ d. SeenValue t sid (pos s) (pos d)) q) o)
+        here None q = refl
+        here (Some s) None = refl
+        here (Some s) (Some d) = rw (e s d) refl
+
+    pub told-unknown : has_sid v sid ≡ false → IsJudgement w c told stated stated rows false
+    told-unknown e = told-unfit (λ s d. rw e refl)
+
+    pub told-unused : is_used p t ≡ false → IsJudgement w c told stated stated rows false
+    told-unused e = told-unfit (λ s d. second-fails (has_sid v sid) (is_used p t) (not (is_steady (term_at p.graph t))) (int_lt (pos s) (pos d)) e)
+
+    -- the value of a steady term is told on its own session alone
+    pub told-steady : (u : ℕ) → u ≡ t → is_steady (term_at p.graph u) ≡ true → IsJudgement w c told stated stated rows false
+    told-steady u term e =
+        let stays : not (is_steady (term_at p.graph t)) ≡ false = ap (λ u. not (is_steady (term_at p.graph u))) (sym term) ∙ ap not e in
+        told-unfit (λ s d. third-fails (has_sid v sid) (is_used p t) (not (is_steady (term_at p.graph t))) (int_lt (pos s) (pos d)) stays)
+
+    pub told-no-session : session_of v own ≡ None → IsJudgement w c told stated stated rows false
+    told-no-session e = not-right w c told stated rows table (rw e refl)
+
+    pub told-no-day : session_of v day ≡ None → IsJudgement w c told stated stated rows false
+    told-no-day e = not-right w c told stated rows table (here (session_of v own))
+      where
+        here : (o : Option ℕ) → false ≡ judged_about v p stated told (option_and_then (λ s. option_map (λ d. SeenValue t sid (pos s) (pos d)) (session_of v day)) o)
+        here None = refl
+        here (Some s) = rw e refl
+
+    module _ (s d : ℕ) (own_is : session_of v own ≡ Some s) (day_is : session_of v day ≡ Some d) where
+      abbrev fact : Fact
+      fact = SeenValue t sid (pos s) (pos d)
+
+      told-fact : fact_of v told ≡ Some fact
+      told-fact = rw (own_is, day_is) refl
+
+      judged-so : judged v p stated told ≡ (is_fitting v p fact && has_all stated (own_facts w c t sid s (Some d)) && int_eq x (number_in v p fact))
+      judged-so = ap (judged_about v p stated told) told-fact
+
+      pub told-late : d ≤ s → IsJudgement w c told stated stated rows false
+      told-late l =
+          let none : is_fitting v p fact ≡ false = fourth-fails (has_sid v sid) (is_used p t) (not (is_steady (term_at p.graph t))) (int_lt (pos s) (pos d)) (less-not s d l) in
+          not-right w c told stated rows table (sym (judged-so ∙ ap (λ b. b && has_all stated (own_facts w c t sid s (Some d)) && int_eq x (number_in v p fact)) none))
+
+      module _ (u a : ℕ) (term : u ≡ t) (place : a ≡ sid) (known : has_sid v sid ≡ true) (used : is_used p t ≡ true) (moves : is_steady (term_at p.graph u) ≡ false) (early : s < d)
+          (after : Rows) (kept : KeepsRows w c stated after) where
+        told-fits : is_fitting v p fact ≡ true
+        told-fits =
+            let moving : not (is_steady (term_at p.graph t)) ≡ true = ap (λ u. not (is_steady (term_at p.graph u))) (sym term) ∙ ap not moves in
+            rw (known, used, moving, less-is s d early) refl
+
+        judged-told : judged v p stated told ≡ (has_all stated (own_facts w c u a s (Some d)) && int_eq x (number_in v p fact))
+        judged-told =
+            judged-so
+            ∙ ap (λ r. r && has_all stated (own_facts w c t sid s (Some d)) && int_eq x (number_in v p fact)) told-fits
+            ∙ ap (λ a. has_all stated (own_facts w c t a s (Some d)) && int_eq x (number_in v p fact)) (sym place)
+            ∙ ap (λ t. has_all stated (own_facts w c t a s (Some d)) && int_eq x (number_in v p fact)) (sym term)
+
+        -- one of its premises is not stated
+        pub told-lacks : IsGiven IsCell stated (own_facts w c u a s (Some d)) (seen_in w c u (Some d) a s) None → IsJudgement w c told stated stated after false
+        told-lacks h = not-right w c told stated after (other-rows w c stated rows after table kept)
+            (sym (judged-told ∙ ap (λ r. r && int_eq x (number_in v p fact)) (lacked stated None h refl)))
+
+        module _ (y : ℤ) (h : IsGiven IsCell stated (own_facts w c u a s (Some d)) (seen_in w c u (Some d) a s) (Some y)) where
+          told-is : y ≡ number_in v p fact
+          told-is = (got stated (Some y) y h refl).1 ∙ ap (λ t. number_in v p (SeenValue t a (pos s) (pos d))) term ∙ ap (λ a. number_in v p (SeenValue t a (pos s) (pos d))) place
+
+          told-as : (b : Bool) → b ≡ int_eq x y → b ≡ judged v p stated told
+          told-as b e = e ∙ ap (int_eq x) told-is ∙ sym (judged-told ∙ ap (λ r. r && int_eq x (number_in v p fact)) (got stated (Some y) y h refl).0)
+
+          pub told-other : false ≡ int_eq x y → IsJudgement w c told stated stated after false
+          told-other e = not-right w c told stated after (other-rows w c stated rows after table kept) (told-as false e)
+
+          pub told-right : true ≡ int_eq x y → IsCell x → (new : FactNumbers) → IsInsertionOf (SeenValue u sid (pos s) (pos d)) x stated new → IsJudgement w c told stated new after true
+          told-right e cell new states =
+              let own : IsInsertionOf fact x stated new = subst (λ t. IsInsertionOf (SeenValue t sid (pos s) (pos d)) x stated new) term states in
+              record {
+                exact = told-as true e;
+                table = table-more fact x stated new own w c after (other-rows w c stated rows after table kept) ((Decides-int_eq x y).0 (sym e) ∙ told-is) cell told-fits;
+                stated = λ _. states-line fact x stated new own v told told-fact;
+              }
 
 last-from : (z : ℤ) → IsCell z → (xs : List ℤ) → All IsCell xs → IsCell (fold (λ x y. y) z xs)
 last-from z h [] all = h

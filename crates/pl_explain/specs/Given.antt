@@ -18,7 +18,8 @@ use Rattle.pl_lifetimes.specs.Assets.{AreAssets}
 use Rattle.pl_world.specs.declared.world.World.{World}
 use Rattle.pl_world.specs.Worlds.{world_of, IsMade}
 use Rattle.pl_world.specs.Evaluations.{row_in, as_input, cell_in, input_cell_in, lets_pass, IsKept}
-use Rattle.pl_derivation.specs.Facts.{Fact, number_in, entry_facts, kind_facts, premises}
+use Rattle.pl_world.specs.Views.{view_at, seen_in}
+use Rattle.pl_derivation.specs.Facts.{Fact, number_in, entry_facts, kind_facts, value_facts}
 use Rattle.pl_derivation.specs.Facts.Fact.{TermValue}
 use Rattle.pl_explain.specs.declared.basis.Basis.{Basis}
 use Rattle.pl_explain.specs.declared.fact_numbers.FactNumbers.{FactNumbers}
@@ -84,18 +85,26 @@ pub record IsKeptAt (b : Basis) (t col s : ℕ) : Type 0 where
 abbrev pub value_in : Basis → ℕ → ℕ → ℕ → ℤ
 value_in b t col s = cell_in b.world b.checked.now t (sid_in b col) s
 
+-- the same as it is seen from a later session, where it is from one
+abbrev pub seen_value_in : Basis → ℕ → ℕ → ℕ → Option ℕ → ℤ
+seen_value_in b t col s view = seen_in b.world b.checked.now t view (sid_in b col) s
+
 -- ---- facts
 
--- what the kind of term t reads for asset a on session s
-abbrev pub facts_read : World → Parts → ℕ → ℕ → ℕ → List Fact
-facts_read w c t a s = unwrap_or (option_map (λ n. kind_facts (world_of w) (node_of n) (kind_of n.kind) a (pos s)) (slice_get c.graph t)) []
+-- what the kind of term t reads for asset a on session s, where it is seen from somewhere
+abbrev pub facts_read : World → Parts → ℕ → ℕ → ℕ → Option ℕ → List Fact
+facts_read w c t a s view =
+    unwrap_or (option_map (λ n. kind_facts (world_of w) (pipeline_of c).graph (node_of n) (kind_of n.kind) (view_at view) a (pos s)) (slice_get c.graph t)) []
+
+abbrev pub seen_facts_in : Basis → ℕ → ℕ → ℕ → Option ℕ → List Fact
+seen_facts_in b t col s view = facts_read b.world b.checked.now t (sid_in b col) s view
 
 abbrev pub facts_in : Basis → ℕ → ℕ → ℕ → List Fact
-facts_in b t col s = facts_read b.world b.checked.now t (sid_in b col) s
+facts_in b t col s = seen_facts_in b t col s None
 
 -- what the value of term t for asset a on session s rests on
-abbrev pub own_facts : World → Parts → ℕ → ℕ → ℕ → List Fact
-own_facts w c t a s = premises (world_of w) (pipeline_of c) (number_in (world_of w) (pipeline_of c)) (TermValue t a (pos s))
+abbrev pub own_facts : World → Parts → ℕ → ℕ → ℕ → Option ℕ → List Fact
+own_facts w c t a s view = value_facts (world_of w) (pipeline_of c) (number_in (world_of w) (pipeline_of c)) t (view_at view) a (pos s)
 
 -- the value of a term for an asset that exists; of another there is nothing to be stated
 abbrev pub living_facts : spec.World → ℕ → ℕ → ℤ → List Fact
@@ -111,7 +120,7 @@ mask_passes w c m a s = lets_pass (as_input m) (input_cell_in w c (as_input m) a
 pub record IsKeptRow (w : World) (c : Parts) (stated : FactNumbers) (t d : ℕ) (row : List ℤ) : Type 0 where
   pub is : row ≡ row_in w c t d
   pub cells : All IsCell row
-  pub stand : (n : Node) → slice_get c.graph t ≡ Some n → has_all stated (flat_map (entry_facts (node_of n) (pos d)) (living_sids (world_of w) (pos d))) ≡ true
+  pub stand : (n : Node) → slice_get c.graph t ≡ Some n → has_all stated (flat_map (entry_facts (pipeline_of c).graph (node_of n) (pos d)) (living_sids (world_of w) (pos d))) ≡ true
 
 abbrev pub KeepsRows : World → Parts → FactNumbers → Rows → Type 0
 KeepsRows w c stated rows = (t d : ℕ) (row : List ℤ) → row_at rows t d ≡ Some row → IsKeptRow w c stated t d row

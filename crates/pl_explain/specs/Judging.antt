@@ -9,7 +9,7 @@ use Rattle.pl_world.specs.declared.world.World.{World}
 use Rattle.pl_world.specs.Worlds.{world_of}
 use Rattle.pl_derivation.specs.Lines.{Line}
 use Rattle.pl_derivation.specs.Facts.{Fact, number_in, premises}
-use Rattle.pl_derivation.specs.Facts.Fact.{Seen, TermValue}
+use Rattle.pl_derivation.specs.Facts.Fact.{TermValue}
 use Rattle.pl_derivation.specs.Right.{fact_of, has_sid, is_about, is_fitting}
 use Rattle.pl_derivation.specs.Laws.{states_world}
 use Rattle.pl_explain.specs.declared.fact_numbers.FactNumbers.{FactNumbers}
@@ -18,8 +18,8 @@ use Rattle.pl_explain.specs.Given.{has, has_all, IsReady, StatesTruth, KeepsRows
 
 -- a value of which something is stated already
 abbrev pub is_repeat : FactNumbers → Fact → Bool
-is_repeat stated (Seen c a s d) = false
 is_repeat stated (TermValue t a d) = has stated (TermValue t a d)
+is_repeat stated f = false
 
 abbrev pub judged_about : spec.World → Pipeline → FactNumbers → Line → Option Fact → Bool
 judged_about w p stated l None = false

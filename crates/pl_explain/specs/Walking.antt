@@ -14,7 +14,7 @@ use Rattle.pl_derivation.specs.declared.line.Line.{Line}
 use Rattle.pl_derivation.specs.Listed.{line_of}
 use Rattle.pl_derivation.specs.Texts.{AreWritable}
 use Rattle.pl_derivation.specs.Facts.{Fact}
-use Rattle.pl_derivation.specs.Facts.Fact.{Seen, TermValue}
+use Rattle.pl_derivation.specs.Facts.Fact.{Seen, TermValue, SeenValue}
 use Rattle.pl_derivation.specs.Right.{is_fitting}
 use Rattle.pl_derivation.specs.Walks.{is_in, finish, line_for, depth_of}
 use Rattle.pl_explain.specs.Looking.{IsInsertionOf}
@@ -44,6 +44,9 @@ abbrev pub MayBeDerived : World → Parts → Fact → Type 0
 MayBeDerived w c (Seen k a s d) = (is_fitting (world_of w) (pipeline_of c) (Seen k a s d) ≡ true) × HasDay (world_of w) s × HasDay (world_of w) d
 MayBeDerived w c (TermValue t a d) =
     (is_fitting (world_of w) (pipeline_of c) (TermValue t a d) ≡ true) × HasDay (world_of w) d × (pos 0 ≤ℤ reach (world_of w).days (term_at (pipeline_of c).graph t) d)
+MayBeDerived w c (SeenValue t a s d) =
+    (is_fitting (world_of w) (pipeline_of c) (SeenValue t a s d) ≡ true) × HasDay (world_of w) s × HasDay (world_of w) d
+    × (pos 0 ≤ℤ reach (world_of w).days (term_at (pipeline_of c).graph t) s)
 
 -- it may, and is at most so deep
 abbrev pub CanBeDerivedWithin : World → Parts → ℕ → Fact → Type 0

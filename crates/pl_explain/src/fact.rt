@@ -3,14 +3,17 @@
 ghost use Rattle.std.specs.Prelude.{◌≡◌, ◌+◌, ◌<◌, ◌≤◌, pos, Some};
 ghost use Rattle.pl_spec.specs.World.{column_number};
 ghost use Rattle.pl_terms.specs.Nodes.{input_of};
+ghost use Rattle.pl_derivation.specs.Facts.{value_fact};
+ghost use Rattle.pl_world.specs.Views.{view_at};
 ghost use Rattle.pl_explain.specs.Keys.{fact_key, fact_of, packed};
-ghost use Rattle.pl_explain.specs.Reading.{end_of, fact_at};
+ghost use Rattle.pl_explain.specs.Reading.{end_of, fact_at, told_by};
 
 use pl_spec::Column;
 use pl_terms::Input;
 
 /// What a line of a derivation is about: the bar of a session of an asset as it is seen on a later session,
-/// or the value of a term for an asset on a session. Sessions are counted from 0.
+/// the value of a term for an asset on a session, or that value as it is seen on a later session. Sessions are
+/// counted from 0.
 #[derive(Clone, Copy)]
 pub(crate) enum Fact {
     Seen {
@@ -23,6 +26,12 @@ pub(crate) enum Fact {
         term: u8,
         sid: u32,
         session: u32,
+    },
+    SeenValue {
+        term: u8,
+        sid: u32,
+        session: u32,
+        view: u32,
     },
 }
 
@@ -59,26 +68,55 @@ pub(crate) fn key(fact: Fact) -> u128
             bar,
             session,
         } => packed(column_number(column), sid, bar, session),
-        Fact::TermValue { term, sid, session } => packed(5 + term as u32, sid, 0, session),
+        Fact::TermValue { term, sid, session } => packed(5 + 2 * term as u32, sid, 0, session),
+        Fact::SeenValue {
+            term,
+            sid,
+            session,
+            view,
+        } => packed(6 + 2 * term as u32, sid, session, view),
     }
 }
 
-/// What a window over an input has of a session, where it is read on another.
-pub(crate) fn fact_at(input: Input, sid: u32, at: u32, session: u32) -> Fact
-    ensures { fact_of result ≡ fact_at (input_of input) sid (pos at) (pos session) }
+/// The value of a term for an asset on a session, as it is seen from a later session where it is from one.
+pub(crate) fn value_fact(term: u8, sid: u32, session: u32, view: Option<u32>) -> Fact
+    ensures { fact_of result ≡ value_fact term sid (pos session) (view_at view) }
+{
+    match view {
+        None => Fact::TermValue { term, sid, session },
+        Some(view) => Fact::SeenValue {
+            term,
+            sid,
+            session,
+            view,
+        },
+    }
+}
+
+/// The value of a term on a session as it is seen on that one or a later one. It is told as the session's own
+/// where the two are one, or the term is steady.
+pub(crate) fn told_by(steady: bool, term: u8, sid: u32, session: u32, view: u32) -> Fact
+    ensures { fact_of result ≡ told_by steady term sid (pos session) (pos view) }
+{
+    if steady || session == view {
+        value_fact(term, sid, session, None)
+    } else {
+        value_fact(term, sid, session, Some(view))
+    }
+}
+
+/// What a window over an input has of a session, where it is seen on another.
+pub(crate) fn fact_at(input: Input, steady: bool, sid: u32, at: u32, view: u32) -> Fact
+    ensures { fact_of result ≡ fact_at steady (input_of input) sid (pos at) (pos view) }
 {
     match input {
         Input::Column(column) => Fact::Seen {
             column,
             sid,
             bar: at,
-            session,
+            session: view,
         },
-        Input::Term(u) => Fact::TermValue {
-            term: u.0,
-            sid,
-            session: at,
-        },
+        Input::Term(u) => told_by(steady, u.0, sid, at, view),
     }
 }
 

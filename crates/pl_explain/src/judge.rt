@@ -9,7 +9,7 @@ ghost use Rattle.pl_derivation.specs.Right as spec;
 ghost use Rattle.pl_derivation.specs.Right.{has_sid};
 ghost use Rattle.pl_terms.specs.Uses.{is_used};
 ghost use Rattle.pl_derivation.specs.Lines.Line.{SeenLine};
-ghost use Rattle.pl_derivation.specs.declared.line.Line.TheVariants.{Value};
+ghost use Rattle.pl_derivation.specs.declared.line.Line.TheVariants.{SeenValue, Value};
 ghost use Rattle.pl_derivation.specs.Listed.{line_of};
 ghost use Rattle.pl_derivation.specs.Texts.{IsWritable};
 ghost use Rattle.pl_world.specs.Worlds.{world_of, IsMade};
@@ -23,7 +23,8 @@ use crate::fact_numbers::FactNumbers;
 use crate::records::known_day;
 use crate::rows::Rows;
 use crate::value::value_stated;
-use pl_derivation::{Derivation, Line, ValueLine};
+use crate::views::is_steady;
+use pl_derivation::{Derivation, Line, SeenValueLine, ValueLine};
 use pl_fixed::{Column, MISSING, Memory, Steps};
 use pl_terms::{Checked, TermId};
 use pl_world::World;
@@ -31,9 +32,9 @@ use std::alloc::Global;
 use std::sync::ledger::Ledger;
 
 /// The number, from 1, of the first line that is not right: where its days are sessions, its sid is known,
-/// its term is used, its bar is of an earlier session, each premise is in an earlier line, its number is what
-/// one step gives over the numbers of these, and beside the number of a record is that record's day. `None`
-/// where all lines are right. The only error is want of memory.
+/// its term is used, what is seen from a session is of an earlier one and may be another there, each premise
+/// is in an earlier line, its number is what one step gives over the numbers of these, and beside the number
+/// of a record is that record's day. `None` where all lines are right. The only error is want of memory.
 pub fn first_wrong<L: Ledger>(
     alloc: Global,
     world: &World,
@@ -94,6 +95,7 @@ fn is_right<L: Ledger>(
             is_right_bar(alloc, world, checked, stated, rows, &seen, steps)
         }
         Line::Value(value) => is_right_value(alloc, world, checked, stated, rows, value),
+        Line::SeenValue(value) => is_right_seen(alloc, world, checked, stated, rows, value),
     }
 }
 
@@ -187,12 +189,66 @@ fn is_right_value(
         checked,
         stated,
     };
-    let Some(number) = value_stated(alloc, &basis, rows, t, col, session)? else {
+    let Some(number) = value_stated(alloc, &basis, rows, t, col, session, None)? else {
         return Ok(false);
     };
     if !same_number(line.value, number) {
         return Ok(false);
     }
+    stated.insert(fact, line.value)?;
+    Ok(true)
+}
+
+// The same of a value as it is seen from a later session.
+fn is_right_seen(
+    alloc: Global,
+    world: &World,
+    checked: &Checked,
+    stated: &mut FactNumbers,
+    rows: &mut Rows,
+    line: &SeenValueLine,
+) -> Result<bool, Memory>
+    requires table { IsTable world.now checked.now stated.old rows.old }
+    requires cell { IsCell line.now.value }
+    ensures { IfOk result (IsJudgement world.now checked.now (line_of (SeenValue line.now))
+        stated.old stated.new rows.new) }
+{
+    let Some(col) = col_of(world, line.sid) else {
+        return Ok(false);
+    };
+    let Some(session) = world.sessions.index_of(line.own_day) else {
+        return Ok(false);
+    };
+    let Some(view) = world.sessions.index_of(line.day) else {
+        return Ok(false);
+    };
+    let Some(t) = used_term(checked, line.term) else {
+        return Ok(false);
+    };
+    if session >= view {
+        return Ok(false);
+    }
+    if is_steady(checked, t) {
+        return Ok(false);
+    }
+    let basis = Basis {
+        world: *world,
+        checked,
+        stated,
+    };
+    let seen = value_stated(alloc, &basis, rows, t, col, session, Some(view as u32))?;
+    let Some(found) = seen else {
+        return Ok(false);
+    };
+    if !same_number(line.value, found) {
+        return Ok(false);
+    }
+    let fact = Fact::SeenValue {
+        term: t.0,
+        sid: line.sid,
+        session: session as u32,
+        view: view as u32,
+    };
     stated.insert(fact, line.value)?;
     Ok(true)
 }

@@ -13,11 +13,13 @@ mod records;
 mod rows;
 mod sections;
 mod value;
+mod views;
 mod walk;
 
 pub use judge::first_wrong;
 pub use pl_derivation::{
-    CellList, Derivation, ExplainError, Line, LinesError, ValueLine, print_lines, read_lines,
+    CellList, Derivation, ExplainError, Line, LinesError, SeenValueLine, ValueLine, print_lines,
+    read_lines,
 };
 pub use pl_planner::reach_at;
 pub use walk::explain_cell;

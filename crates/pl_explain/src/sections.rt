@@ -3,6 +3,7 @@ ghost use Rattle.std.specs.Prelude.{◌≡◌, ◌<◌, All, IfNone, IfOk, IfSom
 ghost use Rattle.pl_spec.specs.Rounding.{IsCell};
 ghost use Rattle.pl_spec.specs.World.{living_sids};
 ghost use Rattle.pl_cross.specs.Section.{is_section};
+ghost use Rattle.pl_terms.specs.Checked.{pipeline_of};
 ghost use Rattle.pl_terms.specs.Nodes.{node_of, number_of};
 ghost use Rattle.pl_derivation.specs.Facts.{entry_facts, number_facts};
 ghost use Rattle.pl_derivation.specs.Facts.Fact.{TermValue};
@@ -64,8 +65,8 @@ fn whole_row(
     ensures row { IfOk result (λ o. IfSome o (λ v. IsKeptRow
         basis.now.world basis.now.checked.now basis.now.stated.now t.0 session v.items)) }
     ensures none { IfOk result (λ o. IfNone o ((n : _) → slice_get basis.now.checked.now.graph t.0 ≡ Some n
-        → has_all basis.now.stated.now (flat_map (entry_facts (node_of n) (pos session))
-        (living_sids (world_of basis.now.world) (pos session))) ≡ false)) }
+        → has_all basis.now.stated.now (flat_map (entry_facts (pipeline_of basis.now.checked.now).graph
+        (node_of n) (pos session)) (living_sids (world_of basis.now.world) (pos session))) ≡ false)) }
 {
     let node = node_in(basis.checked, t);
     let input = section_input(basis.checked, t);

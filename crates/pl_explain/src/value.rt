@@ -6,12 +6,13 @@ ghost use Rattle.pl_terms.specs.Kinds.{kind_of};
 ghost use Rattle.pl_terms.specs.Sorts.{is_windowed};
 ghost use Rattle.pl_values.specs.Families.{is_label_test, is_point};
 ghost use Rattle.pl_world.specs.Evaluations.{HasKind};
-ghost use Rattle.pl_explain.specs.Given.{facts_in, own_facts, sid_in, value_in, IsAskedAt, IsGiven, IsKeptAt, KeepsRowsOf};
+ghost use Rattle.pl_explain.specs.Given.{facts_in, own_facts, seen_facts_in, seen_value_in, sid_in, value_in, IsAskedAt, IsGiven, IsKeptAt, KeepsRowsOf};
 
 use crate::basis::{Basis, node_in};
 use crate::inputs::{input_stated, mask_stated, window_stated};
 use crate::rows::Rows;
 use crate::sections::section_stated;
+use crate::views::{operand_view, window_view};
 use pl_fixed::{Frequency, Memory};
 use pl_terms::TermId;
 use pl_values::{
@@ -20,9 +21,9 @@ use pl_values::{
 use pl_world::{exists, input_at, label_cell, number_cell};
 use std::alloc::Global;
 
-/// The value of a term for the asset in a column on a session by the numbers of its premises, as arrays hold
-/// it; `None` where one of them has no number. `rows` keeps the rows of cross-sections. The only error is
-/// want of memory.
+/// The value of a term for the asset in a column on a session, as it is seen from a later session where it is
+/// from one, by the numbers of its premises, as arrays hold it; `None` where one of them has no number. `rows`
+/// keeps the rows of cross-sections. The only error is want of memory.
 pub(crate) fn value_stated(
     alloc: Global,
     basis: &Basis,
@@ -30,13 +31,14 @@ pub(crate) fn value_stated(
     t: TermId,
     col: usize,
     session: usize,
+    view: Option<u32>,
 ) -> Result<Option<i64>, Memory>
     requires at { IsAskedAt basis.now col session }
     requires term { t.0 < length basis.now.checked.now.graph }
     requires rows { KeepsRowsOf basis.now rows.old }
     ensures given { IfOk result (IsGiven IsCell basis.now.stated.now
-        (own_facts basis.now.world basis.now.checked.now t.0 (sid_in basis.now col) session)
-        (value_in basis.now t.0 col session)) }
+        (own_facts basis.now.world basis.now.checked.now t.0 (sid_in basis.now col) session view)
+        (seen_value_in basis.now t.0 col session view)) }
     ensures rows { OnOk result (KeepsRowsOf basis.now rows.new) }
 {
     let node = node_in(basis.checked, t);
@@ -46,7 +48,7 @@ pub(crate) fn value_stated(
     match mask_stated(basis, node.mask, col, session) {
         None => Ok(None),
         Some(false) => Ok(Some(empty_value(basis.checked.graph(), t))),
-        Some(true) => kept_stated(alloc, basis, rows, t, col, session),
+        Some(true) => kept_stated(alloc, basis, rows, t, col, session, view),
     }
 }
 
@@ -58,11 +60,12 @@ fn kept_stated(
     t: TermId,
     col: usize,
     session: usize,
+    view: Option<u32>,
 ) -> Result<Option<i64>, Memory>
     requires kept { IsKeptAt basis.now t.0 col session }
     requires rows { KeepsRowsOf basis.now rows.old }
-    ensures given { IfOk result (IsGiven IsCell basis.now.stated.now (facts_in basis.now t.0 col session)
-        (value_in basis.now t.0 col session)) }
+    ensures given { IfOk result (IsGiven IsCell basis.now.stated.now
+        (seen_facts_in basis.now t.0 col session view) (seen_value_in basis.now t.0 col session view)) }
     ensures rows { OnOk result (KeepsRowsOf basis.now rows.new) }
 {
     let node = node_in(basis.checked, t);
@@ -75,8 +78,8 @@ fn kept_stated(
             Ok(Some(number_cell(world, checked, figure, name, col, session)))
         }
         Family::Sids => Ok(Some(sids_value(&node.kind, world.assets.sid(col)))),
-        Family::Window => over_windows(alloc, basis, t, col, session),
-        Family::Point => Ok(over_operands(basis, t, col, session)),
+        Family::Window => over_windows(alloc, basis, t, col, session, view),
+        Family::Point => Ok(over_operands(basis, t, col, session, view)),
         Family::LabelTest => Ok(over_label(basis, t, col, session)),
         Family::Section => section_stated(alloc, basis, rows, t, col, session),
         Family::Downsample(frequency) => Ok(over_period(basis, t, frequency, col, session)),
@@ -90,43 +93,52 @@ fn over_windows(
     t: TermId,
     col: usize,
     session: usize,
+    view: Option<u32>,
 ) -> Result<Option<i64>, Memory>
     requires kept { IsKeptAt basis.now t.0 col session }
     requires kind { HasKind basis.now.checked.now t.0 is_windowed }
-    ensures { IfOk result (IsGiven IsCell basis.now.stated.now (facts_in basis.now t.0 col session)
-        (value_in basis.now t.0 col session)) }
+    ensures { IfOk result (IsGiven IsCell basis.now.stated.now
+        (seen_facts_in basis.now t.0 col session view) (seen_value_in basis.now t.0 col session view)) }
 {
     let node = node_in(basis.checked, t);
     let size = node.window as usize;
+    let from = window_view(&node.kind, view, session as u32);
     let first = input_at(node, 0);
-    let Some(a) = window_stated(alloc, basis, first, size, col, session)? else {
+    let Some(a) = window_stated(alloc, basis, first, size, col, session, from)? else {
         return Ok(None);
     };
     let second = input_at(node, 1);
-    let Some(b) = window_stated(alloc, basis, second, size, col, session)? else {
+    let Some(b) = window_stated(alloc, basis, second, size, col, session, from)? else {
         return Ok(None);
     };
     let third = input_at(node, 2);
-    let Some(c) = window_stated(alloc, basis, third, size, col, session)? else {
+    let Some(c) = window_stated(alloc, basis, third, size, col, session, from)? else {
         return Ok(None);
     };
     Ok(Some(window_value(&node.kind, &a, &b, &c)))
 }
 
 // An operation on the values of the session.
-fn over_operands(basis: &Basis, t: TermId, col: usize, session: usize) -> Option<i64>
+fn over_operands(
+    basis: &Basis,
+    t: TermId,
+    col: usize,
+    session: usize,
+    view: Option<u32>,
+) -> Option<i64>
     requires kept { IsKeptAt basis.now t.0 col session }
     requires kind { HasKind basis.now.checked.now t.0 is_point }
-    ensures { IsGiven IsCell basis.now.stated.now (facts_in basis.now t.0 col session)
-        (value_in basis.now t.0 col session) result }
+    ensures { IsGiven IsCell basis.now.stated.now (seen_facts_in basis.now t.0 col session view)
+        (seen_value_in basis.now t.0 col session view) result }
 {
     let node = node_in(basis.checked, t);
+    let from = operand_view(&node.kind, view);
     let first = input_at(node, 0);
-    let x = input_stated(basis, first, col, session)?;
+    let x = input_stated(basis, first, col, session, from)?;
     let second = input_at(node, 1);
-    let y = input_stated(basis, second, col, session)?;
+    let y = input_stated(basis, second, col, session, from)?;
     let third = input_at(node, 2);
-    let z = input_stated(basis, third, col, session)?;
+    let z = input_stated(basis, third, col, session, from)?;
     Some(point_value(&node.kind, x, y, z))
 }
 
@@ -139,7 +151,7 @@ fn over_label(basis: &Basis, t: TermId, col: usize, session: usize) -> Option<i6
 {
     let node = node_in(basis.checked, t);
     let first = input_at(node, 0);
-    let code = input_stated(basis, first, col, session)?;
+    let code = input_stated(basis, first, col, session, None)?;
     Some(label_test_value(&node.kind, basis.world.labels, code))
 }
 
@@ -159,5 +171,5 @@ fn over_period(
 {
     let node = node_in(basis.checked, t);
     let start = basis.world.sessions.period_start(frequency, session);
-    input_stated(basis, input_at(node, 0), col, start)
+    input_stated(basis, input_at(node, 0), col, start, None)
 }

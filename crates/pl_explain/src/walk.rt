@@ -7,25 +7,28 @@ ghost use Rattle.pl_spec.specs.Rounding.{IsCell};
 ghost use Rattle.pl_pipeline.specs.Term.{term_at};
 ghost use Rattle.pl_spec.specs.World.{exists};
 ghost use Rattle.pl_cross.specs.Section.{is_section};
+ghost use Rattle.pl_derivation.specs.Facts.{value_fact};
 ghost use Rattle.pl_derivation.specs.Facts.Fact.{Seen, TermValue};
+ghost use Rattle.pl_derivation.specs.Texts.{IsWritable};
+ghost use Rattle.pl_world.specs.Views.{seen_in, view_at};
 ghost use Rattle.pl_derivation.specs.Laws.{IsDerivation};
 ghost use Rattle.pl_derivation.specs.Lean.{IsLean};
-ghost use Rattle.pl_derivation.specs.Walks.{depth_of, derivation, facts_for};
+ghost use Rattle.pl_derivation.specs.Walks.{depth_of, derivation, facts_for, line_for};
 ghost use Rattle.pl_spec.proofs.Each.{Each};
 ghost use Rattle.pl_derivation.specs.Listed.{line_of};
 ghost use Rattle.pl_world.specs.Worlds.{world_of, IsMade};
-ghost use Rattle.pl_world.specs.Evaluations.{cell_in, HasKind};
+ghost use Rattle.pl_world.specs.Evaluations.{HasKind};
 ghost use Rattle.pl_terms.specs.Checked.{pipeline_of};
 ghost use Rattle.pl_terms.specs.Nodes.{graph_of};
 ghost use Rattle.pl_terms.specs.Uses.{is_used};
-ghost use Rattle.pl_explain.specs.Given.{facts_read, has, has_all, own_facts, HasRow, KeepsRows};
+ghost use Rattle.pl_explain.specs.Given.{facts_read, has, has_all, own_facts, HasRow, IsReady, KeepsRows};
 ghost use Rattle.pl_explain.specs.Keys.{fact_of};
 ghost use Rattle.pl_derivation.specs.declared.error.ExplainError.TheVariants.{TooLong};
 ghost use Rattle.pl_explain.specs.Walking.{MayBeDerived, CanBeDerivedWithin, IsPut, IsWalkTo, HoldsSoFar};
 
 use crate::bars::seen_cells;
 use crate::basis::{Basis, node_in, parts_are_ready};
-use crate::fact::Fact;
+use crate::fact::{Fact, value_fact};
 use crate::fact_numbers::FactNumbers;
 use crate::inputs::mask_stated;
 use crate::judge::{col_of, last_of};
@@ -33,7 +36,9 @@ use crate::reads::{facts_read, mask_read};
 use crate::records::known_day;
 use crate::rows::Rows;
 use crate::value::value_stated;
-use pl_derivation::{CellList, Derivation, ExplainError, Line, MOST_LINES, ValueLine};
+use pl_derivation::{
+    CellList, Derivation, ExplainError, Line, MOST_LINES, SeenValueLine, ValueLine,
+};
 use pl_fixed::{Column, Memory, Steps};
 use pl_terms::{Checked, TermId};
 use pl_values::{Family, family_of};
@@ -133,8 +138,14 @@ fn finish<L: Ledger>(
             session,
         } => finish_bar(source, walk, column, sid, bar, session, steps),
         Fact::TermValue { term, sid, session } => {
-            finish_value(source, walk, term, sid, session, steps)
+            finish_value(source, walk, term, sid, session, None, steps)
         }
+        Fact::SeenValue {
+            term,
+            sid,
+            session,
+            view,
+        } => finish_value(source, walk, term, sid, session, Some(view), steps),
     }
 }
 
@@ -159,7 +170,7 @@ fn finish_all<L: Ledger>(
     Ok(())
 }
 
-// Finishes a value after its premises.
+// Finishes a value, as it is seen from a later session where it is from one, after its premises.
 #[cycle(walk)]
 fn finish_value<L: Ledger>(
     source: &Source<'_>,
@@ -167,28 +178,64 @@ fn finish_value<L: Ledger>(
     term: u8,
     sid: u32,
     session: u32,
+    view: Option<u32>,
     steps: &mut Steps<L>,
 ) -> Result<(), ExplainError>
     requires stands { HoldsSoFar source.now.world source.now.checked.now walk.old }
-    requires fact { MayBeDerived source.now.world source.now.checked.now (TermValue term sid (pos session)) }
-    requires fresh { has walk.old.stated (TermValue term sid (pos session)) ≡ false }
+    requires fact { MayBeDerived source.now.world source.now.checked.now
+        (value_fact term sid (pos session) (view_at view)) }
+    requires fresh { has walk.old.stated (value_fact term sid (pos session) (view_at view)) ≡ false }
     ensures { IsWalkTo source.now.world source.now.checked.now (term + 2)
-        (TermValue term sid (pos session) ∷ []) walk.old walk.new result }
+        (value_fact term sid (pos session) (view_at view) ∷ []) walk.old walk.new result }
 {
     let Some(col) = col_of(&source.world, sid) else {
         unreachable!();
     };
     let t = TermId(term);
-    finish_premises(source, walk, t, col, session as usize, steps)?;
-    let value = value_now(source, walk, t, col, session as usize)?;
-    let line = Line::Value(ValueLine {
-        term: term as u32,
-        sid,
-        day: source.world.sessions.day(session as usize),
-        value,
-        known: known_day(&source.world, source.checked, t, col, session as usize),
-    });
-    put(walk, Fact::TermValue { term, sid, session }, value, line)
+    finish_premises(source, walk, t, col, session as usize, view, steps)?;
+    let value = value_now(source, walk, t, col, session as usize, view)?;
+    let line = value_line(source, t, col, session as usize, view, value);
+    put(walk, value_fact(term, sid, session, view), value, line)
+}
+
+// The line of a value.
+fn value_line(
+    source: &Source<'_>,
+    t: TermId,
+    col: usize,
+    session: usize,
+    view: Option<u32>,
+    value: i64,
+) -> Line
+    requires ready { IsReady source.now.world source.now.checked.now }
+    requires col { col < length source.now.world.assets.now }
+    requires fact { MayBeDerived source.now.world source.now.checked.now
+        (value_fact t.0 (sid_at source.now.world.assets.now col) (pos session) (view_at view)) }
+    requires value { value ≡ seen_in source.now.world source.now.checked.now t.0 view
+        (sid_at source.now.world.assets.now col) session }
+    requires cell { IsCell value }
+    ensures line { line_of result ≡ line_for (world_of source.now.world) (pipeline_of source.now.checked.now)
+        (value_fact t.0 (sid_at source.now.world.assets.now col) (pos session) (view_at view)) }
+    ensures writable { IsWritable (line_of result) }
+{
+    let sid = source.world.assets.sid(col);
+    let day = source.world.sessions.day(session);
+    match view {
+        None => Line::Value(ValueLine {
+            term: t.0 as u32,
+            sid,
+            day,
+            value,
+            known: known_day(&source.world, source.checked, t, col, session),
+        }),
+        Some(view) => Line::SeenValue(SeenValueLine {
+            term: t.0 as u32,
+            sid,
+            own_day: day,
+            day: source.world.sessions.day(view as usize),
+            value,
+        }),
+    }
 }
 
 // Finishes the premises of a value: the mask, and where the asset passes it what the kind reads.
@@ -199,16 +246,17 @@ fn finish_premises<L: Ledger>(
     t: TermId,
     col: usize,
     session: usize,
+    view: Option<u32>,
     steps: &mut Steps<L>,
 ) -> Result<(), ExplainError>
     requires stands { HoldsSoFar source.now.world source.now.checked.now walk.old }
     requires col { col < length source.now.world.assets.now }
     requires session { session < length source.now.world.sessions.now }
     requires fact { MayBeDerived source.now.world source.now.checked.now
-        (TermValue t.0 (sid_at source.now.world.assets.now col) (pos session)) }
+        (value_fact t.0 (sid_at source.now.world.assets.now col) (pos session) (view_at view)) }
     ensures { IsWalkTo source.now.world source.now.checked.now (t.0 + 1)
         (own_facts source.now.world source.now.checked.now t.0
-        (sid_at source.now.world.assets.now col) session) walk.old walk.new result }
+        (sid_at source.now.world.assets.now col) session view) walk.old walk.new result }
 {
     let node = node_in(source.checked, t);
     if !exists(&source.world, col, session) {
@@ -227,7 +275,7 @@ fn finish_premises<L: Ledger>(
         stated: &walk.stated,
     };
     match mask_stated(&basis, node.mask, col, session) {
-        Some(true) => finish_kind(source, walk, t, col, session, steps),
+        Some(true) => finish_kind(source, walk, t, col, session, view, steps),
         Some(false) => Ok(()),
         None => unreachable!(),
     }
@@ -241,24 +289,33 @@ fn finish_kind<L: Ledger>(
     t: TermId,
     col: usize,
     session: usize,
+    view: Option<u32>,
     steps: &mut Steps<L>,
 ) -> Result<(), ExplainError>
     requires stands { HoldsSoFar source.now.world source.now.checked.now walk.old }
     requires col { col < length source.now.world.assets.now }
     requires session { session < length source.now.world.sessions.now }
     requires fact { MayBeDerived source.now.world source.now.checked.now
-        (TermValue t.0 (sid_at source.now.world.assets.now col) (pos session)) }
+        (value_fact t.0 (sid_at source.now.world.assets.now col) (pos session) (view_at view)) }
     requires facts { Each (CanBeDerivedWithin source.now.world source.now.checked.now (t.0 + 1))
         (facts_read source.now.world source.now.checked.now t.0
-        (sid_at source.now.world.assets.now col) session) }
+        (sid_at source.now.world.assets.now col) session view) }
     ensures { IsWalkTo source.now.world source.now.checked.now (t.0 + 1)
         (facts_read source.now.world source.now.checked.now t.0
-        (sid_at source.now.world.assets.now col) session) walk.old walk.new result }
+        (sid_at source.now.world.assets.now col) session view) walk.old walk.new result }
 {
     if is_whole(source, walk, t, session) {
         return Ok(());
     }
-    let facts = facts_read(source.alloc, &source.world, source.checked, t, col, session)?;
+    let facts = facts_read(
+        source.alloc,
+        &source.world,
+        source.checked,
+        t,
+        col,
+        session,
+        view,
+    )?;
     finish_all(source, walk, t, &facts, steps)
 }
 
@@ -267,8 +324,8 @@ fn is_whole(source: &Source<'_>, walk: &Walk, t: TermId, session: usize) -> bool
     requires stands { HoldsSoFar source.now.world source.now.checked.now walk.now }
     requires term { t.0 < length source.now.checked.now.graph }
     requires session { session < length source.now.world.sessions.now }
-    ensures stand { IsTrue result → (a : _)
-        → has_all walk.now.stated (facts_read source.now.world source.now.checked.now t.0 a session)
+    ensures stand { IsTrue result → (a : _) → (view : _)
+        → has_all walk.now.stated (facts_read source.now.world source.now.checked.now t.0 a session view)
         ≡ true }
     ensures whole { HasKind source.now.checked.now t.0 is_section → HasRow t.0 session walk.now.rows
         → result ≡ true }
@@ -279,13 +336,14 @@ fn is_whole(source: &Source<'_>, walk: &Walk, t: TermId, session: usize) -> bool
     }
 }
 
-// The value of a term whose premises are finished.
+// The value of a term, as it is seen, whose premises are finished.
 fn value_now(
     source: &Source<'_>,
     walk: &mut Walk,
     t: TermId,
     col: usize,
     session: usize,
+    view: Option<u32>,
 ) -> Result<i64, Memory>
     requires stands { HoldsSoFar source.now.world source.now.checked.now walk.old }
     requires term { t.0 < length source.now.checked.now.graph }
@@ -293,8 +351,8 @@ fn value_now(
     requires session { session < length source.now.world.sessions.now }
     requires premises { has_all walk.old.stated
         (own_facts source.now.world source.now.checked.now t.0
-        (sid_at source.now.world.assets.now col) session) ≡ true }
-    ensures value { IfOk result (λ x. x ≡ cell_in source.now.world source.now.checked.now t.0
+        (sid_at source.now.world.assets.now col) session view) ≡ true }
+    ensures value { IfOk result (λ x. x ≡ seen_in source.now.world source.now.checked.now t.0 view
         (sid_at source.now.world.assets.now col) session) }
     ensures cell { IfOk result IsCell }
     ensures stated { walk.new.stated ≡ walk.old.stated }
@@ -307,7 +365,8 @@ fn value_now(
         checked: source.checked,
         stated: &walk.stated,
     };
-    match value_stated(source.alloc, &basis, &mut walk.rows, t, col, session)? {
+    let rows = &mut walk.rows;
+    match value_stated(source.alloc, &basis, rows, t, col, session, view)? {
         Some(value) => Ok(value),
         None => unreachable!(),
     }

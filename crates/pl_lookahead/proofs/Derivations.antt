@@ -1,6 +1,7 @@
 -- Worlds that are seen alike up to a session have the same derivations up to it, but for the codes of labels.
-use Rattle.std.proofs.Common.{◌≡◌, ℕ, zero, suc, Bool, true, false, if◌then◌else◌, ℤ, pos, ◌<ℤ◌, ◌≤ℤ◌, List, [], ◌∷◌, ◌++◌, map, flat_map, fold, Option, Some, None, option_map, unwrap_or, refl, sym, ◌∙◌, ap, arith, slice_get}
+use Rattle.std.proofs.Common.{◌≡◌, ℕ, zero, suc, Bool, true, false, ◌||◌, if◌then◌else◌, ℤ, pos, ◌<ℤ◌, ◌≤ℤ◌, List, [], ◌∷◌, ◌++◌, map, flat_map, fold, Option, Some, None, option_map, unwrap_or, refl, sym, ◌∙◌, ap, arith, slice_get}
 use Rattle.std.specs.Prelude.{option_and_then}
+use Rattle.std.specs.Ordering.{int_eq}
 use Rattle.std.proofs.lemmas.Int.{ints}
 use Rattle.pl_spec.specs.declared.Column.{Column}
 use Rattle.pl_spec.specs.World.{World, IsWorld, events_of, day_of, bar_cell, exists, living_sids}
@@ -8,52 +9,70 @@ use Rattle.pl_spec.specs.Numbers.{known_at}
 use Rattle.pl_spec.specs.Window.{before, downward, effects_from, effects}
 use Rattle.pl_spec.specs.Periods.{period_start}
 use Rattle.pl_spec.proofs.Each.{Each, each_both, each_in_map, each_in_flat, each_all, each_more, map_each}
-use Rattle.pl_spec.proofs.Windows.{before-less}
 use Rattle.pl_pipeline.specs.Kind as kinds
 use Rattle.pl_pipeline.specs.Kind.{Kind}
 use Rattle.pl_pipeline.specs.Kind.Kind.{Window, Point, LabelTest, Cross, Downsample}
-use Rattle.pl_pipeline.specs.Term.{Input, Node, term_at}
+use Rattle.pl_pipeline.specs.Term.{Graph, Input, Node, term_at}
 use Rattle.pl_pipeline.specs.Term.Input.{BarColumn, TermInput}
-use Rattle.pl_pipeline.specs.Value.{holds, passes, name_at}
+use Rattle.pl_pipeline.specs.Value.{Value, View, Own, From, seen_from, view_of, holds, passes, name_at, seen, is_steady}
 use Rattle.pl_pipeline.specs.Table.{Pipeline, value_of, in_array}
 use Rattle.pl_laws.proofs.Law as law
-use Rattle.pl_laws.proofs.Law.{SeenAlike, between_same, day_by}
+use Rattle.pl_laws.proofs.Law.{SeenAlike, IsSeenBy, seen_by_here, seen-earlier, inner-seen, between_same, day_by}
 use Rattle.pl_laws.proofs.Calendars.{reads_at-same}
 use Rattle.pl_laws.proofs.Starts.{start-within}
 use Rattle.pl_cross.specs.Arrays.{HasTexts}
-use Rattle.pl_derivation.specs.Facts.{Fact, Reading, number_in, kind_known, known_day, window_facts, facts_now, number_facts, over_inputs, entry_facts, kind_facts, term_read, number_read, node_facts, premises}
-use Rattle.pl_derivation.specs.Facts.Fact.{Seen, TermValue}
+use Rattle.pl_derivation.specs.Facts.{Fact, Reading, number_in, kind_known, known_day, value_fact, told_fact, window_facts, facts_now, number_facts, over_inputs, entry_facts, kind_facts, term_read, number_read, node_facts, value_facts, premises}
+use Rattle.pl_derivation.specs.Facts.Fact.{Seen, TermValue, SeenValue}
 use Rattle.pl_derivation.specs.Lines.{Line}
-use Rattle.pl_derivation.specs.Lines.Line.{SeenLine, ValueLine}
+use Rattle.pl_derivation.specs.Lines.Line.{SeenLine, ValueLine, SeenValueLine}
 use Rattle.pl_derivation.specs.Right.{after_each, seen_cells}
 use Rattle.pl_derivation.specs.Walks.{is_in, finish, depth_of, facts_for, date_of, line_for, derivation}
 use Rattle.pl_lookahead.specs.Derivations.{recoded}
-use Rattle.pl_derivation.proofs.Codes.{kept}
+use Rattle.pl_derivation.proofs.Codes.{kept, seen_kept}
 
 -- ---- facts of sessions up to one
 
--- the fact is of sessions up to d, and the bar is of an earlier one
+-- the fact is of sessions up to d, and what is seen from one is of none that is later
 abbrev pub IsBy : ℤ → Fact → Type 0
 IsBy d (Seen c a s e) = (s <ℤ e) × (e ≤ℤ d)
 IsBy d (TermValue t a e) = e ≤ℤ d
+IsBy d (SeenValue t a s e) = (s ≤ℤ e) × (e ≤ℤ d)
 
-before-by : (s : ℤ) (n : ℕ) (d : ℤ) → s ≤ℤ d → before s n ≤ℤ d
-before-by s n d h = omega (arith, ints)
+before-itself : (s : ℤ) (n : ℕ) → before s n ≤ℤ s
+before-itself s n = omega (arith, ints)
+
+-- on its own session everything is seen by then
+own-by : (e d : ℤ) → e ≤ℤ d → IsSeenBy d Own e
+own-by e d l = record { from = omega (arith, ints); by = l }
 
 -- what a fact rests on is of sessions up to its own
 module _ (d : ℤ) where
   abbrev By : Fact → Type 0
   By f = IsBy d f
 
-  window-by : (size a : ℕ) (e : ℤ) → e ≤ℤ d → (o : Option Input) → Each By (window_facts size a e o)
-  window-by size a e l None = tt
-  window-by size a e l (Some (BarColumn c)) = each_in_map By (λ n. Seen c a (before e (suc n)) e) (downward size) (each_all _ (downward size) (λ n. (before-less e n, l)))
-  window-by size a e l (Some (TermInput t)) = each_in_map By (λ n. TermValue t a (before e n)) (downward size) (each_all _ (downward size) (λ n. before-by e n d l))
+  told-by : (g : Graph) (view : View) (t a : ℕ) (s : ℤ) → IsSeenBy d view s → By (told_fact g t a s view)
+  told-by g Own t a s l = l.by
+  told-by g (From v) t a s l = here (is_steady (term_at g t) || int_eq s v)
+    where
+      here : (b : Bool) → By (value_fact t a s (if b then Own else From v))
+      here true = seen_by_here d (From v) s l
+      here false = (l.from, l.by)
 
-  now-by : (a : ℕ) (e : ℤ) → e ≤ℤ d → (o : Option Input) → Each By (facts_now a e o)
-  now-by a e l None = tt
-  now-by a e l (Some (BarColumn c)) = tt
-  now-by a e l (Some (TermInput t)) = (l, tt)
+  window-by : (g : Graph) (view : View) (size a : ℕ) (e : ℤ) → IsSeenBy d view e → (o : Option Input) → Each By (window_facts g view size a e o)
+  window-by g view size a e l None = tt
+  window-by g view size a e l (Some (BarColumn c)) =
+      each_in_map By (λ n. Seen c a (before e (suc n)) (seen_from view e)) (downward size) (each_all _ (downward size) (λ n. (bar-before n, l.by)))
+    where
+      bar-before : (n : ℕ) → before e (suc n) <ℤ seen_from view e
+      bar-before n = let low : e ≤ℤ seen_from view e = l.from in omega (arith, ints)
+  window-by g view size a e l (Some (TermInput t)) =
+      each_in_map By (λ n. told_fact g t a (before e n) view) (downward size)
+      (each_all _ (downward size) (λ n. told-by g view t a (before e n) (seen-earlier d view e (before e n) (before-itself e n) l)))
+
+  now-by : (g : Graph) (view : View) (a : ℕ) (e : ℤ) → IsSeenBy d view e → (o : Option Input) → Each By (facts_now g view a e o)
+  now-by g view a e l None = tt
+  now-by g view a e l (Some (BarColumn c)) = tt
+  now-by g view a e l (Some (TermInput t)) = (told-by g view t a e l, tt)
 
   number-by : (a : ℕ) (e : ℤ) → e ≤ℤ d → (o : Option ℕ) → Each By (number_facts a e o)
   number-by a e l None = tt
@@ -66,39 +85,53 @@ module _ (d : ℤ) where
   inputs-by f n h =
       three-by (f (slice_get n.inputs 0)) (f (slice_get n.inputs 1)) (f (slice_get n.inputs 2)) (h (slice_get n.inputs 0)) (h (slice_get n.inputs 1)) (h (slice_get n.inputs 2))
 
-  entry-by : (n : Node) (e : ℤ) → e ≤ℤ d → (b : ℕ) → Each By (entry_facts n e b)
-  entry-by n e l b = three-by (number_facts b e n.mask) (number_facts b e n.group) (over_inputs (facts_now b e) n) (number-by b e l n.mask) (number-by b e l n.group) (inputs-by (facts_now b e) n (now-by b e l))
+  entry-by : (g : Graph) (n : Node) (e : ℤ) → e ≤ℤ d → (b : ℕ) → Each By (entry_facts g n e b)
+  entry-by g n e l b =
+      three-by (number_facts b e n.mask) (number_facts b e n.group) (over_inputs (facts_now g Own b e) n) (number-by b e l n.mask) (number-by b e l n.group)
+      (inputs-by (facts_now g Own b e) n (now-by g Own b e (own-by e d l)))
 
   module _ (w : World) (p : Pipeline) (r : Reading) where
-    kind-by : (n : Node) (k : Kind) (a : ℕ) (e : ℤ) → e ≤ℤ d → Each By (kind_facts w n k a e)
-    kind-by n (Window k) a e l = inputs-by (window_facts n.window a e) n (window-by n.window a e l)
-    kind-by n (Point k) a e l = inputs-by (facts_now a e) n (now-by a e l)
-    kind-by n (LabelTest k) a e l = inputs-by (facts_now a e) n (now-by a e l)
-    kind-by n (Cross k) a e l = each_in_flat By (entry_facts n e) (living_sids w e) (each_all _ (living_sids w e) (entry-by n e l))
-    kind-by n (Downsample f) a e l =
-        let start : period_start f w.days e ≤ℤ e = start-within f w.days e in
-        let by : period_start f w.days e ≤ℤ d = omega (arith, ints) in
-        inputs-by (facts_now a (period_start f w.days e)) n (now-by a (period_start f w.days e) by)
-    kind-by n k a e l = tt
+    abbrev g : Graph
+    g = p.graph
 
-    node-by : (n : Node) (a : ℕ) (e : ℤ) → e ≤ℤ d → Each By (node_facts w p r n a e)
-    node-by n a e l = living (exists w a e)
+    kind-by : (n : Node) (k : Kind) (view : View) (a : ℕ) (e : ℤ) → IsSeenBy d view e → Each By (kind_facts w g n k view a e)
+    kind-by n (Window k) view a e l =
+        let v : View = view_of (Window k) view e in
+        inputs-by (window_facts g v n.window a e) n (window-by g v n.window a e (inner-seen d w.days (Window k) view e l))
+    kind-by n (Point k) view a e l =
+        let v : View = view_of (Point k) view e in
+        inputs-by (facts_now g v a e) n (now-by g v a e (inner-seen d w.days (Point k) view e l))
+    kind-by n (LabelTest k) view a e l = inputs-by (facts_now g Own a e) n (now-by g Own a e (own-by e d (seen_by_here d view e l)))
+    kind-by n (Cross k) view a e l = each_in_flat By (entry_facts g n e) (living_sids w e) (each_all _ (living_sids w e) (entry-by g n e (seen_by_here d view e l)))
+    kind-by n (Downsample f) view a e l =
+        let start : period_start f w.days e ≤ℤ e = start-within f w.days e in
+        let here : e ≤ℤ d = seen_by_here d view e l in
+        let by : period_start f w.days e ≤ℤ d = omega (arith, ints) in
+        inputs-by (facts_now g Own a (period_start f w.days e)) n (now-by g Own a (period_start f w.days e) (own-by (period_start f w.days e) d by))
+    kind-by n k view a e l = tt
+
+    node-by : (n : Node) (view : View) (a : ℕ) (e : ℤ) → IsSeenBy d view e → Each By (node_facts w p r n view a e)
+    node-by n view a e l = living (exists w a e)
       where
-        passed : (b : Bool) → Each By (if b then kind_facts w n n.kind a e else [])
-        passed true = kind-by n n.kind a e l
+        passed : (b : Bool) → Each By (if b then kind_facts w g n n.kind view a e else [])
+        passed true = kind-by n n.kind view a e l
         passed false = tt
 
-        living : (b : Bool) → Each By (if b then number_facts a e n.mask ++ (if passes (number_read w p r n.mask) a e then kind_facts w n n.kind a e else []) else [])
-        living true = each_both By (number_facts a e n.mask) _ (number-by a e l n.mask) (passed (passes (number_read w p r n.mask) a e))
+        living : (b : Bool) → Each By (if b then number_facts a e n.mask ++ (if passes (number_read w p r n.mask) a e then kind_facts w g n n.kind view a e else []) else [])
+        living true = each_both By (number_facts a e n.mask) _ (number-by a e (seen_by_here d view e l) n.mask) (passed (passes (number_read w p r n.mask) a e))
         living false = tt
+
+    value-by : (t : ℕ) (view : View) (a : ℕ) (e : ℤ) → IsSeenBy d view e → Each By (value_facts w p r t view a e)
+    value-by t view a e l = of_node (slice_get p.graph t)
+      where
+        of_node : (o : Option Node) → Each By (unwrap_or (option_map (λ n. node_facts w p r n view a e) o) [])
+        of_node None = tt
+        of_node (Some n) = node-by n view a e l
 
     pub premises-by : (f : Fact) → IsBy d f → Each By (premises w p r f)
     premises-by (Seen c a s e) h = tt
-    premises-by (TermValue t a e) h = of_node (slice_get p.graph t)
-      where
-        of_node : (o : Option Node) → Each By (unwrap_or (option_map (λ n. node_facts w p r n a e) o) [])
-        of_node None = tt
-        of_node (Some n) = node-by n a e h
+    premises-by (TermValue t a e) h = value-by t Own a e (own-by e d h)
+    premises-by (SeenValue t a s e) h = value-by t (From e) a s (record { from = h.0; by = h.1 })
 
 -- ---- two worlds
 
@@ -108,29 +141,36 @@ module _ (w v : World) (d day : ℤ) (ok : IsWorld w) (ok' : IsWorld v) (agree :
   pub value-same : (t a : ℕ) (e : ℤ) → e ≤ℤ d → value_of w p t a e ≡ value_of v p t a e
   value-same t a e l = law.values_agree w v d day ok ok' agree p.names (term_at p.graph t) a e l
 
+  pub seen-same : (t a : ℕ) (s e : ℤ) → s ≤ℤ e → e ≤ℤ d → seen w p.names (term_at p.graph t) (From e) a s ≡ seen v p.names (term_at p.graph t) (From e) a s
+  seen-same t a s e from by = law.seen_agree w v d day ok ok' agree p.names (term_at p.graph t) (From e) a s (record { from = from; by = by })
+
   -- what a code stands for is the value of the term
-  read-same : (t a : ℕ) (e : ℤ) → e ≤ℤ d → term_read w p (number_in w p) t a e ≡ term_read v p (number_in v p) t a e
+  read-same : (t a : ℕ) (e : ℤ) → e ≤ℤ d → term_read w p (number_in w p) Own t a e ≡ term_read v p (number_in v p) Own t a e
   read-same t a e l = kept w coded p.names (term_at p.graph t) a e ∙ value-same t a e l ∙ sym (kept v coded' p.names (term_at p.graph t) a e)
 
   passes-same : (o : Option ℕ) (a : ℕ) (e : ℤ) → e ≤ℤ d → passes (number_read w p (number_in w p) o) a e ≡ passes (number_read v p (number_in v p) o) a e
   passes-same None a e l = refl
   passes-same (Some t) a e l = ap holds (read-same t a e l)
 
-  kind-same : (n : Node) (k : Kind) (a : ℕ) (e : ℤ) → e ≤ℤ d → kind_facts w n k a e ≡ kind_facts v n k a e
-  kind-same n (Cross k) a e l = ap (flat_map (entry_facts n e)) (law.living_same w v d day ok ok' agree e l)
-  kind-same n (Downsample f) a e l = ap (λ s. over_inputs (facts_now a s) n) (reads_at-same w.days v.days d (λ i h. agree.days (pos i) h) (Downsample f) e l)
-  kind-same n k a e l = refl
+  kind-same : (n : Node) (k : Kind) (view : View) (a : ℕ) (e : ℤ) → e ≤ℤ d → kind_facts w p.graph n k view a e ≡ kind_facts v p.graph n k view a e
+  kind-same n (Cross k) view a e l = ap (flat_map (entry_facts p.graph n e)) (law.living_same w v d day ok ok' agree e l)
+  kind-same n (Downsample f) view a e l = ap (λ s. over_inputs (facts_now p.graph Own a s) n) (reads_at-same w.days v.days d (λ i h. agree.days (pos i) h) (Downsample f) e l)
+  kind-same n k view a e l = refl
 
-  node-same : (n : Node) (a : ℕ) (e : ℤ) → e ≤ℤ d → node_facts w p (number_in w p) n a e ≡ node_facts v p (number_in v p) n a e
-  node-same n a e l = rw (agree.lifetimes a e l, passes-same n.mask a e l, kind-same n n.kind a e l) refl
+  node-same : (n : Node) (view : View) (a : ℕ) (e : ℤ) → e ≤ℤ d → node_facts w p (number_in w p) n view a e ≡ node_facts v p (number_in v p) n view a e
+  node-same n view a e l = rw (agree.lifetimes a e l, passes-same n.mask a e l, kind-same n n.kind view a e l) refl
+
+  facts-same : (t : ℕ) (view : View) (a : ℕ) (e : ℤ) → e ≤ℤ d → value_facts w p (number_in w p) t view a e ≡ value_facts v p (number_in v p) t view a e
+  facts-same t view a e l = of_node (slice_get p.graph t)
+    where
+      of_node : (o : Option Node) → unwrap_or (option_map (λ n. node_facts w p (number_in w p) n view a e) o) [] ≡ unwrap_or (option_map (λ n. node_facts v p (number_in v p) n view a e) o) []
+      of_node None = refl
+      of_node (Some n) = node-same n view a e l
 
   premises-same : (f : Fact) → IsBy d f → premises w p (number_in w p) f ≡ premises v p (number_in v p) f
   premises-same (Seen c a s e) h = refl
-  premises-same (TermValue t a e) h = of_node (slice_get p.graph t)
-    where
-      of_node : (o : Option Node) → unwrap_or (option_map (λ n. node_facts w p (number_in w p) n a e) o) [] ≡ unwrap_or (option_map (λ n. node_facts v p (number_in v p) n a e) o) []
-      of_node None = refl
-      of_node (Some n) = node-same n a e h
+  premises-same (TermValue t a e) h = facts-same t Own a e h
+  premises-same (SeenValue t a s e) h = facts-same t (From e) a s (let from : s ≤ℤ e = h.0 in let by : e ≤ℤ d = h.1 in omega (arith, ints))
 
   -- ---- walks
 
@@ -211,7 +251,14 @@ module _ (w v : World) (d day : ℤ) (ok : IsWorld w) (ok' : IsWorld v) (agree :
       ap (λ x. ValueLine t a x (in_array w.texts (value_of w p t a e)) (known_day w p (TermValue t a e))) (date-same e h)
       ∙ ap (λ x. ValueLine t a (date_of v e) (in_array w.texts x) (known_day w p (TermValue t a e)))
       (value-same t a e h ∙ sym (kept v coded' p.names (term_at p.graph t) a e))
-      ∙ ap (ValueLine t a (date_of v e) (in_array w.texts (term_read v p (number_in v p) t a e))) (known-same t a e h)
+      ∙ ap (ValueLine t a (date_of v e) (in_array w.texts (term_read v p (number_in v p) Own t a e))) (known-same t a e h)
+  line-same (SeenValue t a s e) h =
+      let from : s ≤ℤ e = h.0 in
+      let by : e ≤ℤ d = h.1 in
+      let x : Value = seen w p.names (term_at p.graph t) (From e) a s in
+      ap (λ y. SeenValueLine t a y (date_of w e) (in_array w.texts x)) (date-same s (omega (arith, ints)))
+      ∙ ap (λ y. SeenValueLine t a (date_of v s) y (in_array w.texts x)) (date-same e by)
+      ∙ ap (λ y. SeenValueLine t a (date_of v s) (date_of v e) (in_array w.texts y)) (seen-same t a s e from by ∙ sym (seen_kept v coded' p.names (term_at p.graph t) (From e) a s))
 
   -- the same lines, with codes of the first world
   pub lines-same : (t a : ℕ) (e : ℤ) → e ≤ℤ d → derivation w p t a e ≡ map (recoded p v.texts w.texts) (derivation v p t a e)
@@ -227,13 +274,22 @@ module _ (w v : World) (d day : ℤ) (ok : IsWorld w) (ok' : IsWorld v) (agree :
       maps g h (x ∷ xs) = ap (λ l. g (h x) ∷ l) (maps g h xs)
 
   -- and the same bytes where values have the same codes
-  module _ (codes : (t a : ℕ) (e : ℤ) → e ≤ℤ d → in_array w.texts (value_of w p t a e) ≡ in_array v.texts (value_of w p t a e)) where
+  module _ (codes : (t a : ℕ) (e : ℤ) → e ≤ℤ d → in_array w.texts (value_of w p t a e) ≡ in_array v.texts (value_of w p t a e))
+      (seen_codes : (t a : ℕ) (s e : ℤ) → s ≤ℤ d → in_array w.texts (seen w p.names (term_at p.graph t) (From e) a s) ≡ in_array v.texts (seen w p.names (term_at p.graph t) (From e) a s)) where
     line-one : (f : Fact) → IsBy d f → line_for w p f ≡ line_for v p f
     line-one (Seen c a s e) h = line-same (Seen c a s e) h
     line-one (TermValue t a e) h =
         ap (λ x. ValueLine t a x (in_array w.texts (value_of w p t a e)) (known_day w p (TermValue t a e))) (date-same e h)
         ∙ ap (λ x. ValueLine t a (date_of v e) x (known_day w p (TermValue t a e))) (codes t a e h ∙ ap (in_array v.texts) (value-same t a e h))
         ∙ ap (ValueLine t a (date_of v e) (in_array v.texts (value_of v p t a e))) (known-same t a e h)
+    line-one (SeenValue t a s e) h =
+        let from : s ≤ℤ e = h.0 in
+        let by : e ≤ℤ d = h.1 in
+        let here : s ≤ℤ d = omega (arith, ints) in
+        let x : Value = seen w p.names (term_at p.graph t) (From e) a s in
+        ap (λ y. SeenValueLine t a y (date_of w e) (in_array w.texts x)) (date-same s here)
+        ∙ ap (λ y. SeenValueLine t a (date_of v s) y (in_array w.texts x)) (date-same e by)
+        ∙ ap (SeenValueLine t a (date_of v s) (date_of v e)) (seen_codes t a s e here ∙ ap (in_array v.texts) (seen-same t a s e from by))
 
     pub lines-one : (t a : ℕ) (e : ℤ) → e ≤ℤ d → derivation w p t a e ≡ derivation v p t a e
     lines-one t a e l =

@@ -36,7 +36,7 @@ use Rattle.pl_lookahead.proofs.Held.{days-are, held-once}
 use Rattle.pl_lookahead.proofs.Known.{seen-alike}
 use Rattle.pl_lookahead.proofs.Readable.{AreRead, data-read, date-found, first-none, records_in}
 use Rattle.pl_lookahead.proofs.Records.{known-without, known-permuted}
-use Rattle.pl_lookahead.proofs.SameCodes.{code-same}
+use Rattle.pl_lookahead.proofs.SameCodes.{code-same, seen-code-same}
 use Rattle.pl_lookahead.proofs.Texts.{changes-same, ended-well, place-at}
 
 -- ---- label texts that were read have codes
@@ -160,7 +160,7 @@ module _ (one other : Contents) (q r : ExplainRequest) (d : ℕ) (day : ℤ) (as
   lines-one codes =
       first-lines
       ∙ walks.lines-one w v (pos d) day first-world second-world seen record-same p (world-coded one q is.read) (world-coded other r is'.read)
-      (code-same w v d day first-world agree.rows.is_day (world-coded one q is.read) p codes)
+      (code-same w v d day first-world agree.rows.is_day (world-coded one q is.read) p codes) (seen-code-same w v d day first-world agree.rows.is_day (world-coded one q is.read) p codes)
       (term_asked p q) q.sid (pos is.at) (let l : is.at ≤ d = at-by in omega (arith, ints))
       ∙ second-lines
 

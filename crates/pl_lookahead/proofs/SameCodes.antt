@@ -7,12 +7,12 @@ use Rattle.pl_spec.specs.World.{World, IsWorld, LabelRow, exists}
 use Rattle.pl_spec.proofs.Finds.{filter-contains}
 use Rattle.pl_spec.proofs.Members.{in-contains, contains-in, in-map, map-in}
 use Rattle.pl_pipeline.specs.Kind.{Kind}
-use Rattle.pl_pipeline.specs.Kind.Kind.{Label, Downsample}
+use Rattle.pl_pipeline.specs.Kind.Kind.{Label, Window, Point, Downsample}
 use Rattle.pl_pipeline.specs.Term.{Term, term_at}
 use Rattle.pl_pipeline.specs.Term.Term.{absent, column, node}
 use Rattle.pl_pipeline.specs.Table.{Pipeline, value_of, in_array}
 use Rattle.pl_pipeline.specs.Text.{kind_at}
-use Rattle.pl_pipeline.specs.Value.{Value, part_of, value_of_part, passes, sort_kind, kind_value, empty, value, seen}
+use Rattle.pl_pipeline.specs.Value.{Value, part_of, value_of_part, passes, sort_kind, kind_value, empty, From, value, seen, is_steady}
 use Rattle.pl_pipeline.specs.Value.Value.{Number, Text}
 use Rattle.pl_laws.proofs.AsOf as as_of
 use Rattle.pl_laws.proofs.Law as law
@@ -22,7 +22,8 @@ use Rattle.pl_cross.proofs.Codes.{IsCoded}
 use Rattle.pl_cross.proofs.LabelCodes.{labels-coded}
 use Rattle.pl_derivation.specs.Facts.{value_from}
 use Rattle.pl_lookahead.specs.Derivations.{HaveSameCodes}
-use Rattle.pl_derivation.proofs.Codes.{kept}
+use Rattle.pl_derivation.proofs.Codes.{kept, seen_kept}
+use Rattle.pl_pipeline.proofs.Steady.{steady-own}
 
 -- ---- a label is of a record that has started
 
@@ -45,6 +46,14 @@ module _ (w : World) (coded : HasTexts w) (names : List (List ℕ)) where
       now (column c) h = inl refl
       now (node q size x y z k g) h = h
   label-coded (node q size x y z k g) n e a d = absurd (cc (e))
+
+-- and is the same from wherever it is seen
+label-steady : (x : Term) (n : ℕ) → sort_kind x ≡ Label n → is_steady x ≡ true
+label-steady absent n e = refl
+label-steady (column c) n e = refl
+label-steady (node (Window k) size x y z m g) n e = absurd (cc (e))
+label-steady (node (Point k) size x y z m g) n e = absurd (cc (e))
+label-steady (node k size x y z m g) n e = refl
 
 module _ (w : World) (d : ℕ) (day : ℤ) (ok : IsWorld w) (is_day : slice_get w.days d ≡ Some day) (names : List (List ℕ)) where
   abbrev texts : List (List ℕ)
@@ -99,3 +108,15 @@ module _ (w v : World) (d : ℕ) (day : ℤ) (ok : IsWorld w) (is_day : slice_ge
       of_kind : (k : Kind) → kind_at p.graph t ≡ k → value_from w.texts k (in_array w.texts (value_of w p t a e)) ≡ value_of w p t a e → in_array w.texts (value_of w p t a e) ≡ in_array v.texts (value_of w p t a e)
       of_kind (Label n) is s = of_text n is (label-started w d day ok is_day p.names (term_at p.graph t) n is a e l)
       of_kind k is s = number _ s
+
+  -- and so has what it is seen as
+  pub seen-code-same : (t a : ℕ) (s e : ℤ) → s ≤ℤ pos d
+      → in_array w.texts (seen w p.names (term_at p.graph t) (From e) a s) ≡ in_array v.texts (seen w p.names (term_at p.graph t) (From e) a s)
+  seen-code-same t a s e l = of_kind (kind_at p.graph t) refl (seen_kept w coded p.names (term_at p.graph t) (From e) a s)
+    where
+      of_kind : (k : Kind) → kind_at p.graph t ≡ k → value_from w.texts k (in_array w.texts (seen w p.names (term_at p.graph t) (From e) a s)) ≡ seen w p.names (term_at p.graph t) (From e) a s
+          → in_array w.texts (seen w p.names (term_at p.graph t) (From e) a s) ≡ in_array v.texts (seen w p.names (term_at p.graph t) (From e) a s)
+      of_kind (Label n) is h =
+          let own = steady-own w p.names (term_at p.graph t) (label-steady (term_at p.graph t) n is) (From e) a s in
+          ap (in_array w.texts) own ∙ code-same t a s l ∙ sym (ap (in_array v.texts) own)
+      of_kind k is h = sym (ap (in_array w.texts) h) ∙ ap (in_array v.texts) h

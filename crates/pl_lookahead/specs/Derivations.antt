@@ -8,7 +8,7 @@ use Rattle.pl_pipeline.specs.Text.{kind_at}
 use Rattle.pl_pipeline.specs.Value.Value.{Text}
 use Rattle.pl_derivation.specs.Facts.{value_from}
 use Rattle.pl_derivation.specs.Lines.{Line}
-use Rattle.pl_derivation.specs.Lines.Line.{SeenLine, ValueLine}
+use Rattle.pl_derivation.specs.Lines.Line.{SeenLine, ValueLine, SeenValueLine}
 use Rattle.pl_derivation.specs.Texts as texts
 use Rattle.pl_derivation.specs.Walks.{derivation}
 use Rattle.pl_words.specs.Request.{Explain, ExplainRequest}
@@ -28,6 +28,8 @@ abbrev pub recoded : Pipeline → List (List ℕ) → List (List ℕ) → Line �
 recoded p old new (SeenLine c a bar day cells) = SeenLine c a bar day cells
 recoded p old new (ValueLine t a day x known) =
     ValueLine t a day (in_array new (value_from old (kind_at p.graph t) x)) known
+recoded p old new (SeenValueLine t a own day x) =
+    SeenValueLine t a own day (in_array new (value_from old (kind_at p.graph t) x))
 
 -- the world of the cell that is asked for, and the lines of its derivation
 abbrev pub world_asked : Contents → ExplainRequest → World

@@ -29,8 +29,8 @@ use Rattle.pl_world.specs.declared.world.World.{World}
 use Rattle.pl_world.specs.Worlds.{world_of}
 use Rattle.pl_world.specs.Evaluations.{as_input, IsAsked, IsAskedInput}
 use Rattle.pl_model.specs.Costs.{Cost, cost, window_cost, session_cost, kind_cost, cost_in, input_cost_in, input_cost_at, window_cost_in, input_row_cost_in, optional_cost_in, given_cost_of}
-use Rattle.pl_model.specs.Views.{view_at, window_view, operand_view}
-use Rattle.pl_model.proofs.Views.{window-view, operand-view}
+use Rattle.pl_world.specs.Views.{view_at, window_view, operand_view}
+use Rattle.pl_world.proofs.Views.{window-view, operand-view}
 use Rattle.pl_world.proofs.Asked.{inputs-at, has-node, first-asked, second-asked, third-asked}
 
 -- ---- sums

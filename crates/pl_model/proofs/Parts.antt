@@ -12,7 +12,7 @@ use Rattle.pl_spec.specs.Periods.{period_start}
 use Rattle.pl_pipeline.specs.Pointwise.{label_test}
 use Rattle.pl_spec.specs.Rounding.{IsCell, is_missing}
 use Rattle.pl_pipeline.specs.Term.{term_at}
-use Rattle.pl_pipeline.specs.Value.{Own, view_of, keeps_point, number_of as number_in, empty, sort_kind, name_at}
+use Rattle.pl_pipeline.specs.Value.{Own, number_of as number_in, empty, sort_kind, name_at}
 use Rattle.pl_spec.specs.World.{exists, known_number, label_at}
 use Rattle.pl_spec.specs.declared.Figure.{Figure}
 use Rattle.pl_pipeline.proofs.Cells.{zero-cell, truth-cell, chosen-cell, empty-cell}
@@ -21,30 +21,28 @@ use Rattle.pl_terms.specs.declared.node.Input.{Input}
 use Rattle.pl_terms.specs.declared.node.Input.TheVariants as input
 use Rattle.pl_terms.specs.declared.node.Node.{Node}
 use Rattle.pl_terms.specs.Kinds.{kind_of}
-use Rattle.pl_terms.specs.Nodes.{graph_of, node_of, input_of, number_of}
+use Rattle.pl_terms.specs.Nodes.{graph_of, node_of, number_of}
 use Rattle.pl_terms.specs.Checked.{Parts, pipeline_of, IsChecked}
 use Rattle.pl_terms.specs.Sorts.{is_windowed}
-use Rattle.pl_terms.proofs.Graphs.{graph-at}
 use Rattle.pl_pointwise.specs.Operands.{IsOperation, AreOperands, operation}
 use Rattle.pl_cross.specs.Arrays.{HasTexts}
 use Rattle.pl_cross.specs.Section.{is_section}
-use Rattle.pl_values.specs.Arrays.{cell_of, empty_cell, is_kept, chosen}
-use Rattle.pl_values.specs.Views.{seen_of, input_seen, operand_seen, keeps_kind, AreWindowsSeen}
+use Rattle.pl_values.specs.Arrays.{is_kept}
+use Rattle.pl_values.specs.Views.{keeps_kind}
 use Rattle.pl_terms.specs.declared.row.Family.TheVariants as family
 use Rattle.pl_values.specs.Families.{IsOf, IsCode, TakesWindows, windowed, sid_flag, label_code, code_flag, is_point}
-use Rattle.pl_values.specs.Laws.{IsNode}
-use Rattle.pl_values.proofs.Viewed.{unkept-seen, kept-cell, seen-window-cell, seen-point-cell}
 use Rattle.pl_world.specs.declared.world.World.{World}
 use Rattle.pl_world.specs.Worlds.{world_of}
 use Rattle.pl_world.specs.Evaluations.{IsAsked, HasKind, as_input, lets_pass, cell_in, input_cell_in, IsAskedInput, IsAskedOption, above, above_option}
-use Rattle.pl_world.proofs.Asked.{inputs-at, first-asked, second-asked, third-asked, start-asked, mask-asked, group-asked, input-below, mask-below, group-below, window-one}
-use Rattle.pl_world.proofs.Evaluated.{windowed-is, point-is, label-test-is, section-is, sids-is, kept-mask, window-early, constant-given, sid-given, label-given, number-given, label-test-given, start-given, point-given, downsampled-plain}
+use Rattle.pl_world.proofs.Asked.{first-asked, second-asked, third-asked, start-asked, mask-asked, group-asked, input-below, mask-below, group-below, window-one}
+use Rattle.pl_world.proofs.Evaluated.{windowed-is, point-is, label-test-is, section-is, sids-is, kept-mask, window-early, constant-given, sid-given, label-given, number-given, label-test-given, start-given, downsampled-plain}
 use Rattle.pl_model.specs.declared.evaluation.Request.{Request}
 use Rattle.pl_model.specs.Costs.{cost_in, input_cost_in, window_cost_in, row_cost_in, input_row_cost_in, optional_cost_in, given_cost_of}
 use Rattle.pl_model.specs.Requests.{IsRequestOf, IsKeptFor, asset_of, asked_cell, asked_cost, given_cost, IsRequest}
 use Rattle.pl_model.specs.Gives.{IsCellOf, AreCellsOf, IsVerdict}
-use Rattle.pl_model.specs.Views.{view_at, window_view, operand_view, seen_in, input_seen_in, window_seen_in}
-use Rattle.pl_model.proofs.Views.{window-view, window-seen-from, operand-seen-from, own-cell, own-input}
+use Rattle.pl_world.specs.Views.{window_view, operand_view, seen_in, input_seen_in, window_seen_in}
+use Rattle.pl_world.proofs.Views.{window-seen-from, operand-seen-from, own-cell, own-input}
+use Rattle.pl_world.proofs.Seen.{seen-unkept, seen-stays, seen-windows, seen-point}
 use Rattle.pl_model.proofs.Costs.{cost-lacks, cost-barred, cost-kept, start-cost}
 
 -- three inputs are evaluated one after the other
@@ -70,13 +68,6 @@ held worth steps old new x fits h = subst (IsCellOf worth steps old new) (sym (t
 
 pub asked-of : (r : Request) (n : Node) (ns : List Node) → IsRequest r → ns ≡ r.checked.now.graph → slice_get ns r.term.0 ≡ Some n → IsRequestOf r n
 asked-of r n ns h e is = record { request = h; node = ap (λ ms. slice_get ms r.term.0) (sym e) ∙ is }
-
-operand-read : (w : World) (p : Parts) (o : Option Input) (from : Option ℕ) (a s : ℕ)
-    → input_seen_in w p o from a s ≡ operand_seen (world_of w) (pipeline_of p) (a ∷ []) (option_map input_of o) (view_at from) 0 s
-unfolding seen_of
-operand-read w p None from a s = refl
-operand-read w p (Some (input.Column k)) from a s = refl
-operand-read w p (Some (input.Term u)) from a s = refl
 
 module _ (r : Request) (n : Node) (h : IsRequestOf r n) where
   abbrev w : World
@@ -216,23 +207,15 @@ module _ (r : Request) (n : Node) (h : IsRequestOf r n) where
   abbrev none : ℤ
   none = number_in (empty (sort_kind (term_at (graph_of p.graph) t)))
 
-  own : IsNode (pipeline_of p) t (node_of n)
-  own = record { checked = ok; node = graph-at p.graph t n h.node }
-
-  unkept : is_kept (world_of w) (pipeline_of p) (a ∷ []) (option_map number_of n.mask) 0 s ≡ false → asked_cell r ≡ none
-  unfolding seen_of node_of
-  unkept e = unkept-seen (world_of w) (pipeline_of p) (a ∷ []) t (node_of n) 0 s own (view_at view) e
-
   -- what keeps its values is seen as it is
   stays : keeps_kind (kind_of n.kind) ≡ true → cell_in w p t a s ≡ asked_cell r
-  unfolding seen_of cell_of node_of
-  stays e = sym (kept-cell (world_of w) (pipeline_of p) (a ∷ []) t (node_of n) 0 s own (view_at view) e)
+  stays e = seen-stays w p ok t n h.node a s view e
 
   pub barred : (x : ℤ) (b : Bool) (old new : ℕ) → IsVerdict r n old new b → b ≡ false → x ≡ none → IsCellOf (asked_cell r) (asked_cost r) old new x
   barred x b old new v f e =
       let gone = sym v.value ∙ f in
       record {
-        value = e ∙ sym (unkept gone);
+        value = e ∙ sym (seen-unkept w p ok t n h.node a s view gone);
         cell = subst IsCell (sym e) (empty-cell (sort_kind (term_at (graph_of p.graph) t)));
         cost = v.cost ∙ ap (λ k. old + k) (sym (cost-barred w p ok t s may n h.node a view gone));
       }
@@ -258,58 +241,6 @@ module _ (r : Request) (n : Node) (h : IsRequestOf r n) where
   rows-taken old one two new u kind own first second third =
       let f = section-is (kind_of n.kind) (kind n h.node) in
       thrice old one two new _ _ _ _ _ _ total first second third (ap (λ o. input_row_cost_in w p o s) (sym own)) refl refl (of_kind (kinds.Cross f.0) f.1)
-
-  -- ---- what a kind gives over what it sees
-
-  module _ (kept : IsKeptFor r) where
-    chosen-is : (x : ℤ) → seen_of (world_of w) (pipeline_of p) (a ∷ []) t (view_at view) 0 s ≡ chosen (is_kept (world_of w) (pipeline_of p) (a ∷ []) (node_of n).mask 0 s) x (empty_cell (pipeline_of p) t) → x ≡ asked_cell r
-    unfolding seen_of node_of
-    chosen-is x e = sym (e ∙ ap (λ b. chosen b x (empty_cell (pipeline_of p) t)) (kept n h.node))
-
-    pub window-law : (x y z : List ℤ) (f : WindowKind) → kind_of n.kind ≡ kinds.Window f → n.window ≤ s + 1
-        → AreWindowsSeen (world_of w) (pipeline_of p) (a ∷ []) (node_of n) (view_of (kind_of n.kind) (view_at view) (pos s)) 0 s x y z
-        → TakesWindows (kind_of n.kind) x y z × (windowed (kind_of n.kind) x y z ≡ asked_cell r)
-    unfolding node_of
-    window-law x y z f e early g =
-        let l = seen-window-cell (world_of w) (pipeline_of p) (a ∷ []) t (node_of n) 0 s own f (view_at view) x y z e early g in
-        (l.0, chosen-is _ l.1)
-
-    -- an operation that keeps its values is of own values, and another of what is seen from where it is seen
-    pub point-law : (f : PointKind) → kind_of n.kind ≡ kinds.Point f → (x y z : ℤ)
-        → x ≡ input_seen_in w p (slice_get n.inputs 0) (operand_view (kind_of n.kind) view) a s
-        → y ≡ input_seen_in w p (slice_get n.inputs 1) (operand_view (kind_of n.kind) view) a s
-        → z ≡ input_seen_in w p (slice_get n.inputs 2) (operand_view (kind_of n.kind) view) a s
-        → IsCell x → IsCell y → IsCell z
-        → IsOperation (kind_of n.kind) × AreOperands (kind_of n.kind) (x ∷ []) (y ∷ []) (z ∷ []) 1 × (operation (kind_of n.kind) x y z ≡ asked_cell r)
-    unfolding node_of
-    point-law f e x y z xe ye ze xc yc zc = here (keeps_point f) refl
-      where
-        of_kind_is : (b : Bool) → keeps_point f ≡ b → operand_view (kind_of n.kind) view ≡ cond b None view
-        of_kind_is b q = ap (λ k. operand_view k view) e ∙ ap (λ c. cond c None view) q
-
-        moved : (o : Option Input) (m : ℕ) (q : ℤ) (from : Option ℕ) → o ≡ slice_get n.inputs m → q ≡ input_seen_in w p o from a s
-            → q ≡ operand_seen (world_of w) (pipeline_of p) (a ∷ []) (slice_get (node_of n).inputs m) (view_at from) 0 s
-        moved o m q from is v = v ∙ operand-read w p o from a s ∙ ap (λ i. operand_seen (world_of w) (pipeline_of p) (a ∷ []) i (view_at from) 0 s) (ap (option_map input_of) is ∙ sym (inputs-at n m))
-
-        here : (b : Bool) → keeps_point f ≡ b
-            → IsOperation (kind_of n.kind) × AreOperands (kind_of n.kind) (x ∷ []) (y ∷ []) (z ∷ []) 1 × (operation (kind_of n.kind) x y z ≡ asked_cell r)
-        here true q =
-            let none = of_kind_is true q in
-            let plain = λ (o : Option Input) (v : ℤ) (g : v ≡ input_seen_in w p o (operand_view (kind_of n.kind) view) a s). g ∙ ap (λ c. input_seen_in w p o c a s) none ∙ own-input w p o a s in
-            let l = point-given w p ok t n h.node a s kept (ap is_point e) x y z (plain _ x xe) (plain _ y ye) (plain _ z ze) xc yc zc in
-            (l.0, l.1, l.2 ∙ stays (ap keeps_kind e ∙ q))
-        here false q =
-            let same = of_kind_is false q in
-            let seen = λ (m : ℕ) (v : ℤ) (g : v ≡ input_seen_in w p (slice_get n.inputs m) (operand_view (kind_of n.kind) view) a s). moved (slice_get n.inputs m) m v view refl (g ∙ ap (λ c. input_seen_in w p (slice_get n.inputs m) c a s) same) in
-            let l = seen-point-cell (world_of w) (pipeline_of p) (a ∷ []) t (node_of n) 0 s own f (view_at view) x y z e q (record {
-              first = seen 0 x xe;
-              second = seen 1 y ye;
-              third = seen 2 z ze;
-              first_cell = xc;
-              second_cell = yc;
-              third_cell = zc;
-            }) in
-            (l.0, l.1, chosen-is _ l.2)
 
   pub section-stays : is_section (kind_of n.kind) ≡ true → cell_in w p t a s ≡ asked_cell r
   section-stays e = stays (ap keeps_kind (section-is (kind_of n.kind) e).1)
@@ -378,34 +309,14 @@ module _ (r : Request) (n : Node) (h : IsRequestOf r n) where
           let f = windowed-is (kind_of n.kind) kind in
           let taken = λ (o : Option Input). window_cost_in w p n.window o from a s in
           let early = window-early p ok t n h.node w s kind (first-asked w p ok t s may n h.node) in
-          let given = windows-seen x y z f.0 f.1 early xs ys zs in
+          let seen = λ (o : Option Input). window_seen_in w p n.window o from a s in
+          let given = seen-windows w p ok t n h.node a s view kept f.0 f.1 (window_view (kind_of n.kind) view s) refl early x y z
+          (xs.value ∙ ap seen first) (ys.value ∙ ap seen second) (zs.value ∙ ap seen third) xs.cells ys.cells zs.cells in
           (given.0, given.1, thrice old one two new _ _ _ _ _ _ total xs.cost ys.cost zs.cost (ap taken first) (ap taken second) (ap taken third) (same-cost f.0 f.1))
         where
-          inner : (f : WindowKind) → kind_of n.kind ≡ kinds.Window f → view_at from ≡ view_of (kind_of n.kind) (view_at view) (pos s)
-          inner f e = ap (λ q. view_at (Some (window_view q view s))) e ∙ sym (window-view f view s) ∙ ap (λ q. view_of q (view_at view) (pos s)) (sym e)
-
           same-cost : (f : WindowKind) → kind_of n.kind ≡ kinds.Window f
               → total ≡ window_cost_in w p n.window (slice_get n.inputs 0) from a s + window_cost_in w p n.window (slice_get n.inputs 1) from a s + window_cost_in w p n.window (slice_get n.inputs 2) from a s
           same-cost f e = rw e refl
-
-          at : (f : WindowKind) → kind_of n.kind ≡ kinds.Window f → (m : ℕ) (o : Option Input) → o ≡ slice_get n.inputs m
-              → window_seen_in w p n.window o from a s ≡ input_seen (world_of w) (pipeline_of p) (a ∷ []) n.window (slice_get (node_of n).inputs m) (view_of (kind_of n.kind) (view_at view) (pos s)) 0 s
-          at f e m o is =
-              ap (λ q. input_seen (world_of w) (pipeline_of p) (a ∷ []) n.window (option_map input_of o) q 0 s) (inner f e)
-              ∙ ap (λ q. input_seen (world_of w) (pipeline_of p) (a ∷ []) n.window q (view_of (kind_of n.kind) (view_at view) (pos s)) 0 s) (ap (option_map input_of) is ∙ sym (inputs-at n m))
-
-          windows-seen : (x y z : List ℤ) (f : WindowKind) → kind_of n.kind ≡ kinds.Window f → n.window ≤ s + 1 → AreCellsOf (window_seen_in w p n.window i from a s) (window_cost_in w p n.window i from a s) old one x
-              → AreCellsOf (window_seen_in w p n.window j from a s) (window_cost_in w p n.window j from a s) one two y
-              → AreCellsOf (window_seen_in w p n.window k from a s) (window_cost_in w p n.window k from a s) two new z
-              → TakesWindows (kind_of n.kind) x y z × (windowed (kind_of n.kind) x y z ≡ asked_cell r)
-          windows-seen x y z f e early xs ys zs = window-law kept x y z f e early (record {
-            first = xs.value ∙ at f e 0 i first;
-            second = ys.value ∙ at f e 1 j second;
-            third = zs.value ∙ at f e 2 k third;
-            first_cells = xs.cells;
-            second_cells = ys.cells;
-            third_cells = zs.cells;
-          })
 
       pub windows-read : (v : ℕ) → v ≡ window_view (kind_of n.kind) view s → (x y z : List ℤ) → HasKind p t is_windowed
           → AreCellsOf (window_seen_in w p n.window i (Some v) a s) (window_cost_in w p n.window i (Some v) a s) old one x
@@ -424,7 +335,8 @@ module _ (r : Request) (n : Node) (h : IsRequestOf r n) where
           let kind = has n h.node in
           let f = point-is (kind_of n.kind) kind in
           let taken = λ (o : Option Input). input_cost_in w p o of a s in
-          let given = point-law kept f.0 f.1 x y z (xs.value ∙ ap (λ o. input_seen_in w p o of a s) first) (ys.value ∙ ap (λ o. input_seen_in w p o of a s) second) (zs.value ∙ ap (λ o. input_seen_in w p o of a s) third) xs.cell ys.cell zs.cell in
+          let seen = λ (o : Option Input). input_seen_in w p o of a s in
+          let given = seen-point w p ok t n h.node a s view kept f.0 f.1 of refl x y z (xs.value ∙ ap seen first) (ys.value ∙ ap seen second) (zs.value ∙ ap seen third) xs.cell ys.cell zs.cell in
           ((given.0, given.1), given.2, thrice old one two new _ _ _ _ _ _ total xs.cost ys.cost zs.cost (ap taken first) (ap taken second) (ap taken third) (same-cost f.0 f.1))
         where
           same-cost : (f : PointKind) → kind_of n.kind ≡ kinds.Point f

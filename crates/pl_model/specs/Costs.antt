@@ -18,7 +18,7 @@ use Rattle.pl_terms.specs.Checked.{Parts, pipeline_of}
 use Rattle.pl_world.specs.declared.world.World.{World}
 use Rattle.pl_world.specs.Worlds.{world_of}
 use Rattle.pl_model.specs.WindowSteps.{window_steps}
-use Rattle.pl_model.specs.Views.{view_at, window_view, operand_view}
+use Rattle.pl_world.specs.Views.{view_at, window_view, operand_view}
 
 -- ---- the steps
 

@@ -8,7 +8,7 @@ use Rattle.pl_terms.specs.Checked.{pipeline_of, IsChecked}
 use Rattle.pl_world.specs.Evaluations.{IsAsked, IsKept}
 use Rattle.pl_model.specs.declared.evaluation.Request.{Request}
 use Rattle.pl_model.specs.Costs.{cost_in, given_cost_of}
-use Rattle.pl_model.specs.Views.{seen_in, IsSeenFrom}
+use Rattle.pl_world.specs.Views.{seen_in, IsSeenFrom}
 
 abbrev pub asset_of : Request → ℕ
 asset_of r = sid_at r.world.now.assets.now r.col

@@ -15,7 +15,7 @@ ghost use Rattle.pl_values.specs.Families.{is_point};
 ghost use Rattle.pl_world.specs.Worlds.{world_of, IsMade};
 ghost use Rattle.pl_world.specs.Evaluations.{IsAsked, IsAskedInput, IsAskedOption, HasKind, row_in, optional_row_in};
 ghost use Rattle.pl_model.specs.Costs.{cost_in, input_cost_in, window_cost_in, row_cost_in, optional_cost_in};
-ghost use Rattle.pl_model.specs.Views.{IsSeenFrom, input_seen_in, window_seen_in, operand_view, window_view};
+ghost use Rattle.pl_world.specs.Views.{IsSeenFrom, input_seen_in, window_seen_in, operand_view, window_view};
 ghost use Rattle.pl_model.specs.Requests.{IsRequest, IsRequestOf, IsKeptFor, asset_of, asked_cell, asked_cost, given_cost};
 ghost use Rattle.pl_model.specs.Gives.{IsCellOf, AreCellsOf, IsRowOf, IsVerdict};
 

@@ -24,5 +24,6 @@ pub use pipeline::{count, node_at};
 pub use planning::plan;
 pub use plans::{Plan, PlanError};
 pub use reach::reach_at;
+pub use steady::steady_terms;
 pub use text::plan_text;
 pub use uses::back_from;

@@ -48,7 +48,7 @@ fn is_still(steady: &[bool; 256], node: &Node) -> bool
 }
 
 /// Which terms keep their values, or are formulas or operations of such terms alone.
-pub(crate) fn steady_terms(graph: &Graph) -> [bool; 256]
+pub fn steady_terms(graph: &Graph) -> [bool; 256]
     ensures { AreSteady (graph_of graph.now) (length graph.now) result }
 {
     let mut steady = [false; 256];

@@ -5,6 +5,8 @@ pub mod NumbersMoved
 pub mod RevisionsMoved
 pub mod Asked
 pub mod Evaluated
+pub mod Seen
+pub mod Views
 pub mod Sections
 pub mod Windowing
 pub mod Known

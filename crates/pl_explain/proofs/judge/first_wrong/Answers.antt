@@ -1,6 +1,5 @@
 use Rattle.std.proofs.Common.{◌≤◌, ◌∙◌, take, length, is_some, ap, refl, sym, arith}
 use Rattle.pl_terms.specs.Checked.{pipeline_of}
-use Rattle.pl_terms.proofs.Steady.{checked-steady}
 use Rattle.pl_derivation.specs.Right.{is_stated}
 use Rattle.pl_derivation.proofs.Truths.{sound}
 use Rattle.pl_derivation.specs.Listed.{line_of}
@@ -28,7 +27,7 @@ returns-then-not-branch-clause-exact g c =
     let lines = c.args.derivation.now in
     let so_far = c.loop-i.invariant in
     let l = line_of c.line-line.result.now in
-    let judged = judged-right (world_of w) (pipeline_of p) c.parts_are_ready.ensures.texts c.parts_are_ready.ensures.checked.graph (checked-steady (pipeline_of p) c.parts_are_ready.ensures.checked) c.loop-i.stated (take c.loop-i.i lines) so_far.none so_far.stated l in
+    let judged = judged-right (world_of w) (pipeline_of p) c.parts_are_ready.ensures.texts c.parts_are_ready.ensures.checked.graph c.loop-i.stated (take c.loop-i.i lines) so_far.none so_far.stated l in
     sym (stop (world_of w) (pipeline_of p) lines c.loop-i.i l c.line-line.ensures.line so_far.none (sym judged ∙ sym c.in_ok-is_right.ensures.exact ∙ c.if-not-branch.true))
 
 pub loop-i-preserved : goal.loop-i-preserved
@@ -39,7 +38,7 @@ loop-i-preserved g c =
     let so_far = c.loop-i.invariant in
     let i = c.loop-i.i in
     let l = line_of c.line-line.result.now in
-    let judged = judged-right (world_of w) (pipeline_of p) c.parts_are_ready.ensures.texts c.parts_are_ready.ensures.checked.graph (checked-steady (pipeline_of p) c.parts_are_ready.ensures.checked) c.loop-i.stated (take i lines) so_far.none so_far.stated l in
+    let judged = judged-right (world_of w) (pipeline_of p) c.parts_are_ready.ensures.texts c.parts_are_ready.ensures.checked.graph c.loop-i.stated (take i lines) so_far.none so_far.stated l in
     let more = c.in_ok-is_right.ensures.stated c.if-not-branch.false in
     record {
       none = pass (world_of w) (pipeline_of p) lines i l c.line-line.ensures.line so_far.none (sym judged ∙ sym c.in_ok-is_right.ensures.exact ∙ c.if-not-branch.false);
@@ -59,4 +58,4 @@ returns-clause-truth g c =
     let p = c.args.checked.now in
     let lines = c.args.derivation.now in
     let end : length lines ≤ c.loop-i.i = omega (arith, c.loop-i-test.false, c.len-i-end.ensures.length) in
-    λ _ i l at. sound (world_of w) (pipeline_of p) c.parts_are_ready.ensures.texts c.parts_are_ready.ensures.checked.graph (checked-steady (pipeline_of p) c.parts_are_ready.ensures.checked) lines (whole (world_of w) (pipeline_of p) lines c.loop-i.i end c.loop-i.invariant.none) i l at
+    λ _ i l at. sound (world_of w) (pipeline_of p) c.parts_are_ready.ensures.texts c.parts_are_ready.ensures.checked.graph lines (whole (world_of w) (pipeline_of p) lines c.loop-i.i end c.loop-i.invariant.none) i l at

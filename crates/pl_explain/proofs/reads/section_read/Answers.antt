@@ -1,6 +1,7 @@
 use Rattle.std.proofs.Common.{◌≡◌, ◌<◌, ◌≤◌, ◌++◌, ◌∙◌, ap, sym, true, false, pos, map, take, length, flat_map, arith}
 use Rattle.pl_spec.specs.Parts.{sid_at}
 use Rattle.pl_spec.specs.World.{exists}
+use Rattle.pl_terms.specs.Checked.{pipeline_of}
 use Rattle.pl_terms.specs.Nodes.{node_of}
 use Rattle.pl_derivation.specs.Facts.{entry_facts}
 use Rattle.pl_explain.specs.Keys.{fact_of}
@@ -16,7 +17,7 @@ loop-col-preserved c =
     let w = c.args.world.now in
     let s = c.args.session in
     let i = c.loop-col.col in
-    let g = entry_facts (node_of c.args.node.now) (pos s) in
+    let g = entry_facts (pipeline_of c.args.checked.now).graph (node_of c.args.node.now) (pos s) in
     let inside : i < length w.assets.now = omega (arith, c.loop-col-test.true, c.len-col-end.ensures.length) in
     let so_far = c.loop-col.invariant in
     record {
@@ -42,7 +43,7 @@ returns c =
     let w = c.args.world.now in
     let s = c.args.session in
     let i = c.loop-col.col in
-    let g = entry_facts (node_of c.args.node.now) (pos s) in
+    let g = entry_facts (pipeline_of c.args.checked.now).graph (node_of c.args.node.now) (pos s) in
     let end : length w.assets.now ≤ i = omega (arith, c.loop-col-test.false, c.len-col-end.ensures.length) in
     c.loop-col.invariant.facts
     ∙ entries-all g (λ a. exists (world_of w) a (pos s)) w.assets.now i end

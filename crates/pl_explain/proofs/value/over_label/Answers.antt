@@ -3,6 +3,7 @@ use Rattle.std.proofs.lemmas.Int.{to_z-of_z}
 use Rattle.pl_spec.specs.Rounding.{IsCell}
 use Rattle.pl_values.specs.Families.{IsCode}
 use Rattle.pl_world.specs.Worlds.{world_of}
+use Rattle.pl_explain.proofs.Values.{one-within}
 use Rattle.pl_explain.proofs.Worths.{label-test-lacks, label-test-stated}
 use Rattle.pl_explain.proofs.value.over_label.Goals as goal
 
@@ -28,3 +29,6 @@ returns c =
     let cell : IsCell c.label_test_value.result = search rules in
     let same = to_z-of_z w64 _ fits in
     all.1 _ (same ∙ value) (subst IsCell (sym same) cell)
+
+pub input_stated-requires-clause-input : goal.input_stated-requires-clause-input
+input_stated-requires-clause-input c = one-within c.args.basis.now.checked.now c.requires.kept.at.on.ready.checked c.args.t.0 c.node_in-node.result.now c.node_in-node.ensures 0 c.input_at-first.result c.input_at-first.ensures

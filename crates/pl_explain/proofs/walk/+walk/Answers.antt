@@ -1,31 +1,29 @@
-use Rattle.std.proofs.Common.{rules, arith, ◌≡◌, ◌<◌, ◌≤◌, ◌+◌, ◌*◌, ◌^◌, ◌∷◌, [], ◌∙◌, false, true, Some, suc, ap, sym, subst, length, map, get_or, pos, slice_get, w32, w64, FitsSigned}
+use Rattle.std.proofs.Common.{rules, arith, ◌≡◌, ◌<◌, ◌≤◌, ◌+◌, ◌*◌, ◌^◌, ◌∷◌, [], ◌∙◌, false, true, Some, suc, ap, sym, subst, length, map, get_or, pos, slice_get, w64, FitsSigned, to_z, of_z}
 use Rattle.std.proofs.lemmas.Bool.{true≢false}
 use Rattle.std.proofs.lemmas.Int.{to_z-of_z}
 use Rattle.std.proofs.lemmas.List.{take_all}
 use Rattle.std.proofs.lemmas.Option.{slice_get-get_or}
 use Rattle.std.proofs.lemmas.Result.{err_from_is_err_and}
 use Rattle.pl_spec.specs.Limits.{most_lines}
-use Rattle.pl_spec.specs.Dates.{IsDay}
 use Rattle.pl_spec.specs.Rounding.{IsCell}
 use Rattle.pl_spec.specs.Parts.{sid_at}
 use Rattle.pl_terms.specs.Checked.{pipeline_of}
-use Rattle.pl_derivation.specs.declared.line.Line.TheVariants as line
 use Rattle.pl_spec.proofs.Each.{Each}
-use Rattle.pl_derivation.specs.Facts.{known_day, number_in}
-use Rattle.pl_derivation.specs.Facts.Fact.{TermValue}
-use Rattle.pl_derivation.specs.Walks.{depth_of}
+use Rattle.pl_derivation.specs.Facts.{number_in, value_fact}
+use Rattle.pl_derivation.specs.Facts.Fact.{TermValue, SeenValue}
+use Rattle.pl_derivation.specs.Walks.{depth_of, line_for}
+use Rattle.pl_world.specs.Views.{view_at, seen_in}
 use Rattle.pl_world.specs.Worlds.{world_of}
-use Rattle.pl_world.specs.Evaluations.{cell_in}
 use Rattle.pl_world.proofs.Evaluated.{sid-of}
 use Rattle.pl_explain.specs.declared.fact.Fact.{Fact}
 use Rattle.pl_explain.specs.Keys.{fact_of}
 use Rattle.pl_explain.specs.Given.{facts_read, has, has_all, own_facts}
 use Rattle.pl_explain.proofs.Given.{none-holds}
-use Rattle.pl_explain.specs.Walking.{MayBeDerived, CanBeDerivedWithin, Finishes, IsTooLong, IsWalkTo}
-use Rattle.pl_explain.proofs.Behind.{worth-within, worth-day, worth-sid, worth-asked}
+use Rattle.pl_explain.specs.Walking.{MayBeDerived, CanBeDerivedWithin, Finishes, IsPut, IsTooLong, IsWalkTo}
+use Rattle.pl_explain.proofs.Behind.{facts-of, number-of, worth-within, worth-day, worth-sid, worth-fits, worth-asked}
 use Rattle.pl_explain.proofs.Values.{premises-lacks}
 use Rattle.pl_explain.proofs.Walks.{walk-none, walk-stated}
-use Rattle.pl_explain.proofs.Finished.{no-memory, stated-now, all-stand, all-more, all-long, value-line, other-finished, other-stands, put-walked, own-long, mask-is, mask-stands, mask-long, mask-known, facts-stand, stopped-finished, passed-walked}
+use Rattle.pl_explain.proofs.Finished.{no-memory, stated-now, all-stand, all-more, all-long, other-finished, other-stands, put-walked, own-long, mask-is, mask-stands, mask-long, mask-known, facts-stand, stopped-finished, passed-walked}
 use Rattle.pl_explain.proofs.walk.+walk.Goals as goal
 
 -- ---- a fact
@@ -60,6 +58,17 @@ finish-finish_value-requires g t c =
     let smaller : 8 * (v.term + 2) + 4 < 8 * depth_of (fact_of c.args.fact) + 6 = subst (λ f. 8 * (v.term + 2) + 4 < 8 * depth_of (fact_of f) + 6) (sym v.is) (omega arith) in
     search rules
 
+pub finish-finish_value-requires-in-SeenValue : goal.finish-finish_value-requires-in-SeenValue
+finish-finish_value-requires-in-SeenValue g t c =
+    let w = c.args.source.now.world in
+    let p = c.args.source.now.checked.now in
+    let v = c.in-SeenValue in
+    let lacks : has c.args.walk.now.stated (fact_of c.args.fact) ≡ false = search rules in
+    let fresh : has c.args.walk.now.stated (SeenValue v.term v.sid (pos v.session) (pos v.view)) ≡ false = subst (λ f. has c.args.walk.now.stated (fact_of f) ≡ false) v.is lacks in
+    let fact : MayBeDerived w p (SeenValue v.term v.sid (pos v.session) (pos v.view)) = subst (λ f. MayBeDerived w p (fact_of f)) v.is c.requires.fact in
+    let smaller : 8 * (v.term + 2) + 4 < 8 * depth_of (fact_of c.args.fact) + 6 = subst (λ f. 8 * (v.term + 2) + 4 < 8 * depth_of (fact_of f) + 6) (sym v.is) (omega arith) in
+    search rules
+
 pub finish-returns-in-Seen : goal.finish-returns-in-Seen
 finish-returns-in-Seen g t c =
     let w = c.args.source.now.world in
@@ -73,6 +82,17 @@ finish-returns-in-TermValue g t c =
     let deep : c.in-TermValue.term + 2 ≡ suc (suc c.in-TermValue.term) = omega arith in
     subst (λ f. IsWalkTo w p (depth_of (fact_of f)) (fact_of f ∷ []) c.args.walk.now c.finish_value.new.walk c.finish_value.result) (sym c.in-TermValue.is)
     (subst (λ k. IsWalkTo w p k (TermValue c.in-TermValue.term c.in-TermValue.sid (pos c.in-TermValue.session) ∷ []) c.args.walk.now c.finish_value.new.walk c.finish_value.result) deep c.finish_value.ensures)
+
+pub finish-returns-in-SeenValue : goal.finish-returns-in-SeenValue
+finish-returns-in-SeenValue g t c =
+    let w = c.args.source.now.world in
+    let p = c.args.source.now.checked.now in
+    let v = c.in-SeenValue in
+    let f = SeenValue v.term v.sid (pos v.session) (pos v.view) in
+    let walk = c.finish_value-in-SeenValue.new.walk in
+    let deep : v.term + 2 ≡ suc (suc v.term) = omega arith in
+    subst (λ f. IsWalkTo w p (depth_of (fact_of f)) (fact_of f ∷ []) c.args.walk.now walk c.finish_value-in-SeenValue.result) (sym v.is)
+    (subst (λ k. IsWalkTo w p k (f ∷ []) c.args.walk.now walk c.finish_value-in-SeenValue.result) deep c.finish_value-in-SeenValue.ensures)
 
 -- ---- facts in a row
 
@@ -134,8 +154,9 @@ pub finish_value-finish_premises-requires : goal.finish_value-finish_premises-re
 finish_value-finish_premises-requires g t c =
     let w = c.args.source.now.world in
     let p = c.args.source.now.checked.now in
-    let fact : MayBeDerived w p (TermValue c.args.term (sid_at w.assets.now c.in-Some.col) (pos c.args.session)) = subst (λ a. MayBeDerived w p (TermValue c.args.term a (pos c.args.session))) (sym c.in-Some.ensures.some.sid_is) c.requires.fact in
-    let day = worth-day w p c.requires.stands.table.ready.checked c.args.term c.args.sid c.args.session c.requires.fact in
+    let v = view_at c.args.view in
+    let fact : MayBeDerived w p (value_fact c.args.term (sid_at w.assets.now c.in-Some.col) (pos c.args.session) v) = subst (λ a. MayBeDerived w p (value_fact c.args.term a (pos c.args.session) v)) (sym c.in-Some.ensures.some.sid_is) c.requires.fact in
+    let day = worth-day w p c.requires.stands.table.ready.checked c.args.term c.args.sid c.args.session c.args.view c.requires.fact in
     let smaller : 8 * (c.args.term + 2) + 2 < 8 * (c.args.term + 2) + 4 = omega arith in
     search rules
 
@@ -145,16 +166,18 @@ finish_value-returns-in_err-finish_premises g t c =
     let p = c.args.source.now.checked.now in
     let walk = c.args.walk.now in
     let q = err_from_is_err_and c.from_residual.result c.from_residual.ensures.1 in
+    let own = facts-of w p c.args.term c.args.sid c.args.session c.args.view in
     rw (q.1, q.2) (record {
       stands = tt;
       finished = tt;
-      long = λ e. own-long w p c.args.term c.args.sid c.args.session walk c.requires.fresh
-          (subst (λ b. IsTooLong w p (c.args.term + 1) walk (own_facts w p c.args.term b c.args.session)) c.in-Some.ensures.some.sid_is (c.in_err-finish_premises.ensures.long e));
+      long = λ e. own-long w p c.args.term (value_fact c.args.term c.args.sid (pos c.args.session) (view_at c.args.view)) walk c.requires.fresh
+          (subst (λ fs. IsTooLong w p (c.args.term + 1) walk fs) (sym own)
+          (subst (λ b. IsTooLong w p (c.args.term + 1) walk (own_facts w p c.args.term b c.args.session c.args.view)) c.in-Some.ensures.some.sid_is (c.in_err-finish_premises.ensures.long e)));
     })
 
 pub finish_value-unreachable-requires : goal.finish_value-unreachable-requires
 finish_value-unreachable-requires g t c =
-    true≢false (sym (worth-sid c.args.source.now.world c.args.source.now.checked.now c.requires.stands.table.ready.checked c.args.term c.args.sid c.args.session c.requires.fact) ∙ none-holds c.col_of.result c.in_default.not-Some c.col_of.ensures.none)
+    true≢false (sym (worth-sid c.args.source.now.world c.args.source.now.checked.now c.requires.stands.table.ready.checked c.args.term c.args.sid c.args.session c.args.view c.requires.fact) ∙ none-holds c.col_of.result c.in_default.not-Some c.col_of.ensures.none)
 
 pub finish_value-returns-in_err-value : goal.finish_value-returns-in_err-value
 finish_value-returns-in_err-value g t c = no-memory _ _ _ _ _ _ _ c.from_residual-in_err-value.ensures.1
@@ -163,24 +186,21 @@ pub finish_value-value_now-requires-clause-stands : goal.finish_value-value_now-
 finish_value-value_now-requires-clause-stands g t c = c.in_ok-finish_premises.ensures.stands
 
 pub finish_value-value_now-requires-clause-term : goal.finish_value-value_now-requires-clause-term
-finish_value-value_now-requires-clause-term g t c = worth-within c.args.source.now.world c.args.source.now.checked.now c.requires.stands.table.ready.checked c.args.term c.args.sid c.args.session c.requires.fact
+finish_value-value_now-requires-clause-term g t c = worth-within c.args.source.now.world c.args.source.now.checked.now c.requires.stands.table.ready.checked c.args.term c.args.sid c.args.session c.args.view c.requires.fact
 
 pub finish_value-value_now-requires-clause-session : goal.finish_value-value_now-requires-clause-session
-finish_value-value_now-requires-clause-session g t c = worth-day c.args.source.now.world c.args.source.now.checked.now c.requires.stands.table.ready.checked c.args.term c.args.sid c.args.session c.requires.fact
+finish_value-value_now-requires-clause-session g t c = worth-day c.args.source.now.world c.args.source.now.checked.now c.requires.stands.table.ready.checked c.args.term c.args.sid c.args.session c.args.view c.requires.fact
 
 pub finish_value-value_now-requires-clause-premises : goal.finish_value-value_now-requires-clause-premises
 finish_value-value_now-requires-clause-premises g t c =
     let w = c.args.source.now.world in
-    stated-now w c.args.source.now.checked.now c.args.term c.args.walk.now c.finish_premises.new.walk (own_facts w c.args.source.now.checked.now c.args.term (sid_at w.assets.now c.in-Some.col) c.args.session) c.requires.stands c.in_ok-finish_premises.ensures.finished
+    stated-now w c.args.source.now.checked.now c.args.term c.args.walk.now c.finish_premises.new.walk (own_facts w c.args.source.now.checked.now c.args.term (sid_at w.assets.now c.in-Some.col) c.args.session c.args.view) c.requires.stands c.in_ok-finish_premises.ensures.finished
 
-pub finish_value-day-requires : goal.finish_value-day-requires
-finish_value-day-requires g t c = worth-day c.args.source.now.world c.args.source.now.checked.now c.requires.stands.table.ready.checked c.args.term c.args.sid c.args.session c.requires.fact
-
-pub finish_value-known_day-requires-clause-term : goal.finish_value-known_day-requires-clause-term
-finish_value-known_day-requires-clause-term g t c = worth-within c.args.source.now.world c.args.source.now.checked.now c.requires.stands.table.ready.checked c.args.term c.args.sid c.args.session c.requires.fact
-
-pub finish_value-known_day-requires-clause-session : goal.finish_value-known_day-requires-clause-session
-finish_value-known_day-requires-clause-session g t c = worth-day c.args.source.now.world c.args.source.now.checked.now c.requires.stands.table.ready.checked c.args.term c.args.sid c.args.session c.requires.fact
+pub finish_value-value_line-line-requires-clause-fact : goal.finish_value-value_line-line-requires-clause-fact
+finish_value-value_line-line-requires-clause-fact g t c =
+    let w = c.args.source.now.world in
+    let p = c.args.source.now.checked.now in
+    subst (λ a. MayBeDerived w p (value_fact c.args.term a (pos c.args.session) (view_at c.args.view))) (sym c.in-Some.ensures.some.sid_is) c.requires.fact
 
 pub finish_value-put-requires : goal.finish_value-put-requires
 finish_value-put-requires g t c = record { few = subst (λ l. length l.items ≤ most_lines) (sym c.in_ok-value.ensures.lines) c.in_ok-finish_premises.ensures.stands.few }
@@ -192,34 +212,29 @@ finish_value-returns g t c =
     let t0 = c.args.term in
     let a = c.args.sid in
     let s = c.args.session in
+    let view = c.args.view in
     let walk = c.args.walk.now in
-    let f = TermValue t0 a (pos s) in
+    let f = value_fact t0 a (pos s) (view_at view) in
     let place = c.in-Some.ensures.some in
     let before = c.finish_premises.new.walk in
     let mid = c.value_now.new.walk in
-    let first : Finishes w p (t0 + 1) walk before (own_facts w p t0 a s) = subst (λ b. Finishes w p (t0 + 1) walk before (own_facts w p t0 b s)) place.sid_is c.in_ok-finish_premises.ensures.finished in
-    let behind = other-finished w p before mid c.in_ok-value.ensures.stated c.in_ok-value.ensures.lines (t0 + 1) walk (own_facts w p t0 a s) first in
-    let day = c.day.result in
+    let ok = c.requires.stands.table.ready.checked in
+    let first : Finishes w p (t0 + 1) walk before (own_facts w p t0 a s view) = subst (λ b. Finishes w p (t0 + 1) walk before (own_facts w p t0 b s view)) place.sid_is c.in_ok-finish_premises.ensures.finished in
+    let behind = subst (λ fs. Finishes w p (t0 + 1) walk mid fs) (sym (facts-of w p t0 a s view))
+    (other-finished w p before mid c.in_ok-value.ensures.stated c.in_ok-value.ensures.lines (t0 + 1) walk (own_facts w p t0 a s view) first) in
     let x = c.in_ok-value.value in
-    let fits_day : FitsSigned w32 c.day.result = search rules in
     let fits : FitsSigned w64 c.in_ok-value.value = search rules in
-    let value : x ≡ number_in (world_of w) (pipeline_of p) f = c.in_ok-value.ensures.value ∙ ap (λ b. cell_in w p t0 b s) place.sid_is in
-    let at : slice_get w.sessions.now s ≡ Some day = c.day.ensures.exact in
-    let cell : IsCell x = c.in_ok-value.ensures.cell in
-    let date : IsDay day = c.day.ensures.date in
-    let small_term : t0 < 2 ^ 32 = omega (arith, c.ranges.term.fits) in
-    let small : a < 2 ^ 32 = omega (arith, c.ranges.sid.fits) in
-    let known = c.known_day.result in
-    let since : known ≡ known_day (world_of w) (pipeline_of p) f = c.known_day.ensures.exact ∙ ap (λ b. known_day (world_of w) (pipeline_of p) (TermValue t0 b (pos s))) place.sid_is in
-    let said = line.Value (record { term = t0; sid = a; day = day; value = x; known = known }) in
+    let value : x ≡ number_in (world_of w) (pipeline_of p) f = c.in_ok-value.ensures.value ∙ ap (λ b. seen_in w p t0 view b s) place.sid_is ∙ number-of w p t0 a s view in
+    let line = c.value_line-line.ensures.line ∙ ap (λ b. line_for (world_of w) (pipeline_of p) (value_fact t0 b (pos s) (view_at view))) place.sid_is in
     let stands = other-stands w p before mid c.in_ok-value.ensures.stated c.in_ok-value.ensures.lines c.in_ok-finish_premises.ensures.stands c.in_ok-value.ensures.rows in
-    put-walked w p (t0 + 1) f walk mid c.put.new.walk c.requires.fresh behind said x (value-line w p t0 a s day x known at value since) (t0 + 2) (omega arith) c.put.result c.requires.stands stands
-    (small_term, small, date, cell, c.known_day.ensures.day) value cell c.requires.fact.0 (simp to_z-of_z at c.put.ensures)
+    let put = subst (λ h. IsPut h (to_z w64 (of_z w64 x)) c.value_line-line.result mid c.put.new.walk c.put.result) c.value_fact.ensures c.put.ensures in
+    put-walked w p (t0 + 1) f walk mid c.put.new.walk c.requires.fresh behind c.value_line-line.result x line (t0 + 2) (omega arith) c.put.result c.requires.stands stands
+    c.value_line-line.ensures.writable value c.in_ok-value.ensures.cell (worth-fits w p ok t0 a s view c.requires.fact) (simp to_z-of_z at put)
 
 -- ---- the premises
 
 pub finish_premises-node_in-node-requires : goal.finish_premises-node_in-node-requires
-finish_premises-node_in-node-requires g t c = worth-within c.args.source.now.world c.args.source.now.checked.now c.requires.stands.table.ready.checked c.args.t.0 (sid_at c.args.source.now.world.assets.now c.args.col) c.args.session c.requires.fact
+finish_premises-node_in-node-requires g t c = worth-within c.args.source.now.world c.args.source.now.checked.now c.requires.stands.table.ready.checked c.args.t.0 (sid_at c.args.source.now.world.assets.now c.args.col) c.args.session c.args.view c.requires.fact
 
 pub finish_premises-returns-then-not-exists : goal.finish_premises-returns-then-not-exists
 finish_premises-returns-then-not-exists g t c =
@@ -228,7 +243,7 @@ finish_premises-returns-then-not-exists g t c =
     let t0 = c.args.t.0 in
     let a = sid_at w.assets.now c.args.col in
     let ok = c.requires.stands.table.ready.checked in
-    let none = premises-lacks w p ok t0 a c.args.session (worth-within w p ok t0 a c.args.session c.requires.fact) (sym c.exists.ensures.value ∙ c.if-not-exists.true) in
+    let none = premises-lacks w p ok t0 a c.args.session c.args.view (worth-within w p ok t0 a c.args.session c.args.view c.requires.fact) (sym c.exists.ensures.value ∙ c.if-not-exists.true) in
     record {
       stands = c.requires.stands;
       finished = subst (λ fs. Finishes w p (t0 + 1) c.args.walk.now c.args.walk.now fs) (sym none) (walk-none w p (t0 + 1) c.args.walk.now);
@@ -245,7 +260,7 @@ finish_premises-finish_all-requires g t c =
     let a = sid_at w.assets.now c.args.col in
     let there = sym c.exists.ensures.value ∙ c.if-not-exists.false in
     let read = mask-is n.mask c.args.session c.sid.result a c.deref.result.now c.in_ok-mask.mask.items c.deref.ensures.value c.in_ok-mask.ensures (sid-of w.assets.now c.args.col c.sid.result c.sid.ensures) in
-    let facts : Each (CanBeDerivedWithin w c.args.source.now.checked.now (c.args.t.0 + 1)) (map fact_of c.deref.result.now) = mask-stands c.requires.stands c.args.t.0 n c.node_in-node.ensures a c.args.session there (map fact_of c.deref.result.now) read c.requires.fact in
+    let facts : Each (CanBeDerivedWithin w c.args.source.now.checked.now (c.args.t.0 + 1)) (map fact_of c.deref.result.now) = mask-stands c.requires.stands c.args.t.0 n c.node_in-node.ensures a c.args.session c.args.view there (map fact_of c.deref.result.now) read c.requires.fact in
     let smaller : 8 * (c.args.t.0 + 1) + 7 < 8 * (c.args.t.0 + 2) + 2 = omega arith in
     search rules
 
@@ -260,7 +275,7 @@ finish_premises-returns-in_err-finish_all g t c =
     rw (q.1, q.2) (record {
       stands = tt;
       finished = tt;
-      long = λ e. mask-long c.requires.stands c.args.t.0 n c.node_in-node.ensures a c.args.session there (map fact_of c.deref.result.now) read (c.in_err-finish_all.ensures.long e);
+      long = λ e. mask-long c.requires.stands c.args.t.0 n c.node_in-node.ensures a c.args.session c.args.view there (map fact_of c.deref.result.now) read (c.in_err-finish_all.ensures.long e);
     })
 
 pub finish_premises-mask_stated-requires : goal.finish_premises-mask_stated-requires
@@ -275,7 +290,7 @@ finish_premises-finish_kind-requires g t c =
     let a = sid_at w.assets.now c.args.col in
     let there = sym c.exists.ensures.value ∙ c.if-not-exists.false in
     let read = mask-is n.mask c.args.session c.sid.result a c.deref.result.now c.in_ok-mask.mask.items c.deref.ensures.value c.in_ok-mask.ensures (sid-of w.assets.now c.args.col c.sid.result c.sid.ensures) in
-    let facts : Each (CanBeDerivedWithin w c.args.source.now.checked.now (c.args.t.0 + 1)) (facts_read w c.args.source.now.checked.now c.args.t.0 a c.args.session) = facts-stand c.requires.stands c.args.t.0 n c.node_in-node.ensures a c.args.session there (map fact_of c.deref.result.now) read
+    let facts : Each (CanBeDerivedWithin w c.args.source.now.checked.now (c.args.t.0 + 1)) (facts_read w c.args.source.now.checked.now c.args.t.0 a c.args.session c.args.view) = facts-stand c.requires.stands c.args.t.0 n c.node_in-node.ensures a c.args.session c.args.view there (map fact_of c.deref.result.now) read
     c.finish_all.new.walk c.in_ok-finish_all.ensures.finished c.mask_stated.result c.mask_stated.ensures (c.in-Some-true.is ∙ ap Some c.in-Some-true.field-0-test) c.requires.fact in
     let smaller : 8 * (c.args.t.0 + 2) + 1 < 8 * (c.args.t.0 + 2) + 2 = omega arith in
     search rules
@@ -287,7 +302,7 @@ finish_premises-returns-in-Some-true g t c =
     let a = sid_at w.assets.now c.args.col in
     let there = sym c.exists.ensures.value ∙ c.if-not-exists.false in
     let read = mask-is n.mask c.args.session c.sid.result a c.deref.result.now c.in_ok-mask.mask.items c.deref.ensures.value c.in_ok-mask.ensures (sid-of w.assets.now c.args.col c.sid.result c.sid.ensures) in
-    passed-walked c.requires.stands c.args.t.0 n c.node_in-node.ensures a c.args.session there (map fact_of c.deref.result.now) read
+    passed-walked c.requires.stands c.args.t.0 n c.node_in-node.ensures a c.args.session c.args.view there (map fact_of c.deref.result.now) read
     c.finish_all.new.walk c.in_ok-finish_all.ensures.finished c.mask_stated.result c.mask_stated.ensures (c.in-Some-true.is ∙ ap Some c.in-Some-true.field-0-test) c.finish_kind.new.walk c.finish_kind.result c.finish_kind.ensures
 
 pub finish_premises-returns-in-Some-false : goal.finish_premises-returns-in-Some-false
@@ -299,7 +314,7 @@ finish_premises-returns-in-Some-false g t c =
     let read = mask-is n.mask c.args.session c.sid.result a c.deref.result.now c.in_ok-mask.mask.items c.deref.ensures.value c.in_ok-mask.ensures (sid-of w.assets.now c.args.col c.sid.result c.sid.ensures) in
     record {
       stands = c.in_ok-finish_all.ensures.stands;
-      finished = stopped-finished c.requires.stands c.args.t.0 n c.node_in-node.ensures a c.args.session there (map fact_of c.deref.result.now) read
+      finished = stopped-finished c.requires.stands c.args.t.0 n c.node_in-node.ensures a c.args.session c.args.view there (map fact_of c.deref.result.now) read
           c.finish_all.new.walk c.in_ok-finish_all.ensures.finished c.mask_stated.result c.mask_stated.ensures (c.in-Some-false.is ∙ ap Some c.in-Some-false.field-0-test);
       long = tt;
     }
@@ -311,13 +326,13 @@ finish_premises-unreachable-requires g t c =
     let a = sid_at w.assets.now c.args.col in
     let there = sym c.exists.ensures.value ∙ c.if-not-exists.false in
     let read = mask-is n.mask c.args.session c.sid.result a c.deref.result.now c.in_ok-mask.mask.items c.deref.ensures.value c.in_ok-mask.ensures (sid-of w.assets.now c.args.col c.sid.result c.sid.ensures) in
-    mask-known c.requires.stands c.args.t.0 n c.node_in-node.ensures a c.args.session there (map fact_of c.deref.result.now) read
+    mask-known c.requires.stands c.args.t.0 n c.node_in-node.ensures a c.args.session c.args.view there (map fact_of c.deref.result.now) read
     c.finish_all.new.walk c.in_ok-finish_all.ensures.finished c.mask_stated.result c.mask_stated.ensures c.in-None.is
 
 -- ---- what the kind reads
 
 pub finish_kind-is_whole-requires-clause-term : goal.finish_kind-is_whole-requires-clause-term
-finish_kind-is_whole-requires-clause-term g t c = worth-within c.args.source.now.world c.args.source.now.checked.now c.requires.stands.table.ready.checked c.args.t.0 (sid_at c.args.source.now.world.assets.now c.args.col) c.args.session c.requires.fact
+finish_kind-is_whole-requires-clause-term g t c = worth-within c.args.source.now.world c.args.source.now.checked.now c.requires.stands.table.ready.checked c.args.t.0 (sid_at c.args.source.now.world.assets.now c.args.col) c.args.session c.args.view c.requires.fact
 
 pub finish_kind-returns-then-is_whole : goal.finish_kind-returns-then-is_whole
 finish_kind-returns-then-is_whole g t c =
@@ -326,7 +341,7 @@ finish_kind-returns-then-is_whole g t c =
     let a = sid_at w.assets.now c.args.col in
     record {
       stands = c.requires.stands;
-      finished = walk-stated w p (c.args.t.0 + 1) c.args.walk.now (facts_read w p c.args.t.0 a c.args.session) (c.is_whole.ensures.stand c.if-is_whole.true a);
+      finished = walk-stated w p (c.args.t.0 + 1) c.args.walk.now (facts_read w p c.args.t.0 a c.args.session c.args.view) (c.is_whole.ensures.stand c.if-is_whole.true a c.args.view);
       long = tt;
     }
 
@@ -336,7 +351,7 @@ finish_kind-returns-in_err-facts g t c = no-memory _ _ _ _ _ _ _ c.from_residual
 pub finish_kind-facts_read-requires-clause-asked : goal.finish_kind-facts_read-requires-clause-asked
 finish_kind-facts_read-requires-clause-asked g t c =
     let ready = c.requires.stands.table.ready in
-    worth-asked c.args.source.now.world c.args.source.now.checked.now ready.checked c.args.t.0 (sid_at c.args.source.now.world.assets.now c.args.col) c.args.session c.requires.fact ready.made ready.days
+    worth-asked c.args.source.now.world c.args.source.now.checked.now ready.checked c.args.t.0 (sid_at c.args.source.now.world.assets.now c.args.col) c.args.session c.args.view c.requires.fact ready.made ready.days
 
 pub finish_kind-finish_all-requires : goal.finish_kind-finish_all-requires
 finish_kind-finish_all-requires g t c =

@@ -18,8 +18,9 @@ use Rattle.pl_world.specs.Worlds.{world_of}
 use Rattle.pl_world.specs.Evaluations.{IsAsked, cell_in}
 use Rattle.pl_model.specs.Costs.{cost_in}
 use Rattle.pl_model.specs.Requests.{asset_of}
-use Rattle.pl_model.specs.Views.{seen_in}
-use Rattle.pl_model.proofs.Views.{earlier, own-cell, bars-read, if-ok}
+use Rattle.pl_world.specs.Views.{seen_in}
+use Rattle.pl_world.proofs.Views.{earlier, own-cell}
+use Rattle.pl_model.proofs.Views.{bars-read, if-ok}
 use Rattle.pl_world.proofs.Evaluated.{sid-of, not-windowed, label-named, number-named}
 use Rattle.pl_world.proofs.Windowing.{cells-more, steps-more, cells-all, steps-all, all-more, row-more, row-steps-more, row-all, row-steps-all}
 use Rattle.pl_model.proofs.Rows.{row-cell, row-long}

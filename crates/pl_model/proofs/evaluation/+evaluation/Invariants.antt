@@ -4,7 +4,7 @@ use Rattle.pl_spec.specs.Rounding.{IsCell}
 use Rattle.pl_world.specs.Evaluations.{above, above_option, cell_in}
 use Rattle.pl_model.specs.Costs.{cost_in}
 use Rattle.pl_model.specs.Requests.{asset_of}
-use Rattle.pl_model.specs.Views.{seen_in}
+use Rattle.pl_world.specs.Views.{seen_in}
 use Rattle.pl_model.proofs.evaluation.+evaluation.Given as goal
 
 abbrev pub decreases-cell : goal.decreases-cell

@@ -1,7 +1,7 @@
 use Rattle.std.proofs.lemmas.Result.{IfOk-weaker}
 use Rattle.std.proofs.Common.{◌∙◌}
 use Rattle.pl_spec.specs.Parts.{sid_at}
-use Rattle.pl_model.proofs.Views.{own-cell}
+use Rattle.pl_world.proofs.Views.{own-cell}
 use Rattle.pl_model.proofs.evaluation.cell_now.Goals as goal
 
 pub returns-clause-value : goal.returns-clause-value
