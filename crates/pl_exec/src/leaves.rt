@@ -59,10 +59,14 @@ pub(crate) fn number_lane(lane: &Lane<'_>, figure: Figure, name: u32, out: &mut 
     let chunk = lane.course.chunk;
     let name = chunk.checked.label_name(name);
     let col = chunk.cols[lane.i] as usize;
-    chunk
-        .world
-        .numbers
-        .fill_under(figure, name, col, chunk.world.sessions, lane.course.low, out);
+    chunk.world.numbers.fill_under(
+        figure,
+        name,
+        col,
+        chunk.world.sessions,
+        lane.course.low,
+        out,
+    );
 }
 
 /// What the test says of the asset's labels, which are the first input.

@@ -8,20 +8,14 @@ ghost use Rattle.pl_numbers.specs.Numbers.{known_on, number_on};
 ghost use Rattle.pl_numbers.specs.NumberPlaces.{AllLow, IsNewest, IsTable, KeyPoint, Rise, key_of, shown_rows};
 ghost use Rattle.pl_numbers.specs.NumberRowsShown.{is_newest_in};
 
+use crate::read::read_of;
 use crate::rows::{NumberRows, Place, key, key_of};
 use pl_calendar::Sessions;
-use crate::read::read_of;
 use pl_fixed::MISSING;
 use pl_spec::Figure;
 
 // What is read of the row under the name that was known last in the column by the day.
-pub(crate) fn number_on(
-    rows: &NumberRows,
-    figure: Figure,
-    name: u32,
-    col: usize,
-    day: i32,
-) -> i64
+pub(crate) fn number_on(rows: &NumberRows, figure: Figure, name: u32, col: usize, day: i32) -> i64
     requires table { IsTable rows.now }
     requires name { name < length rows.now.names }
     ensures value { result

@@ -49,4 +49,5 @@ last-end text None h = λ i l. other-false (is_line_end (get_or text i 0)) (rw (
 last-end text (Some n) h = (
   h.0.high,
   sym (swapped (get_or text n 0)) ∙ h.1,
-  λ i l m. other-false (is_line_end (get_or text i 0)) (rw (← swapped (get_or text i 0)) (h.0.after i (omega (arith, l)) m)))
+  λ i l m. other-false (is_line_end (get_or text i 0)) (rw (← swapped (get_or text i 0)) (h.0.after i (omega (arith, l)) m)),
+)

@@ -178,7 +178,7 @@ parted s f p (b ∷ text) c more on plain end =
   where
     here : Steps s f p b
         → ((t : State) (g : List (List ℕ)) (q : List ℕ) → IsOn t g q
-            → records_on (next_record default_config t g q (text ++ c ∷ more)) ≡ records_on (next_record default_config t g q text) ++ csv_records (c ∷ more))
+        → records_on (next_record default_config t g q (text ++ c ∷ more)) ≡ records_on (next_record default_config t g q text) ++ csv_records (c ∷ more))
         → records_on (next_record default_config s f p (b ∷ text ++ c ∷ more)) ≡ records_on (next_record default_config s f p (b ∷ text)) ++ csv_records (c ∷ more)
     here (inl (e, start)) behind =
         ending s b f p (text ++ c ∷ more) e

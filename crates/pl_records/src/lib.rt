@@ -10,13 +10,13 @@ ghost use lib.Pointwise.{pointwise};
 ghost use Rattle.pl_records.specs.Reading.{field, has_header};
 ghost use Rattle.pl_records.specs.Records.{csv_records, GivesNext};
 
-mod pieces;
 mod fault;
+mod pieces;
 mod plain;
 mod quoted;
 
-pub use pieces::{has_no_quote, last_line_end};
 pub use fault::DataFault;
+pub use pieces::{has_no_quote, last_line_end};
 use plain::{Next, PlainRecords};
 use quoted::QuotedRecords;
 use std::alloc::{AllocError, Global};

@@ -72,7 +72,14 @@ pub fn number_cell(
     ensures cell { IsCell result }
 {
     let text = checked.label_name(name);
-    number_of(world, figure, text, world.numbers.name_of(text), col, session)
+    number_of(
+        world,
+        figure,
+        text,
+        world.numbers.name_of(text),
+        col,
+        session,
+    )
 }
 
 /// The day from which that number was known; `None` where there is no such record.

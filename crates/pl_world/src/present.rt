@@ -124,14 +124,7 @@ fn present_under(world: &World, figure: Figure, name: &[u8], from: usize, to: us
 }
 
 // Those of an asset.
-fn present_of(
-    world: &World,
-    figure: Figure,
-    name: &[u8],
-    col: usize,
-    from: usize,
-    to: usize,
-) -> u64
+fn present_of(world: &World, figure: Figure, name: &[u8], col: usize, from: usize, to: usize) -> u64
     requires made { IsMade world.now }
     requires col { col < length world.now.assets.now }
     requires order { from ≤ to }
