@@ -1,63 +1,20 @@
--- Summaries of groups, found in the sorted list.
-use Rattle.std.proofs.Common.{◌≡◌, ◌≢◌, ℕ, suc, ◌+◌, ◌-◌, ◌*◌, ◌/◌, ◌<◌, ◌≤◌, Bool, true, false, cond, ℤ, pos, ◌*ℤ◌, ◌≤ℤ◌, unsigned_abs, List, [], ◌∷◌, length, filter, get_or, refl, sym, ◌∙◌, ap, arith, inl, inr, sum_by, set, w64, to_z, of_z, FitsSigned, get_or-set_other, get_or-set_same}
-use Rattle.std.specs.List.Sorted.{IsPartitionedBy, IsPartitionPoint}
+-- Winsorized values, shares and summaries of groups.
+use Rattle.std.proofs.Common.{◌&&◌, ◌≡◌, ◌≢◌, ℕ, ◌+◌, ◌-◌, ◌*◌, ◌/◌, ◌<◌, ◌≤◌, ℤ, pos, ◌*ℤ◌, unsigned_abs, List, [], ◌∷◌, length, get_or, refl, sym, ◌∙◌, ap, arith, inl, inr, sum_by, set, w64, to_z, of_z, FitsSigned, get_or-set_other, get_or-set_same}
 use Rattle.std.specs.Int.{int_max, int_min}
-use Rattle.std.specs.Int.RustNames.{int_lt}
-use Rattle.std.specs.Ordering.{int_eq}
+use Rattle.std.specs.Int.RustNames.{int_le}
 use Rattle.std.proofs.lemmas.Bool.{cases_lt}
 use Rattle.std.specs.Int.{w128}
-use Rattle.std.proofs.lemmas.Int.{ints, to_z-of_z, fits_signed_from_abs, fits_signed_mul}
+use Rattle.std.proofs.lemmas.Int.{to_z-of_z, fits_signed_from_abs, fits_signed_mul}
 use Rattle.std.proofs.lemmas.List.{get_or_default}
 use Rattle.pl_spec.specs.Limits.{most_assets}
 use Rattle.pl_spec.specs.Rounding.{MISSING, LIMIT, MILLION, quot}
-use Rattle.pl_pipeline.specs.declared.Summary.{Summary}
-use Rattle.pl_pipeline.specs.Kind.CrossKind.{Winsorize, Scale, Summarize}
-use Rattle.pl_pipeline.specs.Cross.{array_at, values, if_some, summary, cross}
-use Rattle.pl_pipeline.specs.Order.{value_at}
+use Rattle.pl_spec.specs.Cells.{truth}
+use Rattle.pl_pipeline.specs.Kind.CrossKind.{Winsorize, Scale, PercentileBetween}
+use Rattle.pl_pipeline.specs.Cross.{array_at, values, if_some, cross}
+use Rattle.pl_pipeline.specs.Order.{value_at, edge}
 use Rattle.pl_cross.specs.declared.listing.Listed.{Listed}
-use Rattle.pl_cross.specs.Listing.{entries_of, members, AreInOrder, AreAnswers}
+use Rattle.pl_cross.specs.Listing.{entries_of}
 use Rattle.pl_cross.proofs.Distinct.{length-values}
-
--- ---- groups in the sorted list
-
-groups-rise : (entries : List Listed) (i j : ℕ) (d : Listed) → AreInOrder entries → i ≤ j → j < length entries → (get_or entries i d).group ≤ℤ (get_or entries j d).group
-groups-rise entries i j d up h l = elim (cases_lt i j) [
-  | inl lt ↦ elim (up i j d lt l) [ inl less ↦ omega (arith, ints, less) | inr rest ↦ (let same : (get_or entries i d).group ≡ (get_or entries j d).group = rest.0 in omega (arith, ints, same)) ]
-  | inr ge ↦ (let same : i ≡ j = omega arith in let one : (get_or entries i d).group ≡ (get_or entries j d).group = ap (λ k. (get_or entries k d).group) same in omega (arith, ints, one))
-]
-
-pub parted : (g : ℤ) (entries : List Listed) → AreInOrder entries → IsPartitionedBy (λ (e : Listed). int_lt e.group g) entries
-parted g entries up i j d h l t =
-    let rise : (get_or entries i d).group ≤ℤ (get_or entries j d).group = groups-rise entries i j d up h l in
-    grind (arith, ints)
-
-pub told-group : (told : Summary) (entries : List Listed) (answers : List ℤ) (k : ℕ) (g : ℤ) (d : Listed) → AreAnswers (Summarize told) (λ e. members e.group entries) entries answers
-    → k < length entries → (get_or entries k d).group ≡ g → array_at answers k ≡ summary told (values (members g entries))
-unfolding cross
-told-group told entries answers k g d h l e = h k d l ∙ ap (λ x. summary told (values (members x entries))) e
-
-filter-none : (p : Listed → Bool) (xs : List Listed) → ((k : ℕ) (d : Listed) → k < length xs → p (get_or xs k d) ≡ false) → filter p xs ≡ []
-filter-none p [] h = refl
-filter-none p (x ∷ xs) h =
-    let fails : p x ≡ false = h 0 x (omega arith) in
-    ap (λ b. cond b (x ∷ filter p xs) (filter p xs)) fails ∙ filter-none p xs (λ k d l. h (suc k) d (omega arith))
-
--- a group that does not begin where it would has no members
-pub no-members : (g : ℤ) (entries : List Listed) (first : ℕ) → AreInOrder entries → IsPartitionPoint (λ (e : Listed). int_lt e.group g ≡ true) (λ (e : Listed). int_lt e.group g ≡ false) entries first
-    → ((d : Listed) → first < length entries → (get_or entries first d).group ≢ g) → members g entries ≡ []
-no-members g entries first up point other = ap entries_of (filter-none (λ (e : Listed). int_eq g e.group) entries apart)
-  where
-    below : (x : ℤ) → int_lt x g ≡ true → int_eq g x ≡ false
-    below x t = grind (arith, ints)
-
-    above : (x y : ℤ) → int_lt x g ≡ false → x ≢ g → x ≤ℤ y → int_eq g y ≡ false
-    above x y t ne le = grind (arith, ints)
-
-    apart : (k : ℕ) (d : Listed) → k < length entries → int_eq g (get_or entries k d).group ≡ false
-    apart k d l = elim (cases_lt k first) [
-      | inl lt ↦ below (get_or entries k d).group (point.0 k d (omega arith) lt)
-      | inr ge ↦ above (get_or entries first d).group (get_or entries k d).group (point.1 first d (omega arith) (omega arith)) (other d (omega arith)) (groups-rise entries first k d up (omega arith) l)
-    ]
 
 -- ---- values
 
@@ -107,3 +64,16 @@ written-more f out place v fits inside before now k h = elim (cases_lt k place) 
       ap (λ i. array_at (set out place (to_z w64 (of_z w64 v))) i) (sym here) ∙ get_or-set_same out place (to_z w64 (of_z w64 v)) MISSING inside
       ∙ to_z-of_z w64 v fits ∙ now ∙ ap f here
 ]
+
+-- whether a value lies between two points
+pub parted-in : (low high : ℕ) (group : List Listed) (least greatest answer : ℤ) → least ≡ edge (values (entries_of group)) (low * (length group - 1)) 10000
+    → greatest ≡ edge (values (entries_of group)) (high * (length group - 1)) 10000
+    → (k : ℕ) (d : Listed) → answer ≡ truth (int_le least ((get_or group k d).value *ℤ pos 10000) && int_le ((get_or group k d).value *ℤ pos 10000) greatest)
+    → answer ≡ cross (PercentileBetween low high) (entries_of group) (get_or group k d).place (get_or group k d).value
+unfolding cross
+parted-in low high group least greatest answer under over k d h =
+    let vs : List ℤ = values (entries_of group) in
+    let x : ℤ = (get_or group k d).value in
+    h
+    ∙ ap (λ v. truth (int_le v (x *ℤ pos 10000) && int_le (x *ℤ pos 10000) greatest)) (under ∙ ap (λ m. edge vs (low * (m - 1)) 10000) (sym (length-values group)))
+    ∙ ap (λ v. truth (int_le (edge vs (low * (length vs - 1)) 10000) (x *ℤ pos 10000) && int_le (x *ℤ pos 10000) v)) (over ∙ ap (λ m. edge vs (high * (m - 1)) 10000) (sym (length-values group)))

@@ -74,9 +74,6 @@ turned Descending v = neg_ℤ v
 
 -- what the kind gives is told by how an asset stands among the sorted values
 abbrev pub is_ranked : CrossKind → Bool
-is_ranked Demean = false
-is_ranked ZScore = false
-is_ranked (Winsorize low high) = false
-is_ranked Scale = false
-is_ranked (Summarize s) = false
-is_ranked k = true
+is_ranked (Rank method order) = true
+is_ranked (Quantiles bins) = true
+is_ranked k = false

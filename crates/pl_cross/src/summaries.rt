@@ -8,11 +8,11 @@ ghost use Rattle.pl_pipeline.specs.Cross as spec;
 ghost use Rattle.pl_pipeline.specs.Cross.{values};
 ghost use Rattle.pl_pipeline.specs.Kind.CrossKind.{Summarize};
 ghost use Rattle.pl_cross.specs.Section.{IsRight};
-ghost use Rattle.pl_cross.specs.Listing.{entries_of, IsGroup, HasCell};
+ghost use Rattle.pl_cross.specs.Listing.{entries_of, HasCell, HaveOwnPlaces};
 
 use crate::listing::Listed;
 use crate::means::{center, spread, total};
-use crate::points::percentile;
+use crate::points::{percentile, value_at};
 use pl_fixed::{MISSING, quot, to_cell};
 use pl_pipeline::Summary;
 
@@ -48,23 +48,40 @@ fn deviation(group: &[Listed]) -> i64
 }
 
 /// What is told of the values of a group.
+pub(crate) fn summarize(summary: Summary, group: &[Listed], scratch: &mut [Listed]) -> i64
+    requires right { IsRight (Summarize summary) }
+    requires few { length group.now ≤ most_assets }
+    requires cells { All HasCell group.now }
+    requires own { HaveOwnPlaces group.now }
+    requires room { length group.now ≤ length scratch.old }
+    ensures { result ≡ spec.summary summary (values (entries_of group.now)) }
+{
+    if group.is_empty() {
+        of_none(summary)
+    } else {
+        of_some(summary, group, scratch)
+    }
+}
+
+// What is told of values of which there are some.
 #[tactic(auto, unfolding(pl_pipeline::specs::Cross::summary))]
-pub(crate) fn summarize(summary: Summary, group: &[Listed]) -> i64
+fn of_some(summary: Summary, group: &[Listed], scratch: &mut [Listed]) -> i64
     requires right { IsRight (Summarize summary) }
     requires few { length group.now ≤ most_assets }
     requires some { 0 < length group.now }
     requires cells { All HasCell group.now }
-    requires order { IsGroup group.now }
+    requires own { HaveOwnPlaces group.now }
+    requires room { length group.now ≤ length scratch.old }
     ensures { result ≡ spec.summary summary (values (entries_of group.now)) }
 {
     match summary {
         Summary::Mean => mean(group),
         Summary::StdDev => deviation(group),
         Summary::Sum => sum(group),
-        Summary::Least => group[0].value,
-        Summary::Greatest => group[group.len() - 1].value,
-        Summary::Median => percentile(5_000, group),
-        Summary::Percentile { percent } => percentile(percent, group),
+        Summary::Least => value_at(group, scratch, 0),
+        Summary::Greatest => value_at(group, scratch, group.len() - 1),
+        Summary::Median => percentile(5_000, group, scratch),
+        Summary::Percentile { percent } => percentile(percent, group, scratch),
         Summary::NotNullCount => (group.len() * MILLION) as i64,
     }
 }

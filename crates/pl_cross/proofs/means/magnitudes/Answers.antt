@@ -7,7 +7,7 @@ use Rattle.pl_cross.proofs.means.magnitudes.Goals as goal
 
 pub loop-asset-preserved : goal.loop-asset-preserved
 loop-asset-preserved c =
-    let d : Listed = record { group = pos 0; value = pos 0; place = 0 } in
+    let d : Listed = record { value = pos 0; place = 0 } in
     let fits : FitsSigned w64 (get_or c.args.group.now c.loop-asset.asset-index d).value = search rules in
     let small : unsigned_abs (get_or c.args.group.now c.loop-asset.asset-index d).value ≤ LIMIT = c.requires.cells c.loop-asset.asset-index d c.loop-asset-test.true in
     let is : c.unsigned_abs.result ≡ unsigned_abs (to_z w64 (of_z w64 (get_or c.args.group.now c.loop-asset.asset-index d).value)) = search rules in

@@ -8,7 +8,7 @@ use Rattle.pl_cross.proofs.Shares.{share-is, portion}
 use Rattle.pl_cross.proofs.means.scale.Goals as goal
 
 abbrev blank : Listed
-blank = record { group = pos 0; value = pos 0; place = 0 }
+blank = record { value = pos 0; place = 0 }
 
 pub loop-i-preserved : goal.loop-i-preserved
 loop-i-preserved c =

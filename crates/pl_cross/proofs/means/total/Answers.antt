@@ -15,7 +15,7 @@ loop-asset-init c = record { value = refl; size = omega arith }
 pub loop-asset-preserved : goal.loop-asset-preserved
 loop-asset-preserved c =
     let i = c.loop-asset.asset-index in
-    let blank : Listed = record { group = pos 0; value = pos 0; place = 0 } in
+    let blank : Listed = record { value = pos 0; place = 0 } in
     let small = c.requires.cells i blank c.loop-asset-test.true in
     let next = next-total c.args.group.now i blank _ _ c.loop-asset-test.true c.requires.few small c.loop-asset.invariant.value c.loop-asset.invariant.size (value-cast _ small) in
     record { value = to_z-of_z w128 _ next.1 ∙ next.0.value; size = rw (to_z-of_z w128 _ next.1) next.0.size }
@@ -23,7 +23,7 @@ loop-asset-preserved c =
 pub overflow_add-sum : goal.overflow_add-sum
 overflow_add-sum c =
     let i = c.loop-asset.asset-index in
-    let blank : Listed = record { group = pos 0; value = pos 0; place = 0 } in
+    let blank : Listed = record { value = pos 0; place = 0 } in
     let small = c.requires.cells i blank c.loop-asset-test.true in
     (next-total c.args.group.now i blank _ _ c.loop-asset-test.true c.requires.few small c.loop-asset.invariant.value c.loop-asset.invariant.size (value-cast _ small)).1
 

@@ -1,20 +1,23 @@
-use Rattle.std.proofs.Common.{rules, pos, w64, FitsSigned, get_or, sym, ◌∙◌, arith}
+use Rattle.std.proofs.Common.{rules, w64, FitsSigned, sym, ◌∙◌, arith, subst, unsigned_abs, ◌≤◌}
 use Rattle.std.proofs.lemmas.Int.{to_z-of_z}
+use Rattle.pl_spec.specs.Rounding.{LIMIT}
 use Rattle.pl_pipeline.specs.Cross.{values}
-use Rattle.pl_cross.specs.declared.listing.Listed.{Listed}
 use Rattle.pl_cross.specs.Listing.{entries_of}
 use Rattle.pl_cross.proofs.Distinct.{length-values}
-use Rattle.pl_cross.proofs.Edges.{place-is}
+use Rattle.pl_cross.proofs.Selecting.{nth-value}
 use Rattle.pl_cross.proofs.Sums.{past-end}
 use Rattle.pl_cross.proofs.points.value_at.Goals as goal
 
-abbrev blank : Listed
-blank = record { group = pos 0; value = pos 0; place = 0 }
-
 pub returns-then-place-group-clause-value : goal.returns-then-place-group-clause-value
 returns-then-place-group-clause-value c =
-    let fits : FitsSigned w64 (get_or c.args.group.now c.args.place blank).value = search rules in
-    to_z-of_z w64 (get_or c.args.group.now c.args.place blank).value fits ∙ sym (place-is c.args.group.now c.args.place blank c.requires.order c.if-place-group.true)
+    let fits : FitsSigned w64 c.nth.result.value = search rules in
+    to_z-of_z w64 c.nth.result.value fits ∙ nth-value c.args.group.now c.args.place c.nth.result c.if-place-group.true c.nth.ensures
+
+pub returns-then-place-group-clause-size : goal.returns-then-place-group-clause-size
+returns-then-place-group-clause-size c =
+    let fits : FitsSigned w64 c.nth.result.value = search rules in
+    let own = c.nth.ensures.own in
+    rw (to_z-of_z w64 c.nth.result.value fits) (subst (λ e. unsigned_abs e.value ≤ LIMIT) own.2 (c.requires.cells own.0 c.nth.result own.1))
 
 pub returns-else-place-group-clause-value : goal.returns-else-place-group-clause-value
 returns-else-place-group-clause-value c =

@@ -1,0 +1,12 @@
+use Rattle.std.proofs.Common.{◌≡◌, ◌<◌, ℕ, length, get_or}
+use Rattle.pl_spec.specs.Cells.{truth}
+use Rattle.pl_pipeline.specs.Cross.{array_at}
+use Rattle.pl_cross.specs.declared.listing.Listed.{Listed}
+use Rattle.pl_cross.specs.Listing.{is_before}
+use Rattle.pl_cross.proofs.points.mark_before.Given as goal
+
+abbrev pub invariant-loop-i : goal.invariant-loop-i
+invariant-loop-i l = record {
+  long : length l.answers ≡ length l.group;
+  answers : (k : ℕ) (d : Listed) → k < l.i → array_at l.answers k ≡ truth (is_before l.other (get_or l.group k d));
+}
