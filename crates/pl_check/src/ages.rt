@@ -2,7 +2,7 @@
 ghost use Rattle.std.specs.Prelude.{◌≡◌, ◌∷◌, [], option_map, OnErr, IfOk, Err};
 ghost use Rattle.pl_terms.specs.Kinds.{kind_of};
 ghost use Rattle.pl_check.specs.Typed as spec;
-ghost use Rattle.pl_check.specs.Values.{bound};
+ghost use Rattle.pl_check.specs.Values.{Text, bound};
 ghost use Rattle.pl_check.specs.Made.{terms_of};
 ghost use Rattle.pl_check.specs.Seen.{value_of, all_written};
 ghost use Rattle.pl_check.specs.Answers.{Finds};
@@ -112,6 +112,21 @@ fn called_age<'a, 'n>(
     }
 }
 
+// The same where there is a name.
+fn named_age<'a, 'n>(
+    place: Place,
+    name: &'n [u8],
+    written: &[Written<'n>],
+    terms: &mut Terms,
+) -> Result<Value<'a>, CheckError>
+    requires written { WrittenAreInGraph (terms_of terms.old).graph (all_written written.now) }
+    requires sound { IsSound (terms_of terms.old) }
+    ensures { Finds value_of terms.new result (spec.called place Operation.Age
+        (bound Name (Text name.now) ∷ []) (all_written written.entry.now) (terms_of terms.old)) }
+{
+    called_age(place, Value::Text(name), written, terms)
+}
+
 /// The age of a number beside bars.
 pub(crate) fn aged<'a>(
     place: Place,
@@ -125,9 +140,8 @@ pub(crate) fn aged<'a>(
     ensures { Finds value_of terms.new result (spec.aged place (value_of object.entry)
         (all_written written.entry.now) (terms_of terms.old)) }
 {
-    let name = copied_name(terms, object)?;
-    match &name {
-        Some(name) => called_age(place, Value::Text(name.bytes()), written, terms),
+    match copied_name(terms, object)? {
+        Some(name) => named_age(place, name.bytes(), written, terms),
         None => called_age(place, Value::Number(0), written, terms),
     }
 }
