@@ -116,7 +116,7 @@ fn called_age<'a, 'n>(
 // The same where there is a name.
 fn named_age<'a, 'n>(
     place: Place,
-    name: &'n [u8],
+    name: &'n Text,
     written: &[Written<'n>],
     terms: &mut Terms,
 ) -> Result<Value<'a>, CheckError>
@@ -125,7 +125,7 @@ fn named_age<'a, 'n>(
     ensures { Finds value_of terms.new result (spec.called place Operation.Age
         (bound Name (values.Text name.now) ∷ []) (all_written written.entry.now) (terms_of terms.old)) }
 {
-    called_age(place, Value::Text(name), written, terms)
+    called_age(place, Value::Text(name.bytes()), written, terms)
 }
 
 /// The age of a number beside bars.
@@ -142,7 +142,7 @@ pub(crate) fn aged<'a>(
         (all_written written.entry.now) (terms_of terms.old)) }
 {
     match copied_name(terms, object)? {
-        Some(name) => named_age(place, name.bytes(), written, terms),
+        Some(name) => named_age(place, &name, written, terms),
         None => called_age(place, Value::Number(0), written, terms),
     }
 }
