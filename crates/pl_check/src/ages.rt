@@ -2,7 +2,6 @@
 ghost use Rattle.std.specs.Prelude.{◌≡◌, ◌∷◌, [], option_map, OnErr, IfOk, Err};
 ghost use Rattle.pl_terms.specs.Kinds.{kind_of};
 ghost use Rattle.pl_check.specs.Typed as spec;
-ghost use Rattle.pl_check.specs.Values.{bound};
 ghost use Rattle.pl_check.specs.Values as values;
 ghost use Rattle.pl_check.specs.Made.{terms_of};
 ghost use Rattle.pl_check.specs.Seen.{value_of, all_written};
@@ -96,7 +95,7 @@ fn called_age<'a, 'n>(
     requires written { WrittenAreInGraph (terms_of terms.old).graph (all_written written.now) }
     requires sound { IsSound (terms_of terms.old) }
     ensures { Finds value_of terms.new result (spec.called place Operation.Age
-        (bound Name (value_of name.entry) ∷ []) (all_written written.entry.now) (terms_of terms.old)) }
+        (values.bound Name (value_of name.entry) ∷ []) (all_written written.entry.now) (terms_of terms.old)) }
 {
     let mut bound = Vec::new(terms.alloc);
     let parameter = Parameter::Name;
@@ -123,7 +122,7 @@ fn named_age<'a, 'n>(
     requires written { WrittenAreInGraph (terms_of terms.old).graph (all_written written.now) }
     requires sound { IsSound (terms_of terms.old) }
     ensures { Finds value_of terms.new result (spec.called place Operation.Age
-        (bound Name (values.Text name.now) ∷ []) (all_written written.entry.now) (terms_of terms.old)) }
+        (values.bound Name (values.Text name.now) ∷ []) (all_written written.entry.now) (terms_of terms.old)) }
 {
     called_age(place, Value::Text(name.bytes()), written, terms)
 }
