@@ -355,18 +355,12 @@ named-method-agrees : (n : ℕ) (p : Place) (v : Value) (m : List ℕ) (ws : Lis
     → Agrees of_meaning (Means s) (method_named_of n p v m ws s) (by_tree.method_named_of n p (meaning_of s.graph v) m (arguments_of s.graph ws) f)
 named-method-agrees n p v m ws s f w i k = here (names_one_asset n m)
   where
-    abbrev rest_of : Result (Found Value) Broken
-    rest_of = or_fault UnknownName p (member_named n m) >>= λ o. told_method p v ws s o
-
-    abbrev tree_rest : Result (After Meaning) Broken
-    tree_rest = or_fault UnknownName p (member_named n m) >>= λ o. by_tree.told_method p (meaning_of s.graph v) (arguments_of s.graph ws) f o
-
-    age : (b : Bool) → Agrees of_meaning (Means s) (cond b (aged p v ws s) rest_of) (cond b (by_tree.aged p (meaning_of s.graph v) (arguments_of s.graph ws) f) tree_rest)
+    age : (b : Bool) → Agrees of_meaning (Means s) (cond b (aged p v ws s) (or_fault UnknownName p (member_named n m) >>= λ o. told_method p v ws s o)) (cond b (by_tree.aged p (meaning_of s.graph v) (arguments_of s.graph ws) f) (or_fault UnknownName p (member_named n m) >>= λ o. by_tree.told_method p (meaning_of s.graph v) (arguments_of s.graph ws) f o))
     age true = age-agrees p v ws s f w i k
     age false = looked-agrees of_meaning (Means s) UnknownName p (member_named n m) _ _ (λ o. told-agrees p v ws s f o w i k)
 
-    here : (b : Bool) → Agrees of_meaning (Means s) (cond b (one_asset p v ws s) (cond (names_age n m) (aged p v ws s) rest_of))
-        (cond b (by_tree.one_asset p (meaning_of s.graph v) (arguments_of s.graph ws) f) (cond (names_age n m) (by_tree.aged p (meaning_of s.graph v) (arguments_of s.graph ws) f) tree_rest))
+    here : (b : Bool) → Agrees of_meaning (Means s) (cond b (one_asset p v ws s) (cond (names_age n m) (aged p v ws s) (or_fault UnknownName p (member_named n m) >>= λ o. told_method p v ws s o)))
+        (cond b (by_tree.one_asset p (meaning_of s.graph v) (arguments_of s.graph ws) f) (cond (names_age n m) (by_tree.aged p (meaning_of s.graph v) (arguments_of s.graph ws) f) (or_fault UnknownName p (member_named n m) >>= λ o. by_tree.told_method p (meaning_of s.graph v) (arguments_of s.graph ws) f o)))
     here true = asset-agrees p v ws s f w i k
     here false = age (names_age n m)
 

@@ -113,10 +113,10 @@ fn called_age<'a, 'n>(
 }
 
 // The same where there is a name.
-fn named_age<'a, 'n>(
+fn named_age<'a>(
     place: Place,
-    name: &'n [u8],
-    written: &[Written<'n>],
+    name: &[u8],
+    written: &[Written<'a>],
     terms: &mut Terms,
 ) -> Result<Value<'a>, CheckError>
     requires written { WrittenAreInGraph (terms_of terms.old).graph (all_written written.now) }
