@@ -1,5 +1,5 @@
 -- The age of a number is a factor.
-use Rattle.std.proofs.Common.{◌≡◌, ℕ, List, [], Option, Some, None, Ok, subst}
+use Rattle.std.proofs.Common.{◌≡◌, ℕ, false, List, [], Option, Some, None, Ok, subst}
 use Rattle.std.specs.Result.{IfOk}
 use Rattle.std.proofs.lemmas.Result.{IfOk-at_ok}
 use Rattle.pl_grammar.specs.declared.Place.{Place}
@@ -39,5 +39,5 @@ factor-called p bs ws s =
     found-ok (λ r. IsFactor r.value) BadArgument p (form op.Age false bs ws) (λ cs. applied p op.Age cs s) (λ cs e.
     unless-ok (λ r. IsFactor r.value) (broken cs) p _ (λ b. some-ok (λ r. IsFactor r.value) TooManyTerms p (made op.Age cs s) (λ r h. factor-made cs s r h)))
 
-pub age-is-factor : (p : Place) (bs : List Bound) (ws : List Written) {s t : Terms} {x : Value} → called p op.Age bs ws s ≡ Ok (found x t) → IsFactor x
-age-is-factor p bs ws {s = s} h = IfOk-at_ok (λ r. IsFactor r.value) h (factor-called p bs ws s)
+pub age-is-factor : (p : Place) (bs : List Bound) (ws : List Written) (s t : Terms) (x : Value) → called p op.Age bs ws s ≡ Ok (found x t) → IsFactor x
+age-is-factor p bs ws s t x h = IfOk-at_ok (λ r. IsFactor r.value) h (factor-called p bs ws s)
