@@ -113,10 +113,10 @@ fn called_age<'a, 'n>(
 }
 
 // The same where there is a name.
-fn named_age<'a, 'n>(
+fn named_age<'a>(
     place: Place,
-    name: &'n Text,
-    written: &[Written<'n>],
+    name: &[u8],
+    written: &[Written<'a>],
     terms: &mut Terms,
 ) -> Result<Value<'a>, CheckError>
     requires written { WrittenAreInGraph (terms_of terms.old).graph (all_written written.now) }
@@ -124,7 +124,7 @@ fn named_age<'a, 'n>(
     ensures { Finds value_of terms.new result (spec.called place Operation.Age
         (values.bound Name (values.Text name.now) ∷ []) (all_written written.entry.now) (terms_of terms.old)) }
 {
-    called_age(place, Value::Text(name.bytes()), written, terms)
+    called_age(place, Value::Text(name), written, terms)
 }
 
 /// The age of a number beside bars.
@@ -141,7 +141,7 @@ pub(crate) fn aged<'a>(
         (all_written written.entry.now) (terms_of terms.old)) }
 {
     match copied_name(terms, object)? {
-        Some(name) => named_age(place, &name, written, terms),
+        Some(name) => named_age(place, name.bytes(), written, terms),
         None => called_age(place, Value::Number(0), written, terms),
     }
 }
