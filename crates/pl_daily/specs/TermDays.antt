@@ -38,11 +38,20 @@ pub record Moment : Type 0 where
 abbrev pub cell_on : World → Pipeline → List ℕ → ℕ → ℕ → ℤ → ℤ
 cell_on w p sids t i d = in_array w.texts (value_of w p t (sid_in sids i) d)
 
--- the window of an input that ends on session s or with the one before it, sessions below 0 among them
+-- the same as it is seen from session s
+abbrev pub seen_on : World → Pipeline → List ℕ → ℕ → ℤ → ℕ → ℤ → ℤ
+seen_on w p sids t s i d = in_array w.texts (seen w p.names (term_at p.graph t) (From s) (sid_in sids i) d)
+
+-- The window of an input that ends on the session that is so many before s, or with the one before that, all of
+-- it as it is seen from s. Sessions below 0 are among them.
+abbrev pub seen_window_of : World → Pipeline → List ℕ → ℕ → ℕ → Option spec.Input → ℕ → ℕ → List ℤ
+seen_window_of w p sids size after None i s = []
+seen_window_of w p sids size after (Some (BarColumn c)) i s = map (λ n. seen_cell w (sid_in sids i) c (before (pos s) (suc (n + after))) (pos s)) (downward size)
+seen_window_of w p sids size after (Some (TermInput t)) i s = map (λ n. seen_on w p sids t (pos s) i (before (pos s) (n + after))) (downward size)
+
+-- one that ends with s
 abbrev pub day_window_of : World → Pipeline → List ℕ → ℕ → Option spec.Input → ℕ → ℕ → List ℤ
-day_window_of w p sids size None i s = []
-day_window_of w p sids size (Some (BarColumn c)) i s = bar_window w c size (sid_in sids i) (pos s)
-day_window_of w p sids size (Some (TermInput t)) i s = map (λ n. cell_on w p sids t i (before (pos s) n)) (downward size)
+day_window_of w p sids size o i s = seen_window_of w p sids size 0 o i s
 
 abbrev pub pipeline_at : TermDay → Pipeline
 pipeline_at t = pipeline_of t.checked.now
@@ -73,7 +82,7 @@ pub record HoldsRow (t : TermDay) (v : Moment) (u : ℕ) : Type 0 where
   pub known : u < length t.terms.now
   pub fills : Fills (λ i. cell_of v.world (pipeline_at t) (sids_at t) u i v.session) (assets_at t) (row_of (slice_get t.terms.now u))
 
--- the rings of term u hold its cells on the sessions up to the day
+-- the rings of term u hold its cells on the sessions up to the day, as they are seen on it
 pub record HoldsRings (t : TermDay) (v : Moment) (u : ℕ) : Type 0 where
   pub rings : AreRings (assets_at t) (capacity_of (slice_get t.terms.now u)) (rings_in (slice_get t.terms.now u))
   pub fits : (node_at t).window ≤ capacity_of (slice_get t.terms.now u)
@@ -116,6 +125,27 @@ pub record IsTermDay (t : TermDay) (v : Moment) : Type 0 where
   pub rings : is_windowed (node_at t).kind ≡ true → (place u : ℕ) → slice_get (node_at t).inputs place ≡ Some (TermInput u) → HoldsRings t v u
   pub bars : (place : ℕ) (c : Column) → slice_get (node_at t).inputs place ≡ Some (BarColumn c) → HoldsBars t v c
   pub start : (f : Frequency) (u : ℕ) → (node_at t).kind ≡ Downsample f → slice_get (node_at t).inputs 0 ≡ Some (TermInput u) → HoldsStart t v f u
+
+-- ---- computed anew
+
+-- the session is that of the day, or so many before it
+abbrev pub HoldsBack : TermDay → Moment → ℕ → ℕ → Type 0
+HoldsBack t v u depth = HoldsRings t v u × (depth < capacity_of (slice_get t.terms.now u))
+
+-- What the term reads is held as far back as it is read itself: on sessions up to depth before the day; and the
+-- calendar knows the days of these.
+pub record IsReadBack (t : TermDay) (v : Moment) (depth : ℕ) : Type 0 where
+  pub bars : (place : ℕ) (c : Column) → slice_get (node_at t).inputs place ≡ Some (BarColumn c) → (node_at t).window + depth ≤ (rings_of t.bars.now c).capacity
+  pub values : (place u : ℕ) → slice_get (node_at t).inputs place ≡ Some (TermInput u) → HoldsRings t v u × ((node_at t).window + depth ≤ capacity_of (slice_get t.terms.now u))
+  pub mask : (u : ℕ) → (node_at t).mask ≡ Some u → HoldsBack t v u depth
+  pub lives : (i after : ℕ) (day : ℤ) → i < assets_at t → after ≤ depth → after ≤ v.session
+      → slice_get t.bars.now.calendar.items (length t.bars.now.calendar.items - after - 1) ≡ Some day
+      → exists v.world (sid_in (sids_at t) i) (before (pos v.session) after) ≡ lives_at t.assets.now day i
+  pub days : depth < length t.bars.now.calendar.items
+
+-- the ring of an asset has the term's cells on the sessions up to the day, as they are seen on it
+abbrev pub IsSeenRing : TermDay → Moment → ℕ → List ℤ → Type 0
+IsSeenRing t v i cells = cells ≡ map (λ n. seen_on v.world (pipeline_at t) (sids_at t) t.term.0 (pos v.session) i (before (pos v.session) n)) (downward (length cells))
 
 -- a row has the term's cells on the session
 abbrev pub IsRowOfTerm : TermDay → Moment → List ℤ → Type 0

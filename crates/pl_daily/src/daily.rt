@@ -21,6 +21,7 @@ ghost use Rattle.pl_daily.specs.Steps.{Answers, IsMidway, TakeTerms, sessions_of
 use crate::capacities::depths_of;
 use crate::columns::BarRings;
 use crate::day::Day;
+use crate::events::mark_changed;
 use crate::fill::{fill_terms, take_reaches};
 use crate::kept::{put_kept, screen_row};
 use crate::reaches::is_ready;
@@ -61,6 +62,8 @@ pub struct Daily<'a> {
     starts: Vec<StartCells>,
     since: Vec<Option<usize>>,
     kept: Vec<u32>,
+    depths: Vec<usize>,
+    changed: Vec<bool>,
     room: Room,
 }
 
@@ -80,6 +83,8 @@ impl<'a> Drop for Daily<'a> {
             starts: _starts,
             since: _since,
             kept: _kept,
+            depths: _depths,
+            changed: _changed,
             room: _room,
         } = self;
     }
@@ -169,6 +174,8 @@ impl<'a> Daily<'a> {
             starts: begin_starts(alloc, checked, many)?,
             since: begin_since(alloc, terms)?,
             kept: Vec::with_capacity(alloc, many)?,
+            depths,
+            changed: vec![in alloc; false; many]?,
             room: Room::reserve(alloc, many, terms)?,
         })
     }
@@ -210,6 +217,7 @@ impl<'a> Daily<'a> {
         ensures rest { self.new ≡ record self.old { terms = self.new.terms; starts = self.new.starts } }
     {
         let last = self.last_day();
+        mark_changed(day.events, &mut self.changed);
         let lent = Lent {
             checked: self.checked,
             assets: self.assets,
@@ -219,6 +227,8 @@ impl<'a> Daily<'a> {
             day: day.day,
             last,
             fed: self.fed,
+            depths: &self.depths,
+            changed: &self.changed,
         };
         fill_terms(&lent, &mut self.terms, &mut self.starts, &mut self.room);
     }

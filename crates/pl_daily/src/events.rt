@@ -125,3 +125,11 @@ pub(crate) fn take_events<L: Ledger>(
         );
     }
 }
+
+/// Marks the assets that have events.
+pub(crate) fn mark_changed(events: &[DayEvent], changed: &mut [bool]) {
+    changed.fill(false);
+    for event in events {
+        changed[event.col as usize] = true;
+    }
+}

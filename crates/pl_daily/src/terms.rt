@@ -7,6 +7,7 @@ ghost use Rattle.pl_daily.specs.Room.{IsRoom};
 ghost use Rattle.pl_daily.specs.Terms.{AreStarts, AreTerms, FollowTermAt, FollowTerms, IsAt, IsPlaced};
 ghost use Rattle.pl_daily.specs.Terms.{IsLent, IsRowOf, IsStartRoom, assets_at, pipeline_at, rooms};
 
+use crate::anew::renew_ring;
 use crate::columns::BarRings;
 use crate::held::put_term;
 use crate::room::Room;
@@ -19,7 +20,8 @@ use pl_terms::{Checked, TermId};
 
 /// What the terms of a day are computed from: the pipeline, the assets, their labels and numbers, the rings
 /// of bars with the day, the day itself, the one before it, if there is one, and how many there are before
-/// it. Days are counted from 1970-01-01.
+/// it. Days are counted from 1970-01-01. By number of the term on how many earlier sessions it is read as it is
+/// seen on the day, and by column whether the asset has adjustments of the day.
 #[derive(Clone, Copy)]
 pub struct Lent<'t> {
     pub checked: &'t Checked,
@@ -30,6 +32,8 @@ pub struct Lent<'t> {
     pub day: i32,
     pub last: Option<i32>,
     pub fed: usize,
+    pub depths: &'t [usize],
+    pub changed: &'t [bool],
 }
 
 // What the types keep of what is lent is at hand after one call, which does nothing.
@@ -78,6 +82,38 @@ fn term_row(lent: &Lent<'_>, terms: &[TermCells], term: TermId, start: &StartCel
     );
 }
 
+// Computes the earlier cells of a used term anew, for the assets with adjustments of the day; the terms below
+// have the day already.
+fn renew_term(lent: &Lent<'_>, terms: &mut [TermCells], term: TermId, room: &mut Room) {
+    let (below, rest) = terms.split_at_mut(term.0 as usize);
+    let term_day = TermDay {
+        checked: lent.checked,
+        assets: lent.assets,
+        labels: lent.labels,
+        numbers: lent.numbers,
+        bars: lent.bars,
+        terms: below,
+        term,
+        node: lent.checked.graph().node(term),
+        start: &[],
+        day: lent.day,
+    };
+    let rings = &mut rest[0].rings.rings;
+    for i in 0..rings.len() {
+        if lent.changed[i] {
+            renew_ring(
+                &term_day,
+                i,
+                lent.fed,
+                &mut room.first,
+                &mut room.second,
+                &mut room.third,
+                &mut rings[i],
+            );
+        }
+    }
+}
+
 // Takes the day into a used term; those below have it already.
 fn advance_term(
     lent: &Lent<'_>,
@@ -103,6 +139,9 @@ fn advance_term(
     take_start(lent, terms, term, start);
     term_row(lent, terms, term, start, room);
     put_term(&mut terms[term.0 as usize], &room.out);
+    if lent.depths[term.0 as usize] > 0 {
+        renew_term(lent, terms, term, room);
+    }
 }
 
 /// Takes the day into all used terms. The rings of bars have it already; the terms stand for the days before,

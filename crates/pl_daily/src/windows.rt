@@ -13,8 +13,9 @@ use crate::term_day::TermDay;
 use pl_terms::Input;
 use pl_values::{input_at, is_one, kind_of, window_of, window_value};
 
-// The window of the input in a place, for an asset; it has the length of the slice.
-fn read_window(term_day: &TermDay<'_>, place: usize, i: usize, window: &mut [i64])
+// The window of the input in a place that ends so many sessions before the day, for an asset; it has the length
+// of the slice.
+pub(crate) fn read_window(term_day: &TermDay<'_>, place: usize, i: usize, after: usize, window: &mut [i64])
     requires term_day { (v : Moment) × IsTermDay term_day.now v }
     requires kind { is_windowed (node_at term_day.now).kind ≡ true }
     requires asset { i < assets_at term_day.now }
@@ -29,15 +30,15 @@ fn read_window(term_day: &TermDay<'_>, place: usize, i: usize, window: &mut [i64
     }
     match input_at(term_day.node, place) {
         Some(Input::Term(term)) => {
-            copy_window(&term_day.terms[term.0 as usize].rings.rings[i], window);
+            copy_window(&term_day.terms[term.0 as usize].rings.rings[i], after, window);
         }
-        Some(Input::Column(column)) => copy_window(&term_day.bars.of(column).rings[i], window),
+        Some(Input::Column(column)) => copy_window(&term_day.bars.of(column).rings[i], after, window),
         None => {}
     }
 }
 
 // How long the window of the input in a place is.
-fn size_of(term_day: &TermDay<'_>, place: usize) -> usize
+pub(crate) fn size_of(term_day: &TermDay<'_>, place: usize) -> usize
     ensures { result ≡ window_size (node_at term_day.now) place }
 {
     match input_at(term_day.node, place) {
@@ -72,9 +73,9 @@ fn window_cell(
     if !is_one(keep) {
         return empty;
     }
-    read_window(term_day, 0, i, first);
-    read_window(term_day, 1, i, second);
-    read_window(term_day, 2, i, third);
+    read_window(term_day, 0, i, 0, first);
+    read_window(term_day, 1, i, 0, second);
+    read_window(term_day, 2, i, 0, third);
     window_value(kind_of(term_day.node), first, second, third)
 }
 
