@@ -24,7 +24,7 @@ use Rattle.pl_daily.specs.Rows.{capacity_of, ending, ring_window, rings_in}
 use Rattle.pl_daily.specs.TermDays.{Moment, IsTermDay, IsReadBack, HoldsRings, assets_at, node_at, pipeline_at, seen_on, seen_window_of, sids_at}
 use Rattle.pl_daily.specs.Windows.{window_at}
 use Rattle.pl_daily.proofs.Endings.{ending-is}
-use Rattle.pl_daily.proofs.SeenWindows.{AreSeenFrom, numbers-seen, seen-takes, window-seen-cell}
+use Rattle.pl_daily.proofs.SeenWindows.{AreSeenFrom, numbers-seen, seen-takes, window_seen, window-seen-cell}
 
 module _ (t : TermDay) (v : Moment) (is : IsTermDay t v) (depth : ℕ) (back : IsReadBack t v depth) where
   abbrev w : World
@@ -57,3 +57,41 @@ module _ (t : TermDay) (v : Moment) (is : IsTermDay t v) (depth : ℕ) (back : I
     where
       no_more : (m : ℕ) → before (pos v.session) (m + 0) ≡ before (pos v.session) m
       no_more m = omega (arith, ints)
+
+  -- the session that is so many before the day
+  module _ (after r i : ℕ) (at : r + after ≡ v.session) (few : after ≤ depth) (inside : i < assets_at t) where
+    bar-back : (m : ℕ) → before (pos v.session) (suc (m + after)) ≡ before (pos r) (suc m)
+    bar-back m = omega (arith, ints, at)
+
+    term-back : (m : ℕ) → before (pos v.session) (m + after) ≡ before (pos r) m
+    term-back m = omega (arith, ints, at)
+
+    module _ (f : WindowKind) (e : n.kind ≡ Window f) (moves : keeps_window f ≡ false) where
+      from_day : view_of n.kind (From (pos v.session)) (pos r) ≡ From (pos v.session)
+      from_day = ap (λ k. view_of k (From (pos v.session)) (pos r)) e ∙ rw moves refl
+
+      window-is : (place : ℕ) (o : Option spec.Input) → slice_get n.inputs place ≡ o
+          → seen_window_of w p sids n.window after o i v.session ≡ window_seen w p sids is.checked t.term.0 n is.node f e i r (From (pos v.session)) o
+      window-is place None h = refl
+      window-is place (Some (BarColumn c)) h =
+          ap (λ (g : ℕ → ℤ). map g (downward n.window)) (fun_ext (λ m. ap (λ d. seen_cell w (sid_in sids i) c d (pos v.session)) (bar-back m)))
+      window-is place (Some (TermInput u)) h =
+          ap (λ (g : ℕ → ℤ). map g (downward n.window))
+          (fun_ext (λ m. ap (seen_on w p sids u (pos v.session) i) (term-back m)
+          ∙ sym (numbers-seen w p sids is.checked t.term.0 n is.node f e i r (From (pos v.session)) place u h (before (pos r) m))))
+
+      window-read : (place : ℕ) → window_at t place after i ≡ window_seen w p sids is.checked t.term.0 n is.node f e i r (view_of n.kind (From (pos v.session)) (pos r)) (slice_get n.inputs place)
+      window-read place =
+          earlier-window after place i (slice_get n.inputs place) few inside refl ∙ window-is place (slice_get n.inputs place) refl
+          ∙ ap (λ q. window_seen w p sids is.checked t.term.0 n is.node f e i r q (slice_get n.inputs place)) (sym from_day)
+
+      pub windows-seen : All IsCell (window_at t 0 after i) → All IsCell (window_at t 1 after i) → All IsCell (window_at t 2 after i)
+          → AreSeenFrom w p sids is.checked t.term.0 n is.node f e i r (view_of n.kind (From (pos v.session)) (pos r)) (window_at t 0 after i) (window_at t 1 after i) (window_at t 2 after i)
+      windows-seen a b c =
+          record { first = window-read 0; second = window-read 1; third = window-read 2; first_cells = a; second_cells = b; third_cells = c }
+
+      -- a formula that moves
+      pub window-earlier : All IsCell (window_at t 0 after i) → All IsCell (window_at t 1 after i) → All IsCell (window_at t 2 after i)
+          → seen_of w p sids t.term.0 (From (pos v.session)) i r
+          ≡ chosen (is_kept w p sids n.mask i r) (windowed n.kind (window_at t 0 after i) (window_at t 1 after i) (window_at t 2 after i)) (empty_cell p t.term.0)
+      window-earlier a b c = window-seen-cell w p sids is.checked t.term.0 n is.node f e i r (From (pos v.session)) _ _ _ (windows-seen a b c)
