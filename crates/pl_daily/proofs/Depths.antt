@@ -1,15 +1,15 @@
 -- On how many sessions before the last one terms are read as they are seen on the last.
 use Rattle.std.proofs.Common.{◌≡◌, ℕ, zero, suc, ◌+◌, ◌-◌, ◌*◌, ◌^◌, ◌<◌, ◌≤◌, Bool, true, false, cond, if◌then◌else◌, max, List, [], ◌∷◌, length, map, fold, filter, get_or, slice_set, drop, take, replicate, Option, Some, None, unwrap_or, refl, sym, ◌∙◌, ap, arith, inl, inr, ◌==◌}
 use Rattle.std.specs.List.{range_with_len}
-use Rattle.std.proofs.lemmas.Bool.{cases_eq, eqb-true, ne_eqb}
+use Rattle.std.proofs.lemmas.Bool.{cases_eq, eq-eqb, eqb-true, ne_eqb, true≢false}
 use Rattle.std.proofs.lemmas.List.{length-replicate}
 use Rattle.std.proofs.lemmas.Option.{slice_get_within}
 use Rattle.pl_spec.specs.Limits.{most_terms, most_window}
 use Rattle.pl_pipeline.specs.Term.{Graph}
 use Rattle.pl_pipeline.specs.Graph.{used_terms}
-use Rattle.pl_pipeline.specs.Cones.{Follows, HasDepth, cone_depths, larger, mark}
+use Rattle.pl_pipeline.specs.Cones.{Follows, HasDepth, cone_depths, larger, mark, moves_at}
 use Rattle.pl_pipeline.specs.Table.{Pipeline}
-use Rattle.pl_laws.proofs.ConeDepths.{depths-sound}
+use Rattle.pl_laws.proofs.ConeDepths.{depths-sound, depths-greatest}
 use Rattle.pl_laws.proofs.ConeInputs.{input-lower}
 use Rattle.pl_terms.specs.Checked.{IsChecked}
 use Rattle.pl_terms.specs.Uses.{outputs, is_used}
@@ -56,6 +56,24 @@ depth-cons u c cs = here (c.0 == u)
     here true = of_larger c.1 (mark u cs)
     here false = refl
 
+-- a listed depth is no greater
+has-least : (u m : ℕ) (cs : List (ℕ × ℕ)) → HasDepth u m cs → m ≤ depth_in u cs
+has-least u m [] h = absurd h
+has-least u m (c ∷ cs) (inl e) =
+    let own : (c.0 == u) ≡ true = eq-eqb c.0 u (ap (λ (q : ℕ × ℕ). q.0) e) in
+    let is : c.1 ≡ m = ap (λ (q : ℕ × ℕ). q.1) e in
+    let all : depth_in u (c ∷ cs) ≡ max c.1 (depth_in u cs) = depth-cons u c cs ∙ ap (λ (b : Bool). if b then max c.1 (depth_in u cs) else depth_in u cs) own in
+    omega (arith, all, is)
+has-least u m (c ∷ cs) (inr h) = more (c.0 == u) refl (has-least u m cs h)
+  where
+    more : (b : Bool) → (c.0 == u) ≡ b → m ≤ depth_in u cs → m ≤ depth_in u (c ∷ cs)
+    more true e l =
+        let all : depth_in u (c ∷ cs) ≡ max c.1 (depth_in u cs) = depth-cons u c cs ∙ ap (λ (b : Bool). if b then max c.1 (depth_in u cs) else depth_in u cs) e in
+        omega (arith, all, l)
+    more false e l =
+        let all : depth_in u (c ∷ cs) ≡ depth_in u cs = depth-cons u c cs ∙ ap (λ (b : Bool). if b then max c.1 (depth_in u cs) else depth_in u cs) e in
+        omega (arith, all, l)
+
 -- a depth above 0 is listed
 depth-has : (u m : ℕ) (cs : List (ℕ × ℕ)) → depth_in u cs ≡ suc m → HasDepth u (suc m) cs
 depth-has u m [] e = let bad : 0 ≡ suc m = e in absurd (omega (arith, bad))
@@ -78,6 +96,16 @@ module _ (p : Pipeline) (ok : IsChecked p) where
   abbrev g : Graph
   g = p.graph
 
+  -- so far as a used term reads it
+  pub deepest-reads : (t u m : ℕ) → is_used p t ≡ true → t < length g → Follows g t u m → m ≤ deepest p u
+  unfolding deepest
+  deepest-reads t u m used within f =
+      let r = depths-greatest g ok.graph t u m f in
+      let listed : r.0 ≤ depth_in u (cone_depths g t) = has-least u r.0 (cone_depths g t) r.1 in
+      let most = used-at-most (λ t. depth_in u (cone_depths g t)) p t used within in
+      let least : m ≤ r.0 = r.2 in
+      omega (arith, listed, most, least)
+
   -- no deeper than all that read it
   pub deepest-few : (u b : ℕ) → ((t m : ℕ) → Follows g t u (suc m) → suc m ≤ b) → deepest p u ≤ b
   unfolding deepest
@@ -89,6 +117,14 @@ module _ (p : Pipeline) (ok : IsChecked p) where
       by_depth t (suc m) e =
           let l : suc m ≤ b = each t m (depths-sound g ok.graph t u (suc m) (depth-has u m (cone_depths g t) e)) in
           omega (arith, e, l)
+
+  -- a term that is steady is read on the last alone
+  pub steady-shallow : (u : ℕ) → moves_at g u ≡ false → deepest p u ≡ 0
+  steady-shallow u steady = (let few : deepest p u ≤ 0 = deepest-few u 0 (λ t m f. absurd (true≢false (sym (follows-moves t (suc m) f) ∙ steady))) in omega arith)
+    where
+      follows-moves : (t m : ℕ) → Follows g t u m → moves_at g u ≡ true
+      follows-moves t m (Follows.input n i e w at h) = h
+      follows-moves t m (Follows.through v j n i f e at h) = h
 
   follows-within : (t u m : ℕ) → Follows g t u m → t < length g
   follows-within t u m (Follows.input n i e w at h) = slice_get_within g t n e

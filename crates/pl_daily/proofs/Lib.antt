@@ -24,4 +24,8 @@ pub mod Sessions
 pub mod Values
 pub mod RowsShown
 pub mod Given
+pub mod SeenDays
+pub mod SeenWindows
+pub mod Endings
+pub mod Earlier
 pub mod DayByDay
