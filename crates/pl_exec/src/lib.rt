@@ -14,6 +14,7 @@ mod leaves;
 mod points;
 mod rows;
 mod term_session;
+mod views;
 mod windows;
 
 pub use chunk::{Chunk, ChunkReport, execute_chunk};
