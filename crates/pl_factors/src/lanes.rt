@@ -18,6 +18,7 @@ use crate::faded::{COARSE, FINE, deviation_by, faded_weights, mean_by};
 use crate::ordered::fill_percentiles;
 use crate::regressions::{fill_regressions, is_regression};
 use crate::running::{Running, keeps};
+use crate::shapes::{fill_moments, is_moment};
 use crate::starts::sums_of;
 use crate::steps::next_sums;
 use crate::trends::{fill_trends, is_trend};
@@ -268,6 +269,8 @@ pub fn fill_values(kind: &TermKind, size: usize, a: &[i64], b: &[i64], c: &[i64]
         fill_regressions(kind, size, a, b, out);
     } else if is_trend(kind) && size > 0 && is_filled(size, a, out) {
         fill_trends(kind, size, a, out);
+    } else if is_moment(kind) && size > 0 && is_filled(size, a, out) {
+        fill_moments(kind, size, a, out);
     } else {
         match kind {
             TermKind::ExponentialWeightedMovingAverage { decay } if is_filled(size, a, out) =>

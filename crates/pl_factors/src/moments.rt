@@ -1,15 +1,18 @@
 //! Skewness and kurtosis, from the sums of the first four powers of the present cells.
 
-ghost use Rattle.std.specs.Prelude.{◌≡◌, ◌≤◌, ◌*◌, pos, ◌*ℤ◌, ◌-ℤ◌, length, unsigned_abs};
+ghost use Rattle.std.specs.Prelude.{◌≡◌, ◌≤◌, ◌+◌, ◌*◌, pos, ◌*ℤ◌, ◌-ℤ◌, length, unsigned_abs};
 ghost use Rattle.std.specs.List.{All};
 ghost use Rattle.pl_spec.specs.Limits.{most_window};
 ghost use Rattle.pl_spec.specs.Rounding.{IsCell, LIMIT};
 ghost use Rattle.pl_pipeline.specs.Formula.{power_sums, second_moment, third_moment, fourth_moment};
 ghost use Rattle.pl_pipeline.specs.Formula.{skewness, kurtosis};
+ghost use Rattle.pl_factors.specs.Spans.{before, after};
 ghost use Rattle.pl_factors.specs.Terms.{ArePowers, MOST_SUM, powers};
 
 use crate::averages::total_products;
 use crate::powers::{fourth_powers, weighted_squares};
+use crate::shapes::{next_cubes, next_fourth_powers};
+use crate::sums::{next_count, next_products, next_sum};
 use pl_fixed::neg;
 use pl_lanes::sum_present;
 use pl_regression::root;
@@ -58,6 +61,25 @@ impl PowerSums {
             second: total_products(a, a),
             third: weighted_squares(a, a),
             fourth: fourth_powers(a),
+        }
+    }
+
+    // The sums of the window one cell later. Both windows are one list: all but its last cell, and all but its
+    // first.
+    pub(crate) fn next(&self, a: &[i64]) -> PowerSums
+        requires cells { All IsCell a.now }
+        requires some { 2 ≤ length a.now }
+        requires few { length a.now ≤ most_window + 1 }
+        requires stands { self.now ≡ power_sums (before a.now) }
+        ensures value { result ≡ power_sums (after a.now) }
+        ensures small { ArePowers result }
+    {
+        PowerSums {
+            number: next_count(self.number, a),
+            first: next_sum(self.first, a),
+            second: next_products(self.second, a, a),
+            third: next_cubes(&self.third, a),
+            fourth: next_fourth_powers(&self.fourth, a),
         }
     }
 
