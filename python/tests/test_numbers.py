@@ -15,6 +15,7 @@ from tohmeril.pipeline import Inexpressible, Pipeline
 from tohmeril.pipeline.data import BoundColumn, Column, DataSet, EquityPricing, Labels
 from tohmeril.pipeline.factors import (
     AverageDollarVolume,
+    BusinessDaysSincePreviousEvent,
     Latest,
     Returns,
     SimpleMovingAverage,
@@ -67,6 +68,13 @@ TEXTS = [
     ),
     (earnings.quintiles().eq(4), 'number("earnings").quantiles(5) == 4'),
     (earnings.downsample("month_start"), 'number("earnings").downsample("month_start")'),
+    (earnings.age(), 'number("earnings").age()'),
+    (earnings.age("business_days") / interest, 'number("earnings").age("business_days") / number("short_interest")'),
+    (BusinessDaysSincePreviousEvent([Scores.value]), 'number("value_score").age("business_days")'),
+    (
+        BusinessDaysSincePreviousEvent([Fundamentals.earnings], mask=price > 5),
+        'number("earnings").age("business_days").where(close.latest > 5)',
+    ),
 ]
 
 
@@ -74,10 +82,11 @@ TEXTS = [
 def test_term(term, text):
     assert repr(term) == text and pickle.loads(pickle.dumps(term)) is term
     written = str(Pipeline({"x": term})) + "\n"
-    assert written.startswith("pipeline 3;\n")
+    first = "pipeline 4;\n" if ".age(" in text else "pipeline 3;\n"
+    assert written.startswith(first)
     with program.file(written) as name:  # the text is the program's own canonical form
         assert program.call("fmt", name).decode() == written
-    assert check(f"pipeline 3;\ncolumn x = {text};\n") == check(Pipeline({"x": term}))
+    assert check(f"{first}column x = {text};\n") == check(Pipeline({"x": term}))
 
 
 def test_texts_without_numbers_stay():
@@ -127,6 +136,10 @@ def test_a_data_set():
         (lambda: Fundamentals.earnings.rank(), "has no rank: write Fundamentals.earnings.latest"),
         (lambda: Fundamentals.earnings.alias("x"), "has no alias"),
         (lambda: Pipeline({"a": Fundamentals.earnings}), "no factor, filter or classifier"),
+        (lambda: price.age(), "age: close.latest is no number of a DataSet: write Fundamentals.earnings.latest.age"),
+        (lambda: earnings.age().age(), "is no number of a DataSet"),
+        (lambda: BusinessDaysSincePreviousEvent([price]), "inputs has to be one column of numbers"),
+        (lambda: BusinessDaysSincePreviousEvent(), "inputs has to be one column of numbers"),
         (lambda: Column("datetime64[ns]"), "no Column.datetime64.*whole days since 1970"),
         (lambda: Column(complex), "no Column.complex.; nearest: Column.float."),
         (lambda: Column(float, missing_value=0), "fillna"),
@@ -294,6 +307,19 @@ def as_of(frame, reports, name, asof="2199-12-31"):
         .set_index(["session", "asset"])
         .value.reindex(frame.index)
         .to_numpy()
+    )
+
+
+def test_ages(whole, reports):
+    """By pandas' as-of join of the days on which they became known, and numpy's count of business days."""
+    ages = Pipeline({"days": earnings.age(), "business": earnings.age("business_days")})
+    frame = run_pipeline(ages, "2023-01-03", "2023-12-29", whole)
+    known = as_of(frame, reports.assign(value=pd.to_datetime(reports.known).where(reports.value.notna())), "earnings")
+    sessions, there = frame.index.get_level_values("session").to_numpy(), ~np.isnat(known)
+    np.testing.assert_array_equal(frame.days, (sessions - known) / np.timedelta64(1, "D"))
+    assert 0 < there.sum() < len(frame) and np.array_equal(frame.business.notna(), there)
+    np.testing.assert_array_equal(
+        frame.business[there], np.busday_count(*(days[there].astype("datetime64[D]") for days in (known, sessions)))
     )
 
 

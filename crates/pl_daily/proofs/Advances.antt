@@ -27,6 +27,11 @@ pushed_at xs n x j long h =
     let one : length (xs ++ x ∷ []) - n ≡ 1 = omega (arith, all, long) in
     ap (λ k. get_or (drop k (xs ++ x ∷ [])) j (pos 0)) one ∙ get_or-drop 1 (xs ++ x ∷ []) j (pos 0)
 
+pub newest-pushed : (xs : List ℤ) (n : ℕ) (x : ℤ) → length xs ≡ n → 0 < n → get_or (keep_last n (xs ++ x ∷ [])) (n - 1) (pos 0) ≡ x
+newest-pushed xs n x long some =
+    let last : 1 + (n - 1) ≡ length xs = omega (arith, long, some) in
+    pushed_at xs n x (n - 1) long (omega (arith, some)) ∙ ap (λ k. get_or (xs ++ x ∷ []) k (pos 0)) last ∙ get_or_push xs x (pos 0) (length xs) refl
+
 pub length-pushed : (xs : List ℤ) (n : ℕ) (x : ℤ) → length xs ≡ n → length (keep_last n (xs ++ x ∷ [])) ≡ n
 length-pushed xs n x long =
     let all : length (xs ++ x ∷ []) ≡ length xs + 1 = length-append xs (x ∷ []) in

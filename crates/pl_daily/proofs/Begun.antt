@@ -13,6 +13,7 @@ use Rattle.pl_pipeline.specs.Kind.Kind.{Downsample}
 use Rattle.pl_spec.specs.Rounding.{IsCell}
 use Rattle.pl_pipeline.specs.Table.{Pipeline}
 use Rattle.pl_pipeline.proofs.Cells.{zero-cell}
+use Rattle.pl_terms.specs.Checked.{IsChecked}
 use Rattle.pl_terms.specs.Sorts.{is_downsampled}
 use Rattle.pl_terms.specs.Uses.{is_used}
 use Rattle.pl_values.specs.Arrays.{empty_cell}
@@ -28,7 +29,7 @@ use Rattle.pl_daily.specs.Room.{AreBegun, AreBegunStarts, HasColumns, IsBegun, n
 use Rattle.pl_daily.specs.Terms.{AreStartCells, AreStarts, AreTerms, IsStartRoom, rooms}
 use Rattle.pl_planner.proofs.Counting.{all_same}
 use Rattle.pl_daily.proofs.Firsts.{none-first}
-use Rattle.pl_daily.proofs.Greatest.{column-window-in, term-window-in}
+use Rattle.pl_daily.proofs.Greatest.{column-window-in, mask-window-in, term-window-in, window-deep}
 
 -- ---- lists
 
@@ -90,13 +91,17 @@ module _ (assets : ℕ) (p : Pipeline) (x : Capacities) (bars : BarRings) (terms
   pub columns_fit : (c : Column) → (rings_of bars c).capacity ≡ column_window p c
   columns_fit c = room.rings c ∙ columns c
 
-  pub terms_are : AreTerms assets p bars terms
-  terms_are = record {
+  pub terms_are : IsChecked p → AreTerms assets p bars terms
+  terms_are ok = record {
     many = begun.many;
-    full = λ u t used e. (begun.each u t e).cells used;
-    values = λ k n place u t used at windowed input e. (let fits = term-window-in p k place n used at u windowed input in omega (arith, fits, (begun.each u t e).capacity));
-    bars = λ k n place c used at input. (let fits = column-window-in p k place n used at c input in omega (arith, fits, columns_fit c));
-    bar_rings = are;
+    room = record {
+      full = λ u t used e. (begun.each u t e).cells used;
+      values = λ k n place u t used at reads input e. (let fits = term-window-in p k place n used at u reads input in omega (arith, fits, (begun.each u t e).capacity));
+      masks = λ k n u t used at deep mask e. (let fits = mask-window-in p ok k n used at u deep mask in omega (arith, fits, (begun.each u t e).capacity));
+      bars = λ k n place c used at input. (let fits = column-window-in p k place n used at c input in omega (arith, fits, columns_fit c));
+      bar_rings = are;
+    };
+    deep = λ u t used e moves. (let most = window-deep p ok u moves in omega (arith, most, (begun.each u t e).capacity));
   }
 
   pub starts_are : AreStarts assets p starts

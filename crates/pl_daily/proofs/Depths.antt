@@ -1,17 +1,23 @@
 -- On how many sessions before the last one terms are read as they are seen on the last.
-use Rattle.std.proofs.Common.{◌≡◌, ℕ, zero, suc, ◌+◌, ◌-◌, ◌*◌, ◌^◌, ◌<◌, ◌≤◌, Bool, true, false, cond, if◌then◌else◌, max, List, [], ◌∷◌, length, map, fold, filter, get_or, slice_set, drop, take, replicate, Option, Some, None, unwrap_or, refl, sym, ◌∙◌, ap, arith, inl, inr, ◌==◌}
+use Rattle.std.proofs.Common.{◌≡◌, ℕ, zero, suc, ◌+◌, ◌-◌, ◌*◌, ◌^◌, ◌<◌, ◌≤◌, Bool, true, false, ◌||◌, nat_lt, cond, if◌then◌else◌, max, List, [], ◌∷◌, length, map, fold, filter, get_or, slice_set, slice_get, drop, take, replicate, Option, Some, None, unwrap_or, refl, sym, ◌∙◌, ap, arith, inl, inr, ◌==◌}
 use Rattle.std.specs.List.{range_with_len}
-use Rattle.std.proofs.lemmas.Bool.{cases_eq, eqb-true, ne_eqb}
+use Rattle.std.proofs.lemmas.Bool.{cases_eq, eq-eqb, eqb-true, ne_eqb, or_cases, true≢false}
+use Rattle.std.proofs.lemmas.Bool.Decides.{nat_tests}
 use Rattle.std.proofs.lemmas.List.{length-replicate}
 use Rattle.std.proofs.lemmas.Option.{slice_get_within}
 use Rattle.pl_spec.specs.Limits.{most_terms, most_window}
-use Rattle.pl_pipeline.specs.Term.{Graph}
+use Rattle.pl_pipeline.specs.Term.{Graph, Node}
+use Rattle.pl_pipeline.specs.Term.Input.{TermInput}
 use Rattle.pl_pipeline.specs.Graph.{used_terms}
-use Rattle.pl_pipeline.specs.Cones.{Follows, HasDepth, cone_depths, larger, mark}
+use Rattle.pl_pipeline.specs.Cones as cones
+use Rattle.pl_pipeline.specs.Cones.{Follows, HasDepth, cone_depths, larger, mark, moves_at}
+use Rattle.pl_pipeline.specs.Kind.{Kind}
+use Rattle.pl_pipeline.specs.Kind.Kind.{Window}
 use Rattle.pl_pipeline.specs.Table.{Pipeline}
-use Rattle.pl_laws.proofs.ConeDepths.{depths-sound}
+use Rattle.pl_laws.proofs.ConeDepths.{depths-sound, depths-greatest}
 use Rattle.pl_laws.proofs.ConeInputs.{input-lower}
 use Rattle.pl_terms.specs.Checked.{IsChecked}
+use Rattle.pl_terms.specs.Sorts.{is_windowed}
 use Rattle.pl_terms.specs.Uses.{outputs, is_used}
 use Rattle.pl_planner.specs.Cones.{pairs_of, pair_of}
 use Rattle.pl_planner.specs.declared.cones.ConeTerm.{ConeTerm}
@@ -56,6 +62,24 @@ depth-cons u c cs = here (c.0 == u)
     here true = of_larger c.1 (mark u cs)
     here false = refl
 
+-- a listed depth is no greater
+has-least : (u m : ℕ) (cs : List (ℕ × ℕ)) → HasDepth u m cs → m ≤ depth_in u cs
+has-least u m [] h = absurd h
+has-least u m (c ∷ cs) (inl e) =
+    let own : (c.0 == u) ≡ true = eq-eqb c.0 u (ap (λ (q : ℕ × ℕ). q.0) e) in
+    let is : c.1 ≡ m = ap (λ (q : ℕ × ℕ). q.1) e in
+    let all : depth_in u (c ∷ cs) ≡ max c.1 (depth_in u cs) = depth-cons u c cs ∙ ap (λ (b : Bool). if b then max c.1 (depth_in u cs) else depth_in u cs) own in
+    omega (arith, all, is)
+has-least u m (c ∷ cs) (inr h) = more (c.0 == u) refl (has-least u m cs h)
+  where
+    more : (b : Bool) → (c.0 == u) ≡ b → m ≤ depth_in u cs → m ≤ depth_in u (c ∷ cs)
+    more true e l =
+        let all : depth_in u (c ∷ cs) ≡ max c.1 (depth_in u cs) = depth-cons u c cs ∙ ap (λ (b : Bool). if b then max c.1 (depth_in u cs) else depth_in u cs) e in
+        omega (arith, all, l)
+    more false e l =
+        let all : depth_in u (c ∷ cs) ≡ depth_in u cs = depth-cons u c cs ∙ ap (λ (b : Bool). if b then max c.1 (depth_in u cs) else depth_in u cs) e in
+        omega (arith, all, l)
+
 -- a depth above 0 is listed
 depth-has : (u m : ℕ) (cs : List (ℕ × ℕ)) → depth_in u cs ≡ suc m → HasDepth u (suc m) cs
 depth-has u m [] e = let bad : 0 ≡ suc m = e in absurd (omega (arith, bad))
@@ -74,25 +98,77 @@ depth-has u m (c ∷ cs) e = here (c.0 == u) refl (depth-has u m cs)
 
 -- ---- those of used terms
 
+same-windowed : (k : Kind) → is_windowed k ≡ cones.is_windowed k
+same-windowed (Window f) = refl
+same-windowed k = refl
+
 module _ (p : Pipeline) (ok : IsChecked p) where
   abbrev g : Graph
   g = p.graph
 
-  -- no deeper than all that read it
-  pub deepest-few : (u b : ℕ) → ((t m : ℕ) → Follows g t u (suc m) → suc m ≤ b) → deepest p u ≤ b
+  -- so far as a used term reads it
+  pub deepest-reads : (t u m : ℕ) → is_used p t ≡ true → t < length g → Follows g t u m → m ≤ deepest p u
+  unfolding deepest
+  deepest-reads t u m used within f =
+      let r = depths-greatest g ok.graph t u m f in
+      let listed : r.0 ≤ depth_in u (cone_depths g t) = has-least u r.0 (cone_depths g t) r.1 in
+      let most = used-at-most (λ t. depth_in u (cone_depths g t)) p t used within in
+      let least : m ≤ r.0 = r.2 in
+      omega (arith, listed, most, least)
+
+  -- no deeper than all used terms that read it
+  pub deepest-few : (u b : ℕ) → ((t m : ℕ) → is_used p t ≡ true → Follows g t u (suc m) → suc m ≤ b) → deepest p u ≤ b
   unfolding deepest
   deepest-few u b each =
-      most-few (λ t. depth_in u (cone_depths g t)) b (used_terms g (outputs p)) 0 (λ t. by_depth t (depth_in u (cone_depths g t)) refl) (omega arith)
+      let most = most-few (used_depth p u) b (range_with_len 0 (length g)) 0 (λ t. by_use t (is_used p t) refl) (omega arith) in
+      let is = most-used (λ t. depth_in u (cone_depths g t)) p in
+      omega (arith, most, is)
     where
-      by_depth : (t m : ℕ) → depth_in u (cone_depths g t) ≡ m → depth_in u (cone_depths g t) ≤ b
-      by_depth t zero e = omega (arith, e)
-      by_depth t (suc m) e =
-          let l : suc m ≤ b = each t m (depths-sound g ok.graph t u (suc m) (depth-has u m (cone_depths g t) e)) in
+      by_depth : (t m : ℕ) → is_used p t ≡ true → depth_in u (cone_depths g t) ≡ m → depth_in u (cone_depths g t) ≤ b
+      by_depth t zero used e = omega (arith, e)
+      by_depth t (suc m) used e =
+          let l : suc m ≤ b = each t m used (depths-sound g ok.graph t u (suc m) (depth-has u m (cone_depths g t) e)) in
           omega (arith, e, l)
+
+      by_use : (t : ℕ) (q : Bool) → is_used p t ≡ q → used_depth p u t ≤ b
+      by_use t true e = rw e (by_depth t (depth_in u (cone_depths g t)) e refl)
+      by_use t false e = rw e (omega arith)
+
+  follows-moves : (t u m : ℕ) → Follows g t u m → moves_at g u ≡ true
+  follows-moves t u m (Follows.input n i e w at h) = h
+  follows-moves t u m (Follows.through v j n i f e at h) = h
+
+  -- what is read before the last session moves
+  pub deep-moves : (u : ℕ) → 0 < deepest p u → moves_at g u ≡ true
+  deep-moves u deep = here (moves_at g u) refl
+    where
+      here : (b : Bool) → moves_at g u ≡ b → b ≡ true
+      here true e = refl
+      here false e =
+          let none : deepest p u ≤ 0 = deepest-few u 0 (λ t m used f. absurd (true≢false (sym (follows-moves t u (suc m) f) ∙ e))) in
+          absurd (omega (arith, none, deep))
 
   follows-within : (t u m : ℕ) → Follows g t u m → t < length g
   follows-within t u m (Follows.input n i e w at h) = slice_get_within g t n e
   follows-within t u m (Follows.through v j n i f e at h) = follows-within t v j f
+
+  -- an input that moves is read as far back as the term and its window
+  module _ (k i u : ℕ) (n : Node) (used : is_used p k ≡ true) (at : slice_get g k ≡ Some n) (input : slice_get n.inputs i ≡ Some (TermInput u)) (moves : moves_at g u ≡ true) where
+    further : deepest p k ≤ deepest p u - (n.window - 1)
+    further = deepest-few k (deepest p u - (n.window - 1)) (λ t m of f.
+        (let l : suc m + (n.window - 1) ≤ deepest p u = deepest-reads t u (suc m + (n.window - 1)) of (follows-within t k (suc m) f) (Follows.through k (suc m) n i f at input moves) in omega (arith, l)))
+
+    pub input-deep : (is_windowed n.kind || nat_lt 0 (deepest p k)) ≡ true → n.window + deepest p k ≤ deepest p u + 1
+    input-deep h = elim (or_cases (is_windowed n.kind) (nat_lt 0 (deepest p k)) h) [
+      | inl w ↦
+          let l : n.window - 1 ≤ deepest p u = deepest-reads k u (n.window - 1) used (slice_get_within g k n at) (Follows.input n i at (sym (same-windowed n.kind) ∙ w) input moves) in
+          let some = ((is-pipeline p ok).windows k n at).0 in
+          (let f = further in omega (arith, f, l, some))
+      | inr d ↦
+          let deep : 0 < deepest p k = grind (arith, nat_tests, d) in
+          let some = ((is-pipeline p ok).windows k n at).0 in
+          (let f = further in omega (arith, f, deep, some))
+    ]
 
   follows-few : (t u m : ℕ) → Follows g t u m → m + u * most_window ≤ t * most_window
   follows-few t u m (Follows.input n i e w at h) =
@@ -109,7 +185,7 @@ module _ (p : Pipeline) (ok : IsChecked p) where
   pub deepest-small : (u : ℕ) → length g ≤ most_terms → deepest p u < 2 ^ 32
   deepest-small u few =
       let bound : deepest p u ≤ most_terms * most_window =
-      deepest-few u (most_terms * most_window) (λ t m f.
+      deepest-few u (most_terms * most_window) (λ t m used f.
       (let l = follows-few t u (suc m) f in let within = follows-within t u (suc m) f in omega (arith, l, within, few))) in
       omega (arith, bound)
 

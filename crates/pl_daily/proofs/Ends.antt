@@ -3,7 +3,9 @@ use Rattle.std.proofs.Common.{◌≡◌, ℕ, ◌+◌, ◌-◌, ◌≤◌, ◌++
 use Rattle.std.proofs.lemmas.Bool.{cases_lt}
 use borrow.Rule.Slice.PartMut.{post_of}
 use Rattle.std.proofs.lemmas.List.{length-append, length-drop, take_at, drop-drop, drop_at, drop-append-le, drop_all}
+use Rattle.std.proofs.Math.Seq.{take-append-add}
 use Rattle.circular_buffer.specs.Buffer.{keep_last}
+use Rattle.pl_daily.specs.Rows.{ending}
 
 -- so many cells of the first and so many of the second are at the end of both
 pub last_of_both : (xs ys : List ℤ) (size ahead : ℕ) → size ≤ length xs + length ys → ahead ≡ size - length ys
@@ -43,3 +45,9 @@ copied front back window first second ahead few is one two =
     ∙ ap (λ l. l ++ second) one
     ∙ ap (λ l. drop (length front - ahead) front ++ l) two
     ∙ sym (last_of_both front back (length window) ahead few is)
+
+-- the ends of both without the last cells of the second
+pub ending_behind : (xs ys : List ℤ) (size after : ℕ) → after ≤ length ys → keep_last size (xs ++ take (length ys - after) ys) ≡ ending size after (xs ++ ys)
+ending_behind xs ys size after few =
+    let all : length (xs ++ ys) - after ≡ length xs + (length ys - after) = omega (arith, length-append xs ys, few) in
+    sym (ap (λ n. keep_last size (take n (xs ++ ys))) all ∙ ap (keep_last size) (take-append-add xs ys (length ys - after)))

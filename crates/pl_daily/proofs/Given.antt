@@ -1,48 +1,37 @@
 -- What a term is worth on a day, family by family.
-use Rattle.std.proofs.Common.{◌≡◌, ℕ, suc, ◌-◌, ◌<◌, ◌≤◌, true, ◌&&◌, ℤ, pos, List, [], length, get_or, Option, Some, None, slice_get, refl, sym, ◌∙◌, ap, subst, arith, All, option_map, IfSome, map}
-use Rattle.std.proofs.Math.Path.{fun_ext}
-use Rattle.std.proofs.lemmas.List.{length-map, get_or_default}
-use Rattle.circular_buffer.specs.Buffer.{buffer, keep_last}
+use Rattle.std.proofs.Common.{◌≡◌, ℕ, ◌<◌, true, ◌&&◌, ℤ, pos, List, length, get_or, Option, Some, None, slice_get, refl, sym, ◌∙◌, ap, subst, arith, option_map, IfSome}
+use Rattle.std.proofs.lemmas.List.{length-map}
 use Rattle.pl_spec.specs.declared.AssetRow.{AssetRow}
 use Rattle.pl_spec.specs.Rounding.{IsCell}
 use Rattle.pl_spec.specs.World.{World}
-use Rattle.pl_pipeline.specs.declared.WindowKind.{WindowKind}
-use Rattle.pl_pipeline.specs.Kind.Kind.{Label, Number, Window, Downsample}
+use Rattle.pl_pipeline.specs.Kind.Kind.{Label, Number, Downsample}
 use Rattle.pl_spec.specs.declared.Frequency.{Frequency}
 use Rattle.pl_spec.specs.Cells.{is_true}
 use Rattle.pl_pipeline.specs.Term as spec
 use Rattle.pl_pipeline.specs.Term.Input.{BarColumn, TermInput}
 use Rattle.pl_pipeline.specs.Table.{Pipeline}
-use Rattle.pl_spec.specs.Window.{before, downward, seen_cell}
+use Rattle.pl_spec.specs.declared.Figure.{Figure}
 use Rattle.pl_terms.specs.declared.node.TermId.{TermId}
 use Rattle.pl_terms.specs.Nodes.{number_of, graph_of}
 use Rattle.pl_terms.specs.Sorts.{is_windowed}
 use Rattle.pl_terms.proofs.Graphs.{graph-long}
 use Rattle.pl_cross.specs.Listing.{Fits, labels_in}
 use Rattle.std.specs.Borrow.{Bor}
-use Rattle.std.proofs.lemmas.Option.{slice_get_within, slice_get-get_or}
-use Rattle.std.proofs.lemmas.List.Elements.{All-drop}
-use Rattle.pl_cross.specs.Arrays.{sid_in}
+use Rattle.std.proofs.lemmas.Option.{slice_get_within}
 use Rattle.pl_cross.specs.Section.{is_section}
 use Rattle.pl_assets.specs.Labels.{label_on}
 use Rattle.pl_numbers.specs.Numbers.{number_on}
 use Rattle.pl_values.specs.Arrays.{cell_of, empty_cell, is_kept, chosen, kept_or, Fills, IsKeep}
-use Rattle.pl_values.specs.Families.{label_code, TakesWindows}
+use Rattle.pl_values.specs.Families.{label_code}
 use Rattle.pl_values.specs.Laws.{IsNode, IsGiven, IsGivenCell}
 use Rattle.pl_values.specs.Inputs.{IsInputRow, IsGroupRow, AreRows}
 use Rattle.pl_values.proofs.Given.{downsampled-cell, downsampled-input}
 use Rattle.pl_values.proofs.Rows.{given-by, label-given, number-given, kept-cells, shown-cells, IsSection}
-use Rattle.pl_values.proofs.Formulas.{AreSeen, seen_window, seen-takes, seen-given, term-numbered}
-use Rattle.pl_values.proofs.Numbers.{number_is}
-use Rattle.pl_values.proofs.KindFamilies.{window_kind}
-use Rattle.pl_daily.proofs.Moves.{ends}
-use Rattle.pl_daily.specs.Changes.{Ring, ring_at}
-use Rattle.pl_daily.specs.Columns.{rings_of}
+use Rattle.pl_daily.proofs.Earlier.{own_given}
 use Rattle.pl_daily.specs.declared.term_day.TermDay.{TermDay}
-use Rattle.pl_daily.specs.declared.term_day.TermCells.{TermCells}
-use Rattle.pl_daily.specs.Rows.{Shows, is_kept_by, row_of, rows_lent, rings_in, capacity_of, input_row, ring_window}
-use Rattle.pl_daily.specs.TermDays.{Moment, IsTermDay, IsKept, IsRowOfTerm, AreGiven, HoldsStart, assets_at, sids_at, node_at, pipeline_at, keeps, number_row, cell_on, day_window_of}
-use Rattle.pl_daily.specs.Windows.{window_at, windowed_by}
+use Rattle.pl_daily.specs.Rows.{Shows, is_kept_by, row_of, rows_lent, input_row}
+use Rattle.pl_daily.specs.TermDays.{Moment, IsTermDay, IsKept, IsRowOfTerm, AreGiven, HoldsStart, assets_at, sids_at, node_at, pipeline_at, keeps, number_row}
+use Rattle.pl_daily.specs.Windows.{windowed_by}
 
 module _ (t : TermDay) (v : Moment) (is : IsTermDay t v) where
   abbrev w : World
@@ -101,9 +90,9 @@ module _ (t : TermDay) (v : Moment) (is : IsTermDay t v) where
       (same ∙ sym (ap (label_code w.texts) (is.here.labels name i h) ∙ ap (λ texts. label_code texts (label_on t.labels.now.rows name i t.day)) is.here.texts)) cell
 
   -- a number is that of the column
-  pub number_given : (number i : ℕ) (name : List ℕ) (x : ℤ) → n.kind ≡ Number number → slice_get p.names number ≡ Some name → i < assets_at t
-      → x ≡ number_on (rows_lent t.numbers) name i t.day → IsCell x → IsGivenCell w p sids t.term.0 n i s x
-  number_given number i name x e named h same cell = number-given w p sids t.term.0 n node_is i s x number name e named (same ∙ sym (is.here.known name i h)) cell
+  pub number_given : (f : Figure) (number i : ℕ) (name : List ℕ) (x : ℤ) → n.kind ≡ Number f number → slice_get p.names number ≡ Some name → i < assets_at t
+      → x ≡ number_on f (rows_lent t.numbers) name i t.day → IsCell x → IsGivenCell w p sids t.term.0 n i s x
+  number_given f number i name x e named h same cell = number-given w p sids t.term.0 n node_is i s x f number name e named (same ∙ sym (is.here.known f name i h)) cell
 
   -- a downsampled term has the cells that its input had on the first session of the period
   module _ (f : Frequency) (e : n.kind ≡ Downsample f) where
@@ -136,46 +125,8 @@ module _ (t : TermDay) (v : Moment) (is : IsTermDay t v) where
 
   -- ---- windows
 
-  ends_window : (size : ℕ) (o : Option spec.Input) (i : ℕ) → is_windowed n.kind ≡ true → (place : ℕ) → slice_get n.inputs place ≡ o → i < assets_at t
-      → (ring_window t.bars.now t.terms.now n.window o i ≡ day_window_of w p sids n.window o i s) × All IsCell (ring_window t.bars.now t.terms.now n.window o i)
-  ends_window size None i e place h inside = (refl, λ j d l. absurd (omega (arith, l)))
-  ends_window size (Some (BarColumn c)) i e place h inside =
-      let held = is.bars place c h in
-      let items = (ring_at (rings_of t.bars.now c).rings.items i).items in (
-        ap (keep_last n.window) (held.each i inside) ∙ ends (λ m. seen_cell w (sid_in sids i) c (before (pos s) (suc m)) (pos s)) n.window (rings_of t.bars.now c).capacity held.fits,
-        All-drop IsCell (length items - n.window) items (held.rings.each i inside).cells,
-      )
-  ends_window size (Some (TermInput u)) i e place h inside =
-      let held = is.rings e place u h in
-      let items = (ring_at (rings_in (slice_get t.terms.now u)) i).items in (
-        ap (keep_last n.window) (held.each i inside) ∙ ends (λ m. cell_on w p sids u i (before (pos s) m)) n.window (capacity_of (slice_get t.terms.now u)) held.fits,
-        All-drop IsCell (length items - n.window) items (held.rings.each i inside).cells,
-      )
-
-  module _ (e : is_windowed n.kind ≡ true) where
-    windowed_is : (f : WindowKind) × (n.kind ≡ Window f)
-    windowed_is = window_kind n.kind e
-
-    -- of a term in a window the array has the numbers
-    same_window : (place i : ℕ) (o : Option spec.Input) → slice_get n.inputs place ≡ o → day_window_of w p sids n.window o i s ≡ seen_window w p sids n o i s
-    same_window place i None h = refl
-    same_window place i (Some (BarColumn c)) h = refl
-    same_window place i (Some (TermInput u)) h =
-        ap (λ (g : ℕ → ℤ). map g (downward n.window)) (fun_ext (λ m. sym (number_is w p is.checked u (term-numbered w p sids is.checked t.term.0 n is.node windowed_is.0 windowed_is.1 place u h)
-        (sid_in sids i) (before (pos s) m))))
-
-    windows : (i : ℕ) → i < assets_at t → AreSeen w p sids n i s (window_at t 0 i) (window_at t 1 i) (window_at t 2 i)
-    windows i h =
-        let a = ends_window n.window (slice_get n.inputs 0) i e 0 refl h in
-        let b = ends_window n.window (slice_get n.inputs 1) i e 1 refl h in
-        let c = ends_window n.window (slice_get n.inputs 2) i e 2 refl h in
-        record { first = a.0 ∙ same_window 0 i _ refl; second = b.0 ∙ same_window 1 i _ refl; third = c.0 ∙ same_window 2 i _ refl; first_cells = a.1; second_cells = b.1; third_cells = c.1 }
-
-    pub window_takes : (i : ℕ) → i < assets_at t → TakesWindows n.kind (window_at t 0 i) (window_at t 1 i) (window_at t 2 i)
-    window_takes i h = seen-takes w p sids t.term.0 n node_is windowed_is.0 windowed_is.1 i s _ _ _ (windows i h)
-
-    pub window_given : (i : ℕ) → i < assets_at t → IsGiven w p sids t.term.0 n i s (windowed_by t i)
-    window_given i h = seen-given w p sids t.term.0 n node_is windowed_is.0 windowed_is.1 i s _ _ _ (windows i h)
+  pub window_given : is_windowed n.kind ≡ true → (i : ℕ) → i < assets_at t → IsGiven w p sids t.term.0 n i s (windowed_by t 0 i)
+  window_given e i h = own_given t v is 0 (is.windows e) s (omega arith) e i h refl
 
   -- ---- cross-sections
 
@@ -223,22 +174,3 @@ module _ (t : TermDay) (v : Moment) (is : IsTermDay t v) where
 
   pub term_known : t.term.0 < length t.checked.now.graph
   term_known = let l : length (graph_of t.checked.now.graph) ≡ length t.checked.now.graph = graph-long t.checked.now.graph in let h : t.term.0 < length (graph_of t.checked.now.graph) = slice_get_within p.graph t.term.0 n is.node in omega (arith, l, h)
-
-  -- the ring of a windowed input
-  pub ring_there : (place u i : ℕ) → slice_get n.inputs place ≡ Some (TermInput u) → is_windowed n.kind ≡ true → i < assets_at t → (d : TermCells)
-      → (i < length (get_or t.terms.now u d).rings.rings.items)
-      × ((r : Ring) → (n.window ≤ length (get_or (get_or t.terms.now u d).rings.rings.items i r).items)
-      × (keep_last n.window (get_or (get_or t.terms.now u d).rings.rings.items i r).items ≡ ring_window t.bars.now t.terms.now n.window (slice_get n.inputs place) i))
-  ring_there place u i e kind h d =
-      let held = is.rings kind place u e in
-      let rings = (get_or t.terms.now u d).rings.rings.items in
-      let same : slice_get t.terms.now u ≡ Some (get_or t.terms.now u d) = slice_get-get_or t.terms.now u d (is.rows place u e).known in
-      let count : length rings ≡ assets_at t = ap (λ o. length (rings_in o)) (sym same) ∙ held.rings.count in
-      let inside : i < length rings = omega (arith, h, count) in
-      let at : (r : Ring) → get_or rings i r ≡ ring_at (rings_in (slice_get t.terms.now u)) i = λ r. get_or_default rings i r (buffer [] 0) inside ∙ ap (λ o. ring_at (rings_in o) i) (sym same) in (
-        inside,
-        λ r.
-            let full : length (get_or rings i r).items ≡ capacity_of (slice_get t.terms.now u) = ap (λ (b : Ring). length b.items) (at r) ∙ (held.rings.each i h).full in
-            let fits = held.fits in
-            (omega (arith, full, fits), ap (λ (b : Ring). keep_last n.window b.items) (at r) ∙ sym (ap (λ o. ring_window t.bars.now t.terms.now n.window o i) e)),
-      )

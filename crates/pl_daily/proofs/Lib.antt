@@ -8,8 +8,8 @@ pub mod Full
 pub mod Ends
 pub mod Begins
 pub mod Downsampled
-pub mod Placed
-pub mod Followed
+pub mod Marked
+pub mod Moving
 pub mod Depths
 pub mod Greatest
 pub mod NodeReaches
@@ -23,5 +23,13 @@ pub mod Worked
 pub mod Sessions
 pub mod Values
 pub mod RowsShown
+pub mod SeenDays
+pub mod SeenWindows
+pub mod Endings
+pub mod Earlier
 pub mod Given
+pub mod Renewed
+pub mod DeepDays
+pub mod Placed
+pub mod Followed
 pub mod DayByDay

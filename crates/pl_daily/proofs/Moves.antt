@@ -143,7 +143,7 @@ filter-every : {X : Type 0} (p : X → Bool) (xs : List X) → All (λ x. p x �
 filter-every p [] h = refl
 filter-every p (x ∷ xs) h = rw (h 0 x (omega arith)) (ap (λ l. x ∷ l) (filter-every p xs (λ k d l. h (suc k) d (omega arith))))
 
-All-events : (P : Event → Type 0) (xs : List ColumnAdjustment) (col : ℕ) → All (λ x. P x.event) xs → All P (events_at xs col)
+pub All-events : (P : Event → Type 0) (xs : List ColumnAdjustment) (col : ℕ) → All (λ x. P x.event) xs → All P (events_at xs col)
 All-events P xs col all = All-map P (λ (x : ColumnAdjustment). x.event) (filter (λ x. x.col == col) xs) (All-filter (λ (x : ColumnAdjustment). x.col == col) (λ x. P x.event) xs all)
 
 pub events_at-append : (xs ys : List ColumnAdjustment) (col : ℕ) → events_at (xs ++ ys) col ≡ events_at xs col ++ events_at ys col
@@ -155,7 +155,7 @@ module _ (g : Start) (start : IsStart g) (c : Column) (col : ℕ) (inside : col 
   abbrev a : ℕ
   a = sid_at g.assets col
 
-  events_fed : (days : List FedDay) → AreFed g days → events_of (fed g days) a ≡ events_at (adjustments_of days) col
+  pub events_fed : (days : List FedDay) → AreFed g days → events_of (fed g days) a ≡ events_at (adjustments_of days) col
   unfolding fed
   events_fed days are = events_by-at g.assets (adjustments_of days) start.sids_ascend (parts_fit g start days are).adjustments_in col inside
 

@@ -1,5 +1,5 @@
 -- The last of days that were fed is a session of their world.
-use Rattle.std.proofs.Common.{◌≡◌, ℕ, suc, ◌<◌, ◌==◌, Bool, true, false, cond, pos, List, [], ◌∷◌, length, map, filter, get_or, Some, option_map, unwrap_or, refl, sym, ◌∙◌, ap, arith, AllPairs}
+use Rattle.std.proofs.Common.{◌≡◌, ℕ, suc, ◌<◌, ◌==◌, Bool, true, false, cond, ℤ, pos, List, [], ◌∷◌, length, map, filter, get_or, Some, option_map, unwrap_or, refl, sym, ◌∙◌, ap, arith, AllPairs}
 use Rattle.std.specs.Option.{option_and_then}
 use Rattle.std.specs.List.{list_any}
 use Rattle.std.proofs.Math.Path.{fun_ext}
@@ -13,6 +13,7 @@ use Rattle.pl_spec.specs.Window.{before}
 use Rattle.pl_spec.specs.Rounding.{MISSING}
 use Rattle.pl_spec.specs.World.{World, day_of, exists, label_at, known_number, living_sids, lives_on}
 use Rattle.pl_spec.proofs.Columns.{no_asset}
+use Rattle.pl_spec.specs.declared.Figure.{Figure}
 use Rattle.pl_assets.specs.Labels.{LabelTable, AreLabels, label_on}
 use Rattle.pl_assets.proofs.LabelWorlds.{labels_those}
 use Rattle.pl_numbers.specs.Numbers.{number_on}
@@ -55,30 +56,35 @@ module _ (g : Start) (table : LabelTable) (next : FedDay) (days : List FedDay) (
   last_is : day_of w (pos (length days)) ≡ Some next.day
   last_is = ap (day_of w) (let e : pos (length days) ≡ before (pos (length days)) 0 = omega (arith, ints) in e) ∙ days_are_fed g (next ∷ days) 0
 
-  living : living_sids w (pos (length days)) ≡ map (λ (a : AssetRow). a.sid) (filter (lives_on next.day) g.assets)
-  unfolding fed
-  living = ap (λ o. unwrap_or (option_map (λ day. map (λ (a : AssetRow). a.sid) (filter (lives_on day) g.assets)) o) []) last_is
-
-  among : (a : ℕ) → exists w a (pos (length days)) ≡ is_among (lives_on next.day) g.assets a
-  among a = ap (λ l. list_any (λ x. x == a) l) living
-
-  at_place : (k : ℕ) (d : AssetRow) → k < length g.assets → is_among (lives_on next.day) g.assets (get_or g.assets k d).sid ≡ lives_on next.day (get_or g.assets k d)
-  at_place k d h = among-at (lives_on next.day) g.assets k (get_or g.assets k d) start.sids_ascend (slice_get-get_or g.assets k d h)
-
   sid_is : (i : ℕ) → i < length g.assets → sid_in (sids_of g.assets) i ≡ (get_or g.assets i no_asset).sid
   sid_is i h = get_or-map (λ (a : AssetRow). a.sid) g.assets i no_asset 0 h
 
+  -- who lives on a day of theirs
+  module _ (d : ℤ) (day : ℤ) (is : day_of w d ≡ Some day) where
+    living : living_sids w d ≡ map (λ (a : AssetRow). a.sid) (filter (lives_on day) g.assets)
+    unfolding fed
+    living = ap (λ o. unwrap_or (option_map (λ day. map (λ (a : AssetRow). a.sid) (filter (lives_on day) g.assets)) o) []) is
+
+    among : (a : ℕ) → exists w a d ≡ is_among (lives_on day) g.assets a
+    among a = ap (λ l. list_any (λ x. x == a) l) living
+
+    at_place : (k : ℕ) (o : AssetRow) → k < length g.assets → is_among (lives_on day) g.assets (get_or g.assets k o).sid ≡ lives_on day (get_or g.assets k o)
+    at_place k o h = among-at (lives_on day) g.assets k (get_or g.assets k o) start.sids_ascend (slice_get-get_or g.assets k o h)
+
+    pub lives_then : (i : ℕ) → i < length g.assets → exists w (sid_in (sids_of g.assets) i) d ≡ lives_at g.assets day i
+    lives_then i h =
+        ap (λ a. exists w a d) (sid_is i h)
+        ∙ among (get_or g.assets i no_asset).sid
+        ∙ at_place i no_asset h
+        ∙ sym (ap (λ o. unwrap_or (option_map (lives_on day) o) false) (slice_get-get_or g.assets i no_asset h))
+
   all_here : HasAll w (sids_of g.assets) (length days)
   all_here =
-      living ∙ all_those (lives_on next.day) g.assets g.assets at_place
-      ∙ ap (λ q. filter q (sids_of g.assets)) (sym (fun_ext among))
+      living (pos (length days)) next.day last_is ∙ all_those (lives_on next.day) g.assets g.assets (at_place (pos (length days)) next.day last_is)
+      ∙ ap (λ q. filter q (sids_of g.assets)) (sym (fun_ext (among (pos (length days)) next.day last_is)))
 
   lives_here : (i : ℕ) → i < length g.assets → exists w (sid_in (sids_of g.assets) i) (pos (length days)) ≡ lives_at g.assets next.day i
-  lives_here i h =
-      ap (λ a. exists w a (pos (length days))) (sid_is i h)
-      ∙ among (get_or g.assets i no_asset).sid
-      ∙ at_place i no_asset h
-      ∙ sym (ap (λ o. unwrap_or (option_map (lives_on next.day) o) false) (slice_get-get_or g.assets i no_asset h))
+  lives_here i h = lives_then (pos (length days)) next.day last_is i h
 
   sid_place : (i : ℕ) → i < length g.assets → sid_at g.assets i ≡ (get_or g.assets i no_asset).sid
   sid_place i h = ap (λ o. unwrap_or (option_map (λ (a : AssetRow). a.sid) o) 0) (slice_get-get_or g.assets i no_asset h)
@@ -102,12 +108,12 @@ module _ (g : Start) (table : LabelTable) (next : FedDay) (days : List FedDay) (
   unfolding fed
   texts_here = refl
 
-  numbers_here : (name : List ℕ) (i : ℕ) → i < length g.assets → known_number w name (sid_in (sids_of g.assets) i) (pos (length days)) ≡ number_on g.numbers name i next.day
+  numbers_here : (f : Figure) (name : List ℕ) (i : ℕ) → i < length g.assets → known_number w f name (sid_in (sids_of g.assets) i) (pos (length days)) ≡ number_on f g.numbers name i next.day
   unfolding fed
-  numbers_here name i h =
-      ap (λ a. known_number w name a (pos (length days))) (sid_is i h ∙ sym (sid_place i h))
-      ∙ ap (λ o. unwrap_or (option_map (number_at w.numbers name (sid_at g.assets i)) o) MISSING) last_is
-      ∙ numbers_those g.assets g.numbers start.sids_ascend start.numbers_in name i next.day h
+  numbers_here f name i h =
+      ap (λ a. known_number w f name a (pos (length days))) (sid_is i h ∙ sym (sid_place i h))
+      ∙ ap (λ o. unwrap_or (option_map (number_at f w.numbers name (sid_at g.assets i)) o) MISSING) last_is
+      ∙ numbers_those g.assets g.numbers start.sids_ascend start.numbers_in f name i next.day h
 
 pub fed_days_are_sessions : FedDaysAreSessions
 fed_days_are_sessions g table next days start labels rows texts are = record {

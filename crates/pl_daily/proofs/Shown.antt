@@ -38,7 +38,7 @@ module _ (d : Inside) (i : IsInside d) (column : ℕ) (t : TermId) (named : opti
     at = slice_get_read d.terms.items (length d.terms.items) t.0 x refl term_in is
 
     cells : AreTermCells (length d.assets.now) x
-    cells = i.terms.full t.0 x used at
+    cells = i.terms.room.full t.0 x used at
 
     module _ (k col : ℕ) (known : k < length d.kept.items) (col_is : col ≡ get_or d.kept.items k col) where
       col_in : col < length d.assets.now

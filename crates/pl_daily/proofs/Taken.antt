@@ -39,6 +39,11 @@ use Rattle.pl_planner.proofs.Pipelines.{screen-in}
 All-of : {X Y : Type 0} (P : Y → Type 0) (f : X → Y) (xs : List X) → All P (map f xs) → All (λ x. P (f x)) xs
 All-of P f xs all k d l = subst P (get_or-map f xs k d (f d) l) (all k (f d) (let e = length-map xs f in omega (arith, l, e)))
 
+-- a day's events are of the assets
+pub events_within : (g : Start) (next : FedDay) (days : List FedDay) (events : List DayEvent) → AreFed g (next ∷ days) → next.events ≡ map column_event events → All (λ (e : DayEvent). e.col < length g.assets) events
+events_within g next days events are e =
+    All-of (λ (x : ColumnAdjustment). x.col < length g.assets) column_event events (subst (All (λ (x : ColumnAdjustment). x.col < length g.assets)) e are.2.events_in)
+
 now_last : (n : ℕ) (d : ℤ) → (if n + 1 == 0 then None else Some d) ≡ Some d
 now_last n d = let no_zero : (n + 1 == 0) ≡ false = ne_eqb (n + 1) 0 (λ e. omega (arith, e)) in rw no_zero refl
 
@@ -94,11 +99,12 @@ module _ (h : Held) (day : ℤ) (bars : List DayBar) (events : List DayEvent) (d
       let e = stands.fed in
       omega (arith, n, e)
 
-  pub midway : (b : BarRings) → FollowColumns day bars events h.fed h.bars b → IsMidway (record h { bars = b }) day next days
+  pub midway : (b : BarRings) → FollowColumns day bars events h.fed h.bars b → IsMidway (record h { bars = b }) day (map column_event events) next days
   midway b follow = record {
     start = stands.start;
     are_fed = follows;
     is = refl;
+    brought = refl;
     last = sym stands.last;
     count = sym stands.fed;
     bars = follow g next days stands.start follows refl (sym stands.fed) (record { bars = refl; events = refl }) stands.bars;
@@ -172,13 +178,13 @@ module _ (h h1 h2 h3 h4 : Held) (r1 : h1 ≡ record h { bars = h1.bars }) (r2 : 
   still_fed = ap (λ (k : Held). k.fed) second
 
   pub stands_on : (day : ℤ) (bars : List DayBar) (events : List DayEvent) (days : List FedDay) → IsLaterThan (last_of h) day → IsChecked h.pipeline
-      → FollowColumns day bars events h.fed h.bars h1.bars → TakeTerms day h1 h2 → length h2.terms ≡ length h1.pipeline.graph → length h2.starts ≡ length h1.pipeline.graph
+      → FollowColumns day bars events h.fed h.bars h1.bars → TakeTerms day (map column_event events) h1 h2 → length h2.terms ≡ length h1.pipeline.graph → length h2.starts ≡ length h1.pipeline.graph
       → FollowFirst h2.pipeline (sessions_of h2.starts) h2.fed h2.since h3.since → Answers h2.pipeline h3.since h3.answered → h3.fed ≡ h2.fed + 1 → h3.last ≡ day
       → (h3.answered ≡ true → h4.kept ≡ kept_places h3.assets h3.last (number_row h3.terms h3.pipeline.screen))
       → HasBeenFed h days → MayFollow (start_in h) days (next_of day bars events) → HasBeenFed h4 (next_of day bars events ∷ days)
   stands_on day bars events days later ok bars_follow take many all follow told fed_is last_is kept stands may =
       let next : FedDay = next_of day bars events in
-      let mid : IsMidway h1 day next days = subst (λ k. IsMidway k day next days) (sym r1) (midway h day bars events days later stands may h1.bars bars_follow) in
+      let mid : IsMidway h1 day (map column_event events) next days = subst (λ k. IsMidway k day (map column_event events) next days) (sym r1) (midway h day bars events days later stands may h1.bars bars_follow) in
       let holds : HoldTerms (start_in h) (next ∷ days) h.pipeline h2.terms × HoldStarts (start_in h) (next ∷ days) h.pipeline h2.starts
       = subst (λ (k : Held). HoldTerms (start_in k) (next ∷ days) k.pipeline h2.terms × HoldStarts (start_in k) (next ∷ days) k.pipeline h2.starts) r1 (take next days mid) in
       let graph : length h1.pipeline.graph ≡ length h.pipeline.graph = ap (λ (k : Held). length k.pipeline.graph) r1 in

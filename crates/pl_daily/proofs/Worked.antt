@@ -16,10 +16,14 @@ pub terms_stay : (assets : ℕ) (p : Pipeline) (old new : BarRings) (terms : Lis
     → AreTerms assets p old terms → AreTerms assets p new terms
 terms_stay assets p old new terms are room have = record {
   many = have.many;
-  full = have.full;
-  values = have.values;
-  bars = λ k n place c used at input. let fits = have.bars k n place c used at input in let same = room c in omega (arith, fits, same);
-  bar_rings = subst (λ n. AreBarRings n new) have.bar_rings.row are;
+  room = record {
+    full = have.room.full;
+    values = have.room.values;
+    masks = have.room.masks;
+    bars = λ k n place c used at input. let fits = have.room.bars k n place c used at input in let same = room c in omega (arith, fits, same);
+    bar_rings = subst (λ n. AreBarRings n new) have.room.bar_rings.row are;
+  };
+  deep = have.deep;
 }
 
 -- the steps over the rings are those over the windows

@@ -12,6 +12,7 @@ pub mod View
 pub mod Rows
 pub mod TermDays
 pub mod Windows
+pub mod Earlier
 pub mod Held
 pub mod Laws
 -- Words of rings.

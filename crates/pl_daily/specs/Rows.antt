@@ -1,5 +1,5 @@
 -- Rows of cells, one for each asset, and windows of them, by what is held.
-use Rattle.std.specs.Prelude.{◌≡◌, ℕ, ◌<◌, Bool, false, ◌&&◌, ℤ, pos, List, [], length, map, get_or, slice_get, Option, Some, None, option_map, unwrap_or}
+use Rattle.std.specs.Prelude.{◌≡◌, ℕ, ◌<◌, Bool, false, ◌&&◌, ℤ, pos, List, [], length, map, take, get_or, slice_get, ◌-◌, Option, Some, None, option_map, unwrap_or}
 use Rattle.std.specs.Borrow.{Bor}
 use Rattle.circular_buffer.specs.Buffer.{keep_last}
 use Rattle.pl_spec.specs.declared.AssetRow.{AssetRow}
@@ -59,8 +59,12 @@ input_row terms None = []
 input_row terms (Some (BarColumn c)) = []
 input_row terms (Some (TermInput u)) = row_of (slice_get terms u)
 
--- the last cells of an input's ring for the asset in a place
-abbrev pub ring_window : BarRings → List TermCells → ℕ → Option Input → ℕ → List ℤ
-ring_window bars terms size None i = []
-ring_window bars terms size (Some (BarColumn c)) i = keep_last size (ring_at (rings_of bars c).rings.items i).items
-ring_window bars terms size (Some (TermInput u)) i = keep_last size (ring_at (rings_in (slice_get terms u)) i).items
+-- the cells of a list up to the one that is so many before its last, as many as size
+abbrev pub ending : ℕ → ℕ → List ℤ → List ℤ
+ending size after cells = keep_last size (take (length cells - after) cells)
+
+-- those of an input's ring for the asset in a place
+abbrev pub ring_window : BarRings → List TermCells → ℕ → ℕ → Option Input → ℕ → List ℤ
+ring_window bars terms size after None i = []
+ring_window bars terms size after (Some (BarColumn c)) i = ending size after (ring_at (rings_of bars c).rings.items i).items
+ring_window bars terms size after (Some (TermInput u)) i = ending size after (ring_at (rings_in (slice_get terms u)) i).items

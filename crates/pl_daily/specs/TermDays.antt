@@ -1,7 +1,9 @@
 -- One term on a day, in a world in which the day is a session.
-use Rattle.std.specs.Prelude.{◌≡◌, ℕ, ◌<◌, ◌≤◌, Bool, true, false, ℤ, pos, List, [], ◌∷◌, length, map, get_or, Option, Some, None, slice_get, AllPairs}
+use Rattle.std.specs.Prelude.{◌≡◌, ℕ, ◌<◌, ◌≤◌, ◌+◌, Bool, true, false, ℤ, pos, List, ◌∷◌, length, map, get_or, Option, Some, None, slice_get, AllPairs}
 use Rattle.pl_spec.specs.Limits.{most_assets}
 use Rattle.pl_pipeline.specs.Term as spec
+use Rattle.pl_pipeline.specs.Term.{term_at}
+use Rattle.pl_pipeline.specs.Value.{From, seen}
 use Rattle.pl_spec.specs.declared.Frequency.{Frequency}
 use Rattle.pl_pipeline.specs.Kind.Kind.{Downsample}
 use Rattle.pl_spec.specs.Periods.{period_start}
@@ -12,6 +14,7 @@ use Rattle.pl_spec.specs.Window.{before, downward, bar_window}
 use Rattle.pl_spec.specs.Parts.{ColumnNumber}
 use Rattle.pl_spec.specs.World.{World, exists, label_at, known_number}
 use Rattle.pl_spec.specs.declared.AssetRow.{AssetRow}
+use Rattle.pl_spec.specs.declared.Figure.{Figure}
 use Rattle.pl_assets.specs.Labels.{LabelTable, AreLabels, label_on}
 use Rattle.pl_numbers.specs.Numbers.{number_on}
 use Rattle.pl_cross.specs.Arrays.{sid_in, HasTexts}
@@ -38,11 +41,9 @@ pub record Moment : Type 0 where
 abbrev pub cell_on : World → Pipeline → List ℕ → ℕ → ℕ → ℤ → ℤ
 cell_on w p sids t i d = in_array w.texts (value_of w p t (sid_in sids i) d)
 
--- the window of an input that ends on session s or with the one before it, sessions below 0 among them
-abbrev pub day_window_of : World → Pipeline → List ℕ → ℕ → Option spec.Input → ℕ → ℕ → List ℤ
-day_window_of w p sids size None i s = []
-day_window_of w p sids size (Some (BarColumn c)) i s = bar_window w c size (sid_in sids i) (pos s)
-day_window_of w p sids size (Some (TermInput t)) i s = map (λ n. cell_on w p sids t i (before (pos s) n)) (downward size)
+-- the same as it is seen from session s
+abbrev pub seen_on : World → Pipeline → List ℕ → ℕ → ℤ → ℕ → ℤ → ℤ
+seen_on w p sids t s i d = in_array w.texts (seen w p.names (term_at p.graph t) (From s) (sid_in sids i) d)
 
 abbrev pub pipeline_at : TermDay → Pipeline
 pipeline_at t = pipeline_of t.checked.now
@@ -73,19 +74,29 @@ pub record HoldsRow (t : TermDay) (v : Moment) (u : ℕ) : Type 0 where
   pub known : u < length t.terms.now
   pub fills : Fills (λ i. cell_of v.world (pipeline_at t) (sids_at t) u i v.session) (assets_at t) (row_of (slice_get t.terms.now u))
 
--- the rings of term u hold its cells on the sessions up to the day
+-- what term u is seen as from the day on the session that is so many before it
+abbrev pub earlier_cell : TermDay → Moment → ℕ → ℕ → ℕ → ℤ
+earlier_cell t v u i after = seen_on v.world (pipeline_at t) (sids_at t) u (pos v.session) i (before (pos v.session) after)
+
+-- the rings of term u hold its cells on the sessions up to the day, as they are seen on it
 pub record HoldsRings (t : TermDay) (v : Moment) (u : ℕ) : Type 0 where
   pub rings : AreRings (assets_at t) (capacity_of (slice_get t.terms.now u)) (rings_in (slice_get t.terms.now u))
-  pub fits : (node_at t).window ≤ capacity_of (slice_get t.terms.now u)
   pub each : (i : ℕ) → i < assets_at t → (ring_at (rings_in (slice_get t.terms.now u)) i).items
-      ≡ day_window_of v.world (pipeline_at t) (sids_at t) (capacity_of (slice_get t.terms.now u)) (Some (TermInput u)) i v.session
+      ≡ map (earlier_cell t v u i) (downward (capacity_of (slice_get t.terms.now u)))
 
 -- the rings of a bar column hold its cells of the sessions before, as they are seen on the day
 pub record HoldsBars (t : TermDay) (v : Moment) (c : Column) : Type 0 where
   pub rings : AreRings (assets_at t) (rings_of t.bars.now c).capacity (rings_of t.bars.now c).rings.items
-  pub fits : (node_at t).window ≤ (rings_of t.bars.now c).capacity
   pub each : (i : ℕ) → i < assets_at t → (ring_at (rings_of t.bars.now c).rings.items i).items
       ≡ bar_window v.world c (rings_of t.bars.now c).capacity (sid_in (sids_at t) i) (pos v.session)
+
+-- the windows of the node's inputs that end so many sessions before the day are in the rings
+pub record HoldsWindows (t : TermDay) (v : Moment) (after : ℕ) : Type 0 where
+  pub within : after ≤ v.session
+  pub bars : (place : ℕ) (c : Column) → slice_get (node_at t).inputs place ≡ Some (BarColumn c)
+      → HoldsBars t v c × ((node_at t).window + after ≤ (rings_of t.bars.now c).capacity)
+  pub values : (place u : ℕ) → slice_get (node_at t).inputs place ≡ Some (TermInput u)
+      → HoldsRings t v u × ((node_at t).window + after ≤ capacity_of (slice_get t.terms.now u))
 
 -- the given row is that of term u on the first session of the day's period
 pub record HoldsStart (t : TermDay) (v : Moment) (f : Frequency) (u : ℕ) : Type 0 where
@@ -93,8 +104,8 @@ pub record HoldsStart (t : TermDay) (v : Moment) (f : Frequency) (u : ℕ) : Typ
   pub is : pos first ≡ period_start f v.world.days (pos v.session)
   pub fills : Fills (λ i. cell_of v.world (pipeline_at t) (sids_at t) u i first) (assets_at t) t.start.now
 
--- The day is the session in the world, whose assets, labels and numbers are the given ones; each label text
--- has a code.
+-- The day is the session in the world, whose assets, labels, numbers and their ages are the given ones; each
+-- label text has a code.
 pub record IsDayIn (assets : List AssetRow) (table : LabelTable) (numbers : List ColumnNumber) (day : ℤ) (v : Moment) : Type 0 where
   pub up : AllPairs (λ a b. a < b) (sids_of assets)
   pub all : HasAll v.world (sids_of assets) v.session
@@ -102,7 +113,7 @@ pub record IsDayIn (assets : List AssetRow) (table : LabelTable) (numbers : List
   pub texts : v.world.texts ≡ table.texts
   pub lives : (i : ℕ) → i < length assets → exists v.world (sid_in (sids_of assets) i) (pos v.session) ≡ lives_at assets day i
   pub labels : (name : List ℕ) (i : ℕ) → i < length assets → label_at v.world name (sid_in (sids_of assets) i) (pos v.session) ≡ label_on table.rows name i day
-  pub known : (name : List ℕ) (i : ℕ) → i < length assets → known_number v.world name (sid_in (sids_of assets) i) (pos v.session) ≡ number_on numbers name i day
+  pub known : (f : Figure) (name : List ℕ) (i : ℕ) → i < length assets → known_number v.world f name (sid_in (sids_of assets) i) (pos v.session) ≡ number_on f numbers name i day
 
 -- the day is the session, and what the node mentions is held for it
 pub record IsTermDay (t : TermDay) (v : Moment) : Type 0 where
@@ -113,8 +124,7 @@ pub record IsTermDay (t : TermDay) (v : Moment) : Type 0 where
   pub rows : (place u : ℕ) → slice_get (node_at t).inputs place ≡ Some (TermInput u) → HoldsRow t v u
   pub mask : (u : ℕ) → (node_at t).mask ≡ Some u → HoldsRow t v u
   pub group : (u : ℕ) → (node_at t).group ≡ Some u → HoldsRow t v u
-  pub rings : is_windowed (node_at t).kind ≡ true → (place u : ℕ) → slice_get (node_at t).inputs place ≡ Some (TermInput u) → HoldsRings t v u
-  pub bars : (place : ℕ) (c : Column) → slice_get (node_at t).inputs place ≡ Some (BarColumn c) → HoldsBars t v c
+  pub windows : is_windowed (node_at t).kind ≡ true → HoldsWindows t v 0
   pub start : (f : Frequency) (u : ℕ) → (node_at t).kind ≡ Downsample f → slice_get (node_at t).inputs 0 ≡ Some (TermInput u) → HoldsStart t v f u
 
 -- a row has the term's cells on the session

@@ -1,8 +1,9 @@
 -- All terms from day to day.
-use Rattle.std.specs.Prelude.{◌≡◌, ℕ, ◌<◌, ◌≤◌, ◌+◌, Bool, true, not, ℤ, pos, List, ◌∷◌, length, map, Option, Some, None, slice_get, get_or, All}
+use Rattle.std.specs.Prelude.{◌≡◌, ℕ, ◌<◌, ◌≤◌, ◌+◌, Bool, true, false, ◌||◌, ◌&&◌, nat_lt, not, ℤ, pos, List, [], ◌∷◌, length, map, Option, Some, None, slice_get, get_or, All}
 use Rattle.pl_spec.specs.declared.AssetRow.{AssetRow}
 use Rattle.pl_spec.specs.declared.Column.{Column}
 use Rattle.pl_spec.specs.declared.Frequency.{Frequency}
+use Rattle.pl_pipeline.specs.Cones.{moves_at}
 use Rattle.pl_pipeline.specs.Kind.Kind.{Downsample}
 use Rattle.pl_spec.specs.Limits.{most_assets}
 use Rattle.pl_spec.specs.Parts.{ColumnNumber}
@@ -15,14 +16,16 @@ use Rattle.pl_assets.specs.Labels.{AreLabels, LabelTable}
 use Rattle.pl_terms.specs.Checked.{IsChecked, pipeline_of}
 use Rattle.pl_terms.specs.Sorts.{is_windowed}
 use Rattle.pl_terms.specs.Uses.{is_used}
+use Rattle.pl_adjust.specs.Columns.{events_at}
 use Rattle.pl_daily.specs.Capacities.{deepest}
+use Rattle.pl_daily.specs.Inside.{AreDepths}
 use Rattle.pl_daily.specs.Days.{Start, FedDay, fed, days_of, last_day, last_session, IsStart, AreFed}
 use Rattle.pl_daily.specs.declared.columns.BarRings.{BarRings}
 use Rattle.pl_daily.specs.Columns.{AreBarRings, HoldColumns, rings_of}
 use Rattle.pl_daily.specs.declared.term_day.TermCells.{TermCells}
-use Rattle.pl_daily.specs.Rows.{rows_lent, sids_of}
+use Rattle.pl_daily.specs.Rows.{capacity_of, rows_lent, sids_of}
 use Rattle.pl_daily.specs.TermDays.{cell_on}
-use Rattle.pl_daily.specs.Held.{AreTermCells, HoldsTerm}
+use Rattle.pl_daily.specs.Held.{AreTermCells, HoldsTerm, HoldsNewest}
 use Rattle.pl_daily.specs.declared.starts.StartCells.{StartCells}
 use Rattle.pl_daily.specs.declared.terms.Lent.{Lent}
 
@@ -49,15 +52,24 @@ pub record IsLent (l : Lent) : Type 0 where
 
 -- ---- what is held has room
 
--- each used term has room in the rings of its inputs, and what is held of it is full
-pub record AreTerms (assets : ℕ) (p : Pipeline) (rings : BarRings) (terms : List TermCells) : Type 0 where
-  pub many : length terms ≡ length p.graph
+-- What is held of used terms is full. Each used term has room in the rings of its inputs, as far back as it is
+-- itself read as it is seen on the last session, and of its mask.
+pub record HaveRoom (assets : ℕ) (p : Pipeline) (rings : BarRings) (terms : List TermCells) : Type 0 where
   pub full : (u : ℕ) (t : TermCells) → is_used p u ≡ true → slice_get terms u ≡ Some t → AreTermCells assets t
-  pub values : (k : ℕ) (n : Node) (place u : ℕ) (t : TermCells) → is_used p k ≡ true → slice_get p.graph k ≡ Some n → is_windowed n.kind ≡ true
+  pub values : (k : ℕ) (n : Node) (place u : ℕ) (t : TermCells) → is_used p k ≡ true → slice_get p.graph k ≡ Some n
+      → (is_windowed n.kind || nat_lt 0 (deepest p k)) ≡ true
       → slice_get n.inputs place ≡ Some (TermInput u) → slice_get terms u ≡ Some t → n.window + deepest p k ≤ t.rings.capacity
+  pub masks : (k : ℕ) (n : Node) (u : ℕ) (t : TermCells) → is_used p k ≡ true → slice_get p.graph k ≡ Some n → 0 < deepest p k
+      → n.mask ≡ Some u → slice_get terms u ≡ Some t → deepest p k < t.rings.capacity
   pub bars : (k : ℕ) (n : Node) (place : ℕ) (c : Column) → is_used p k ≡ true → slice_get p.graph k ≡ Some n
       → slice_get n.inputs place ≡ Some (BarColumn c) → n.window + deepest p k ≤ (rings_of rings c).capacity
   pub bar_rings : AreBarRings assets rings
+
+-- all terms are held, and of one that moves no more than is read
+pub record AreTerms (assets : ℕ) (p : Pipeline) (rings : BarRings) (terms : List TermCells) : Type 0 where
+  pub many : length terms ≡ length p.graph
+  pub room : HaveRoom assets p rings terms
+  pub deep : (u : ℕ) (t : TermCells) → is_used p u ≡ true → slice_get terms u ≡ Some t → moves_at p.graph u ≡ true → t.rings.capacity ≤ deepest p u + 1
 
 -- how many cells the rings of each term hold
 abbrev pub rooms : List TermCells → List ℕ
@@ -105,7 +117,8 @@ pub record HoldStarts (g : Start) (days : List FedDay) (p : Pipeline) (starts : 
 
 -- ---- from day to day
 
--- the day may follow these days, and the rings of bars stand for the list with it
+-- the day may follow these days, and the rings of bars stand for the list with it; the depths are the
+-- pipeline's, and an asset that is not marked has no adjustments of the day
 pub record IsNext (l : Lent) (next : FedDay) (days : List FedDay) : Type 0 where
   pub start : IsStart (start_at l)
   pub are_fed : AreFed (start_at l) (next ∷ days)
@@ -113,6 +126,9 @@ pub record IsNext (l : Lent) (next : FedDay) (days : List FedDay) : Type 0 where
   pub last : last_day days ≡ l.last
   pub count : length days ≡ l.fed
   pub bars : HoldColumns (start_at l) (next ∷ days) l.bars.now
+  pub depths : AreDepths (pipeline_at l) l.depths.now
+  pub marked : length l.changed.now ≡ assets_at l
+  pub quiet : (i : ℕ) → i < assets_at l → get_or l.changed.now i true ≡ false → events_at next.events i ≡ []
 
 -- and what is held of terms stands for the list without it
 pub record IsPlaced (l : Lent) (cells : List TermCells) (firsts : List StartCells) (next : FedDay) (days : List FedDay) : Type 0 where
@@ -149,6 +165,41 @@ pub record IsAt (l : Lent) (k : ℕ) (cells : List TermCells) (s : StartCells) (
   pub terms : TermsHold (start_at l) days (next ∷ days) (pipeline_at l) k cells
   pub start : IsStartOf (start_at l) started (pipeline_at l) k s
 
+-- term k has the day's row and newest cells, those below it have the day, and those above it do not
+pub record IsNewestAt (l : Lent) (k : ℕ) (cells : List TermCells) (s : StartCells) (next : FedDay) (days : List FedDay) : Type 0 where
+  pub may : IsNext l next days
+  pub done : (u : ℕ) (t : TermCells) → u < k → is_used (pipeline_at l) u ≡ true → slice_get cells u ≡ Some t → HoldsTerm (start_at l) (next ∷ days) (pipeline_at l) u t
+  pub own : (t : TermCells) → slice_get cells k ≡ Some t → HoldsNewest (start_at l) next days (pipeline_at l) k t
+  pub left : (u : ℕ) (t : TermCells) → k < u → is_used (pipeline_at l) u ≡ true → slice_get cells u ≡ Some t → HoldsTerm (start_at l) days (pipeline_at l) u t
+  pub start : IsStartOf (start_at l) (next ∷ days) (pipeline_at l) k s
+
+-- it then stands for the list with the day, as a whole
+abbrev pub FollowNewest : Lent → ℕ → List TermCells → StartCells → List TermCells → Type 0
+FollowNewest l k terms s new_terms =
+    (next : FedDay) (days : List FedDay) → IsNewestAt l k terms s next days → TermsHold (start_at l) days (next ∷ days) (pipeline_at l) (k + 1) new_terms
+
+-- the same of term k alone, over the terms below it
+pub record IsOwnAt (l : Lent) (k : ℕ) (below : List TermCells) (own : TermCells) (s : StartCells) (next : FedDay) (days : List FedDay) : Type 0 where
+  pub may : IsNext l next days
+  pub done : (u : ℕ) (t : TermCells) → u < k → is_used (pipeline_at l) u ≡ true → slice_get below u ≡ Some t → HoldsTerm (start_at l) (next ∷ days) (pipeline_at l) u t
+  pub newest : HoldsNewest (start_at l) next days (pipeline_at l) k own
+  pub start : IsStartOf (start_at l) (next ∷ days) (pipeline_at l) k s
+
+abbrev pub FollowOwn : Lent → ℕ → List TermCells → TermCells → StartCells → TermCells → Type 0
+FollowOwn l k below own s new =
+    (next : FedDay) (days : List FedDay) → IsOwnAt l k below own s next days → HoldsTerm (start_at l) (next ∷ days) (pipeline_at l) k new
+
+-- the term's rings are read on sessions before the last one as they are seen on the last
+abbrev pub is_read_earlier : Pipeline → ℕ → Option TermCells → Bool
+is_read_earlier p k t = nat_lt 0 (deepest p k) && nat_lt 1 (capacity_of t)
+
+-- they are full, and hold no more than is read
+pub record IsReadEarlier (assets : ℕ) (p : Pipeline) (k : ℕ) (t : TermCells) : Type 0 where
+  pub deep : 0 < deepest p k
+  pub some : 0 < t.rings.capacity
+  pub few : t.rings.capacity ≤ deepest p k + 1
+  pub full : AreTermCells assets t
+
 -- the day is of another period than the last one, or the first of all
 abbrev pub begins : Frequency → Option ℤ → ℤ → Bool
 begins f None day = true
@@ -166,6 +217,11 @@ pub record IsTermRow (g : Start) (p : Pipeline) (k : ℕ) (next : FedDay) (days 
 abbrev pub IsRowOf : Lent → ℕ → List TermCells → StartCells → List ℤ → Type 0
 IsRowOf l k terms s row =
     (next : FedDay) (days : List FedDay) → IsAt l k terms s (next ∷ days) next days → IsTermRow (start_at l) (pipeline_at l) k next days row
+
+-- term k then has the day's row and newest cells, and its start stands for the list with the day
+abbrev pub FollowPut : Lent → ℕ → List TermCells → StartCells → List TermCells → StartCells → Type 0
+FollowPut l k terms s new_terms new =
+    (next : FedDay) (days : List FedDay) → IsAt l k terms s days next days → IsNewestAt l k new_terms new next days
 
 -- term k and its start then stand for the list with the day
 abbrev pub FollowTermAt : Lent → ℕ → List TermCells → StartCells → List TermCells → StartCells → Type 0

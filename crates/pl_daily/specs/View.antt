@@ -8,6 +8,7 @@ use Rattle.pl_daily.specs.Rows.{rows_lent}
 use Rattle.pl_daily.specs.declared.daily.Daily.TheInside.{Inside}
 use Rattle.pl_daily.specs.Capacities.{column_window, term_window}
 use Rattle.pl_daily.specs.Daily.{Held}
+use Rattle.pl_daily.specs.Inside.{AreDepths}
 use Rattle.pl_daily.specs.Room.{IsRoom}
 use Rattle.pl_daily.specs.Terms.{AreStarts, AreTerms}
 
@@ -29,7 +30,7 @@ held_of d =
     }
 
 -- The pipeline is checked, all that is held is full, the rings have room for just the windows over them, and
--- there is room for all assets.
+-- there is room for all assets. The depths are the pipeline's, and each asset can be marked.
 pub record IsInside (d : Inside) : Type 0 where
   pub checked : IsChecked (pipeline_of d.checked.now)
   pub columns : (c : Column) → (rings_of d.bars c).capacity ≡ column_window (pipeline_of d.checked.now) c
@@ -40,3 +41,5 @@ pub record IsInside (d : Inside) : Type 0 where
   pub room : IsRoom (length d.assets.now) (length (pipeline_of d.checked.now).graph) d.room
   pub kept_room : length d.assets.now ≤ vec_capacity d.kept
   pub kept : All (λ c. c < length d.assets.now) d.kept.items
+  pub depths : AreDepths (pipeline_of d.checked.now) d.depths.items
+  pub changed : length d.changed.items ≡ length d.assets.now

@@ -14,10 +14,10 @@ size_for n (Some x) = n.window
 abbrev pub window_size : Node → ℕ → ℕ
 window_size n place = size_for n (slice_get n.inputs place)
 
--- the window of the input in a place, by the rings
-abbrev pub window_at : TermDay → ℕ → ℕ → List ℤ
-window_at t place i = ring_window t.bars.now t.terms.now (node_at t).window (slice_get (node_at t).inputs place) i
+-- the window of the input in a place that ends so many sessions before the day, by the rings
+abbrev pub window_at : TermDay → ℕ → ℕ → ℕ → List ℤ
+window_at t place after i = ring_window t.bars.now t.terms.now (node_at t).window after (slice_get (node_at t).inputs place) i
 
 -- what the kind gives over them
-abbrev pub windowed_by : TermDay → ℕ → ℤ
-windowed_by t i = windowed (node_at t).kind (window_at t 0 i) (window_at t 1 i) (window_at t 2 i)
+abbrev pub windowed_by : TermDay → ℕ → ℕ → ℤ
+windowed_by t after i = windowed (node_at t).kind (window_at t 0 after i) (window_at t 1 after i) (window_at t 2 after i)

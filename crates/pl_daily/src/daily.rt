@@ -6,7 +6,7 @@ ghost use Rattle.pl_spec.specs.Parts.{sid_at};
 ghost use Rattle.pl_pipeline.specs.Table.{NamedColumn, in_array, kept_sids, value_of};
 ghost use Rattle.pl_terms.specs.Checked.{pipeline_of};
 ghost use Rattle.pl_terms.specs.Uses.{is_used};
-ghost use Rattle.pl_daily.specs.Changes.{AreRings, IsHandedIn};
+ghost use Rattle.pl_daily.specs.Changes.{AreRings, IsHandedIn, column_event};
 ghost use Rattle.pl_daily.specs.Columns.{FollowColumns, rings_of};
 ghost use Rattle.pl_daily.specs.Days.{FedDay, IsLaterThan, MayFollow, last_session};
 ghost use Rattle.pl_daily.specs.declared.term_day.TermCells.{TermCells};
@@ -21,6 +21,7 @@ ghost use Rattle.pl_daily.specs.Steps.{Answers, IsMidway, TakeTerms, sessions_of
 use crate::capacities::depths_of;
 use crate::columns::BarRings;
 use crate::day::Day;
+use crate::events::mark_changed;
 use crate::fill::{fill_terms, take_reaches};
 use crate::kept::{put_kept, screen_row};
 use crate::reaches::is_ready;
@@ -61,6 +62,8 @@ pub struct Daily<'a> {
     starts: Vec<StartCells>,
     since: Vec<Option<usize>>,
     kept: Vec<u32>,
+    depths: Vec<usize>,
+    changed: Vec<bool>,
     room: Room,
 }
 
@@ -80,6 +83,8 @@ impl<'a> Drop for Daily<'a> {
             starts: _starts,
             since: _since,
             kept: _kept,
+            depths: _depths,
+            changed: _changed,
             room: _room,
         } = self;
     }
@@ -169,6 +174,8 @@ impl<'a> Daily<'a> {
             starts: begin_starts(alloc, checked, many)?,
             since: begin_since(alloc, terms)?,
             kept: Vec::with_capacity(alloc, many)?,
+            depths,
+            changed: vec![in alloc; false; many]?,
             room: Room::reserve(alloc, many, terms)?,
         })
     }
@@ -203,13 +210,15 @@ impl<'a> Daily<'a> {
 
     // Takes it into the terms.
     fn take_terms(&mut self, day: &Day)
-        requires { (next : FedDay) × (days : List FedDay) × IsMidway self.old day.now.day next days }
-        ensures terms { TakeTerms day.now.day self.old self.new }
+        requires { (next : FedDay) × (days : List FedDay)
+            × IsMidway self.old day.now.day (map column_event day.now.events.now) next days }
+        ensures terms { TakeTerms day.now.day (map column_event day.now.events.now) self.old self.new }
         ensures many { length self.new.terms ≡ length self.old.pipeline.graph }
         ensures all { length self.new.starts ≡ length self.old.pipeline.graph }
         ensures rest { self.new ≡ record self.old { terms = self.new.terms; starts = self.new.starts } }
     {
         let last = self.last_day();
+        mark_changed(day.events, &mut self.changed);
         let lent = Lent {
             checked: self.checked,
             assets: self.assets,
@@ -219,6 +228,8 @@ impl<'a> Daily<'a> {
             day: day.day,
             last,
             fed: self.fed,
+            depths: &self.depths,
+            changed: &self.changed,
         };
         fill_terms(&lent, &mut self.terms, &mut self.starts, &mut self.room);
     }

@@ -1,5 +1,6 @@
 //! What a day's adjustments make of rings of bars.
-ghost use Rattle.std.specs.Prelude.{◌≡◌, ℕ, ◌+◌, ◌*◌, ◌<◌, [], ◌∷◌, min, length, map, option_to_list, All};
+ghost use Rattle.std.specs.Prelude.{◌≡◌, ℕ, ◌+◌, ◌*◌, ◌<◌, ◌==◌, true, [], ◌∷◌, min, length, map, get_or, option_to_list, All};
+ghost use Rattle.std.specs.List.{list_any};
 ghost use Rattle.pl_spec.specs.Rounding.{IsCell};
 ghost use Rattle.pl_spec.specs.Window.{after_all, changed as change, effect, step_count, step_of};
 ghost use Rattle.pl_adjust.specs.Events.{IsPut, PutsCell, effect_of, event_of};
@@ -123,5 +124,18 @@ pub(crate) fn take_events<L: Ledger>(
             column,
             steps,
         );
+    }
+}
+
+/// Marks the assets that have events, by column.
+pub(crate) fn mark_changed(events: &[DayEvent], changed: &mut [bool])
+    requires { All (λ e. e.col < length changed.old) events.now }
+    ensures long { length changed.new ≡ length changed.old }
+    ensures marked { (i : ℕ) → i < length changed.old
+        → get_or changed.new i true ≡ list_any (λ e. e.col == i) events.now }
+{
+    changed.fill(false);
+    for event in events {
+        changed[event.col as usize] = true;
     }
 }

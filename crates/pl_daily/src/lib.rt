@@ -6,6 +6,7 @@
 //! session for which rings and rows stand.
 #![tactic(auto)]
 
+mod anew;
 mod bars;
 mod capacities;
 mod columns;

@@ -1,6 +1,7 @@
 //! Rings of cells: one for each asset.
 ghost use Rattle.std.specs.Prelude.{◌≡◌, ℕ, ◌<◌, ◌≤◌, ◌+◌, ◌++◌, pos, length, get_or, replicate, IfOk};
 ghost use Rattle.circular_buffer.specs.Buffer.{buffer, keep_last};
+ghost use Rattle.pl_daily.specs.Rows.{ending};
 ghost use Rattle.pl_spec.specs.Rounding.{IsCell};
 ghost use Rattle.pl_daily.specs.Changes.{AreRings, pushed, ring_at};
 
@@ -66,13 +67,26 @@ pub fn push_row(rings: &mut [HeapCircularBuffer<i64>], row: &[i64])
     }
 }
 
-/// The last cells of a ring, oldest first: as many as `window` has.
-pub fn copy_window(ring: &HeapCircularBuffer<i64>, window: &mut [i64])
-    requires { length window.old ≤ length ring.now.items }
-    ensures { window.new ≡ keep_last (length window.old) ring.now.items }
+/// The cells of a ring up to the one that is so many before its newest, oldest first: as many as `window`
+/// has.
+pub fn copy_window(ring: &HeapCircularBuffer<i64>, after: usize, window: &mut [i64])
+    requires { length window.old + after ≤ length ring.now.items }
+    ensures { window.new ≡ ending (length window.old) after ring.now.items }
 {
     let (front, back) = ring.as_slices();
-    copy_last(front, back, window);
+    copy_ending(front, back, after, window);
+}
+
+// The same of two runs, of which the second stands after the first.
+fn copy_ending(front: &[i64], back: &[i64], after: usize, window: &mut [i64])
+    requires { length window.old + after ≤ length front.now + length back.now }
+    ensures { window.new ≡ ending (length window.old) after (front.now ++ back.now) }
+{
+    if after < back.len() {
+        copy_last(front, &back[..back.len() - after], window);
+    } else {
+        copy_last(&front[..front.len() + back.len() - after], &[], window);
+    }
 }
 
 // The last cells of two runs, of which the second stands after the first.

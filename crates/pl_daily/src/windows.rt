@@ -1,27 +1,26 @@
 //! Formulas and filters over the windows of a node's inputs, which are the ends of rings.
-ghost use Rattle.std.specs.Prelude.{◌≡◌, ◌≤◌, ◌<◌, true, length, slice_get};
+ghost use Rattle.std.specs.Prelude.{◌≡◌, ◌≤◌, ◌<◌, true, length};
 ghost use Rattle.pl_spec.specs.Rounding.{IsCell};
 ghost use Rattle.pl_spec.specs.Cells.{is_true};
 ghost use Rattle.pl_terms.specs.Sorts.{is_windowed};
 ghost use Rattle.pl_values.specs.Arrays.{chosen, empty_cell};
-ghost use Rattle.pl_daily.specs.Rows.{Shows, ring_window};
+ghost use Rattle.pl_daily.specs.Rows.{Shows};
 ghost use Rattle.pl_daily.specs.TermDays.{IsRowInEveryWorld, IsKept, IsTermDay, Moment, assets_at, node_at, pipeline_at};
-ghost use Rattle.pl_daily.specs.Windows.{windowed_by, window_size};
+ghost use Rattle.pl_daily.specs.TermDays.{HoldsWindows};
+ghost use Rattle.pl_daily.specs.Windows.{window_at, windowed_by, window_size};
 
 use crate::rings::copy_window;
 use crate::term_day::TermDay;
 use pl_terms::Input;
 use pl_values::{input_at, is_one, kind_of, window_of, window_value};
 
-// The window of the input in a place, for an asset; it has the length of the slice.
-fn read_window(term_day: &TermDay<'_>, place: usize, i: usize, window: &mut [i64])
-    requires term_day { (v : Moment) × IsTermDay term_day.now v }
-    requires kind { is_windowed (node_at term_day.now).kind ≡ true }
+// The window of the input in a place that ends so many sessions before the day, for an asset; it has the
+// length of the slice.
+fn read_window(term_day: &TermDay<'_>, place: usize, i: usize, after: usize, window: &mut [i64])
+    requires held { (v : Moment) × IsTermDay term_day.now v × HoldsWindows term_day.now v after }
     requires asset { i < assets_at term_day.now }
     requires size { length window.old ≡ window_size (node_at term_day.now) place }
-    ensures { window.new ≡ ring_window term_day.now.bars.now term_day.now.terms.now
-        (node_at term_day.now).window
-        (slice_get (node_at term_day.now).inputs place) i }
+    ensures { window.new ≡ window_at term_day.now place after i }
 {
     // most kinds read fewer windows
     if window.is_empty() {
@@ -29,21 +28,54 @@ fn read_window(term_day: &TermDay<'_>, place: usize, i: usize, window: &mut [i64
     }
     match input_at(term_day.node, place) {
         Some(Input::Term(term)) => {
-            copy_window(&term_day.terms[term.0 as usize].rings.rings[i], window);
+            copy_window(
+                &term_day.terms[term.0 as usize].rings.rings[i],
+                after,
+                window,
+            );
         }
-        Some(Input::Column(column)) => copy_window(&term_day.bars.of(column).rings[i], window),
+        Some(Input::Column(column)) => {
+            copy_window(&term_day.bars.of(column).rings[i], after, window);
+        }
         None => {}
     }
 }
 
 // How long the window of the input in a place is.
-fn size_of(term_day: &TermDay<'_>, place: usize) -> usize
+pub(crate) fn size_of(term_day: &TermDay<'_>, place: usize) -> usize
     ensures { result ≡ window_size (node_at term_day.now) place }
 {
     match input_at(term_day.node, place) {
         Some(_) => window_of(term_day.node),
         None => 0,
     }
+}
+
+/// What the kind gives over windows that end so many sessions before the day. The slices are for them.
+pub(crate) fn window_back(
+    term_day: &TermDay<'_>,
+    i: usize,
+    after: usize,
+    first: &mut [i64],
+    second: &mut [i64],
+    third: &mut [i64],
+) -> i64
+    requires held { (v : Moment) × IsTermDay term_day.now v × HoldsWindows term_day.now v after }
+    requires kind { is_windowed (node_at term_day.now).kind ≡ true }
+    requires asset { i < assets_at term_day.now }
+    requires first { length first.old ≡ window_size (node_at term_day.now) 0 }
+    requires second { length second.old ≡ window_size (node_at term_day.now) 1 }
+    requires third { length third.old ≡ window_size (node_at term_day.now) 2 }
+    ensures value { result ≡ windowed_by term_day.now after i }
+    ensures cell { IsCell result }
+    ensures first { length first.new ≡ length first.old }
+    ensures second { length second.new ≡ length second.old }
+    ensures third { length third.new ≡ length third.old }
+{
+    read_window(term_day, 0, i, after, first);
+    read_window(term_day, 1, i, after, second);
+    read_window(term_day, 2, i, after, third);
+    window_value(kind_of(term_day.node), first, second, third)
 }
 
 // The term's cell for an asset. The slices are for its windows.
@@ -63,7 +95,7 @@ fn window_cell(
     requires first { length first.old ≡ window_size (node_at term_day.now) 0 }
     requires second { length second.old ≡ window_size (node_at term_day.now) 1 }
     requires third { length third.old ≡ window_size (node_at term_day.now) 2 }
-    ensures value { result ≡ chosen (is_true keep) (windowed_by term_day.now i) empty }
+    ensures value { result ≡ chosen (is_true keep) (windowed_by term_day.now 0 i) empty }
     ensures cell { IsCell result }
     ensures first { length first.new ≡ length first.old }
     ensures second { length second.new ≡ length second.old }
@@ -72,10 +104,7 @@ fn window_cell(
     if !is_one(keep) {
         return empty;
     }
-    read_window(term_day, 0, i, first);
-    read_window(term_day, 1, i, second);
-    read_window(term_day, 2, i, third);
-    window_value(kind_of(term_day.node), first, second, third)
+    window_back(term_day, i, 0, first, second, third)
 }
 
 // The term's cells, in slices of the windows' lengths.
@@ -96,7 +125,7 @@ fn window_cells(
     requires third { length third.old ≡ window_size (node_at term_day.now) 2 }
     requires keep { length keep.now ≡ assets_at term_day.now }
     requires long { length out.old ≡ length keep.now }
-    ensures { Shows (windowed_by term_day.now) empty keep.now out.new }
+    ensures { Shows (windowed_by term_day.now 0) empty keep.now out.new }
 {
     for i in 0..out.len() {
         out[i] = window_cell(term_day, i, keep[i], empty, first, second, third);

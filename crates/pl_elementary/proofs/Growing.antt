@@ -1,5 +1,5 @@
 -- The exponential rises.
-use Rattle.std.proofs.Common.{◌≡◌, ℕ, zero, suc, ◌+◌, ◌-◌, ◌*◌, ◌/◌, ◌^◌, ◌<◌, ◌≤◌, nat_le, Bool, true, false, if◌then◌else◌, ◌||◌, ℤ, pos, negsuc, neg_ℤ, ◌≤ℤ◌, ◌<ℤ◌, unsigned_abs, inl, inr, refl, sym, ap, ◌∙◌, subst, arith}
+use Rattle.std.proofs.Common.{◌≡◌, ℕ, zero, suc, ◌+◌, ◌*◌, ◌/◌, ◌<◌, ◌≤◌, nat_le, Bool, true, false, if◌then◌else◌, ◌||◌, ℤ, pos, negsuc, neg_ℤ, ◌≤ℤ◌, inl, inr, refl, arith}
 use Rattle.std.specs.Int.RustNames.{int_lt}
 use Rattle.std.proofs.lemmas.Nat.{mul-le, le-div, div-mul-add}
 use Rattle.std.proofs.Math.Nat.{div-mul-le_self}
@@ -9,7 +9,7 @@ use Rattle.std.proofs.lemmas.Int.{ints}
 use Rattle.pl_spec.specs.Rounding.{LIMIT, MILLION, MISSING, is_missing, div_round, to_cell, quot}
 use Rattle.pl_pipeline.specs.Elementary.{GRAIN, exp, series}
 use Rattle.pl_elementary.proofs.Rising.{div-mono}
-use Rattle.pl_elementary.proofs.Terms.{follows, follow-less, one-term}
+use Rattle.pl_elementary.proofs.Terms.{follow-less, one-term}
 
 -- ---- the series
 

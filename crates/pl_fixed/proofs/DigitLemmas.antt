@@ -143,26 +143,39 @@ digit_of d h = grind (arith, nat_tests)
 digit_below : (d : ℕ) → d < 10 → digit_value (48 + d) < 10
 digit_below d h = rw (digit_of d h) h
 
--- ---- six digits, by pairs
+-- ---- two digits, and six, by pairs
 
 digit_is : (c n : ℕ) → n < 10 → c ≡ 48 + n → digit_value c ≡ n
 digit_is c n h e = ap digit_value e ∙ digit_of n h
 
 -- their digits and their number
-pub record AreSix (bs : List ℕ) (n : ℕ) : Type 0 where
+pub record AreDigitsOf (bs : List ℕ) (n : ℕ) : Type 0 where
   pub digits : AllDigits 10 bs
   pub number : n ≡ digits_value 10 bs
 
+two_of : (a b x : ℕ) → x < 100 → digit_value a ≡ x / 10 → digit_value b ≡ x % 10 → AreDigitsOf (a ∷ b ∷ []) x
+two_of a b x hx da db = record {
+  digits = (omega arith, (omega arith, tt));
+  number = omega (arith, div-add-mod' x 10);
+}
+
+pub two_digits-pair : (bs : List ℕ) (x : ℕ) → length bs ≡ 2 → IsPairAt bs 0 x → AreDigitsOf bs x
+two_digits-pair [] x n p = absurd (omega arith)
+two_digits-pair (a ∷ []) x n p = absurd (omega arith)
+two_digits-pair (a ∷ b ∷ []) x n p =
+    two_of a b x p.below (digit_is a (x / 10) (omega (arith, p.below)) p.tens) (digit_is b (x % 10) (mod_below x 10 (omega arith)) p.ones)
+two_digits-pair (a ∷ b ∷ c ∷ cs) x n p = absurd (omega arith)
+
 six_of : (a b c d e f x y z : ℕ) → x < 100 → y < 100 → z < 100
     → digit_value a ≡ x / 10 → digit_value b ≡ x % 10 → digit_value c ≡ y / 10 → digit_value d ≡ y % 10 → digit_value e ≡ z / 10 → digit_value f ≡ z % 10
-    → AreSix (a ∷ b ∷ c ∷ d ∷ e ∷ f ∷ []) (x * 10_000 + y * 100 + z)
+    → AreDigitsOf (a ∷ b ∷ c ∷ d ∷ e ∷ f ∷ []) (x * 10_000 + y * 100 + z)
 six_of a b c d e f x y z hx hy hz da db dc dd de df =
     record {
       digits = (omega arith, (omega arith, (omega arith, (omega arith, (omega arith, (omega arith, tt))))));
       number = omega (arith, div-add-mod' x 10, div-add-mod' y 10, div-add-mod' z 10);
     }
 
-pub six_digits-pairs : (bs : List ℕ) (x y z : ℕ) → length bs ≡ 6 → IsPairAt bs 0 x → IsPairAt bs 2 y → IsPairAt bs 4 z → AreSix bs (x * 10_000 + y * 100 + z)
+pub six_digits-pairs : (bs : List ℕ) (x y z : ℕ) → length bs ≡ 6 → IsPairAt bs 0 x → IsPairAt bs 2 y → IsPairAt bs 4 z → AreDigitsOf bs (x * 10_000 + y * 100 + z)
 six_digits-pairs [] x y z n p q r = absurd (omega arith)
 six_digits-pairs (a ∷ []) x y z n p q r = absurd (omega arith)
 six_digits-pairs (a ∷ b ∷ []) x y z n p q r = absurd (omega arith)

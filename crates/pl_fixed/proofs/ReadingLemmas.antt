@@ -305,7 +305,21 @@ in_range-capped d units part scale short digits u p s =
           rw (same, s)
     ]
 
+-- ---- by the size and the sign
+
+pub in_range-signed_large : (negative : Bool) (n : ℕ) → LIMIT < n → in_range (signed negative n) ≡ Err TooLarge
+in_range-signed_large negative n h = in_range-large (signed negative n) (rw (abs-signed negative n) h)
+
+pub in_range-signed_cell : (negative : Bool) (n : ℕ) → n ≤ LIMIT → in_range (signed negative n) ≡ Ok (signed negative n)
+in_range-signed_cell negative n h = in_range-cell (signed negative n) (rw (abs-signed negative n) h)
+
 -- ---- what nothing is rounded of
+
+-- parts of a unit are less than a unit
+pub few_millionths : (part power each : ℕ) → part < power → each * power ≡ MILLION → part * each ≤ MILLION
+few_millionths part power each below unit =
+    let product = mul-le part each power each (omega arith) (omega arith) in
+    grind (arith, product, unit)
 
 same_millionths : (u q r p : ℕ) → r * p ≡ MILLION → (u * p + q) * MILLION ≡ (u * MILLION + q * r) * p
 same_millionths u q r p e =

@@ -8,8 +8,8 @@ ghost use Rattle.pl_spec.specs.Decimals.{Decimal, IsDecimal, IsTooLong, IsTooLar
 ghost use Rattle.pl_fixed.specs.Reading.{read, unsigned_read, fraction_read, judged, in_range};
 
 use crate::cell::{LIM, MISSING, UNIT};
-use crate::digits::{MOST_VALUE, front_number, put, put_decimal, put_six, six_digits};
-use crate::rounding::{div_round, signed};
+use crate::digits::{MOST_VALUE, front_number, put, put_decimal, put_six, six_digits, two_digits};
+use crate::rounding::{div_round, short_signed};
 
 /// Why bytes are no decimal of a cell. The faults are tested in this order.
 #[derive(Clone, Copy, Debug, PartialEq, Eq)]
@@ -56,6 +56,7 @@ fn read_bytes(b: &[u8]) -> Result<i64, DecimalFault>
     }
 }
 
+#[inline(always)]
 #[tactic(auto, unfolding(crate::specs::Reading::unsigned_read))]
 fn read_unsigned(negative: bool, b: &[u8]) -> Result<i64, DecimalFault>
     ensures { result ≡ unsigned_read negative b.now }
@@ -68,6 +69,7 @@ fn read_unsigned(negative: bool, b: &[u8]) -> Result<i64, DecimalFault>
 }
 
 // Of the digits before the rest only their number matters.
+#[inline(always)]
 #[tactic(auto, unfolding(crate::specs::Reading::fraction_read))]
 fn read_fraction(negative: bool, units: u64, rest: &[u8]) -> Result<i64, DecimalFault>
     requires { units ≤ MOST_UNITS }
@@ -81,12 +83,16 @@ fn read_fraction(negative: bool, units: u64, rest: &[u8]) -> Result<i64, Decimal
     }
 }
 
-// The same of what stands after the point.
+// The same of what stands after the point: mostly two digits or six, which are read without a loop.
+#[inline(always)]
 fn read_part(negative: bool, units: u64, fraction: &[u8]) -> Result<i64, DecimalFault>
     requires { units ≤ MOST_UNITS }
     ensures { (whole : List ℕ) → units ≡ min MOST_UNITS (digits_value 10 whole)
         → result ≡ fraction_read negative whole (46 ∷ fraction.now) }
 {
+    if let Some(part) = two_digits(fraction) {
+        return judge(negative, units, part, 2);
+    }
     if let Some(part) = six_digits(fraction) {
         return judge(negative, units, part, 6);
     }
@@ -98,9 +104,10 @@ fn read_part(negative: bool, units: u64, fraction: &[u8]) -> Result<i64, Decimal
 }
 
 // The decimal of so many units, and of so many digits after the point that write the part.
+#[inline(always)]
 fn judge(negative: bool, units: u64, part: u64, digits: usize) -> Result<i64, DecimalFault>
     requires units { units ≤ MOST_UNITS }
-    requires part { part ≤ MOST_VALUE }
+    requires part { part < 10 ^ digits }
     ensures { (d : Decimal) → AllDigits 10 d.fraction → negative ≡ d.negative
         → units ≡ min MOST_UNITS (digits_value 10 d.whole)
         → part ≡ min MOST_VALUE (digits_value 10 d.fraction)
@@ -109,7 +116,48 @@ fn judge(negative: bool, units: u64, part: u64, digits: usize) -> Result<i64, De
     if digits > 18 {
         return Err(DecimalFault::TooManyDigits);
     }
-    in_range(millionths(negative, units, part, digits))
+    if digits <= 6 {
+        judge_short(negative, units, part, digits)
+    } else {
+        judge_long(negative, units, part, digits)
+    }
+}
+
+// Of at most six digits nothing is rounded, and nothing divided, and 64 bits do.
+#[inline(always)]
+fn judge_short(negative: bool, units: u64, part: u64, digits: usize) -> Result<i64, DecimalFault>
+    requires units { units ≤ MOST_UNITS }
+    requires part { part < 10 ^ digits }
+    requires digits { digits ≤ 6 }
+    ensures { result ≡ in_range
+        (div_round (signed negative ((units * 10 ^ digits + part) * MILLION)) (10 ^ digits)) }
+{
+    in_short_range(
+        negative,
+        units * 1_000_000 + part * millionths_of_digit(digits),
+    )
+}
+
+fn judge_long(negative: bool, units: u64, part: u64, digits: usize) -> Result<i64, DecimalFault>
+    requires units { units ≤ MOST_UNITS }
+    requires part { part < 10 ^ digits }
+    requires digits { digits ≤ 18 }
+    ensures { result ≡ in_range
+        (div_round (signed negative ((units * 10 ^ digits + part) * MILLION)) (10 ^ digits)) }
+{
+    in_range(rounded(negative, units, part, power_of_ten(digits)))
+}
+
+// The cell of so many millionths with a sign.
+#[inline(always)]
+fn in_short_range(negative: bool, magnitude: u64) -> Result<i64, DecimalFault>
+    ensures { result ≡ in_range (signed negative magnitude) }
+{
+    if magnitude > LIM as u64 {
+        Err(DecimalFault::TooLarge)
+    } else {
+        Ok(short_signed(negative, magnitude))
+    }
 }
 
 #[tactic(auto, unfolding(crate::specs::Reading::in_range))]
@@ -132,22 +180,8 @@ fn power_of_ten(exponent: usize) -> u64
     10u64.pow(exponent as u32)
 }
 
-// The millionths of `units` and `part` of 10^`digits` parts of a unit, rounded once. Of at most six digits
-// nothing is rounded, and nothing divided.
-fn millionths(negative: bool, units: u64, part: u64, digits: usize) -> i128
-    requires units { units ≤ MOST_UNITS }
-    requires part { part ≤ MOST_VALUE }
-    requires digits { digits ≤ 18 }
-    ensures { result ≡ div_round (signed negative ((units * 10 ^ digits + part) * MILLION)) (10 ^ digits) }
-{
-    if digits <= 6 {
-        whole_millionths(negative, units, part, millionths_of_digit(digits))
-    } else {
-        rounded(negative, units, part, power_of_ten(digits))
-    }
-}
-
 // How many millionths the last of so many digits after the point stands for.
+#[inline(always)]
 fn millionths_of_digit(digits: usize) -> u64
     requires { digits ≤ 6 }
     ensures value { result * 10 ^ digits ≡ MILLION }
@@ -162,17 +196,6 @@ fn millionths_of_digit(digits: usize) -> u64
         5 => 10,
         _ => 1,
     }
-}
-
-// The millionths of `units` and of `part` parts of so many millionths each.
-fn whole_millionths(negative: bool, units: u64, part: u64, each: u64) -> i128
-    requires units { units ≤ MOST_UNITS }
-    requires part { part ≤ MOST_VALUE }
-    requires each { each ≤ MILLION }
-    ensures { result ≡ signed negative (units * MILLION + part * each) }
-{
-    let magnitude = units as u128 * UNIT as u128 + part as u128 * each as u128;
-    signed(negative, magnitude)
 }
 
 // The millionths of `units` and `part` of `scale` parts of a unit, rounded once.

@@ -81,8 +81,24 @@ fn short_front(b: &[u8]) -> (usize, u64)
     (b.len(), number)
 }
 
+// The number of exactly two digits.
+#[inline(always)]
+pub(crate) fn two_digits(b: &[u8]) -> Option<u64>
+    ensures count { IfSome result (λ _. length b.now ≡ 2) }
+    ensures digits { IfSome result (λ _. AllDigits 10 b.now) }
+    ensures number { IfSome result (λ n. n ≡ digits_value 10 b.now) }
+    ensures small { IfSome result (λ n. n < 100) }
+{
+    if b.len() != 2 {
+        return None;
+    }
+    let number = pair_at(b, 0)?;
+    Some(u64::from(number))
+}
+
 // The number of exactly six digits, as many as most decimals have after the point. There is no loop, and the
 // pairs do not wait for each other.
+#[inline(always)]
 pub(crate) fn six_digits(b: &[u8]) -> Option<u64>
     ensures count { IfSome result (λ _. length b.now ≡ 6) }
     ensures digits { IfSome result (λ _. AllDigits 10 b.now) }

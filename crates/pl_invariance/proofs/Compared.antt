@@ -14,7 +14,7 @@ use Rattle.pl_invariance.proofs.Exact.{missing_stays, neg-times, turned, other_s
 
 -- ---- cells of a window
 
-get_scaled : (r : Fraction) (xs : List ℤ) (k : ℕ) → get_or (map (scaled r) xs) k MISSING ≡ scaled r (get_or xs k MISSING)
+pub get_scaled : (r : Fraction) (xs : List ℤ) (k : ℕ) → get_or (map (scaled r) xs) k MISSING ≡ scaled r (get_or xs k MISSING)
 get_scaled r [] k = sym (missing_stays r)
 get_scaled r (x ∷ xs) zero = refl
 get_scaled r (x ∷ xs) (suc k) = get_scaled r xs k

@@ -19,13 +19,13 @@ use Rattle.pl_invariance.proofs.Exact.{missing_stays, other_sign, same_factor}
 use Rattle.pl_invariance.proofs.Units as units
 
 -- a product of squares
-squares-of : (a b d n : ℕ) → a * d ≡ b * n → a * a * (d * d) ≡ b * b * (n * n)
+pub squares-of : (a b d n : ℕ) → a * d ≡ b * n → a * a * (d * d) ≡ b * b * (n * n)
 squares-of a b d n e =
     let one : a * a * (d * d) ≡ (a * d) * (a * d) = omega arith in
     let two : (b * n) * (b * n) ≡ b * b * (n * n) = omega arith in
     one ∙ ap (λ z. z * z) e ∙ two
 
-root-of : (s : ℕ) → isqrt (s * s) ≡ s
+pub root-of : (s : ℕ) → isqrt (s * s) ≡ s
 root-of s = one_root (s * s) (isqrt (s * s)) s (isqrt-is_root (s * s)) (record { within = omega arith; greatest = omega arith })
 
 module _ (r : Fraction) (ratio : IsRatio r) where

@@ -1,7 +1,8 @@
 -- Numbers and windows of a measure in another unit, and the formulas of them.
-use Rattle.std.proofs.Common.{◌≡◌, ℕ, ◌+◌, ◌*◌, ◌==◌, ◌≤◌, Bool, true, false, if◌then◌else◌, ℤ, pos, ◌-◌, ◌-ℤ◌, List, [], ◌∷◌, length, map, refl, sym, ◌∙◌, ap, inl, inr}
+use Rattle.std.proofs.Common.{◌≡◌, ℕ, zero, suc, ◌+◌, ◌*◌, ◌==◌, ◌≤◌, Bool, true, false, if◌then◌else◌, ℤ, pos, ◌-◌, ◌-ℤ◌, List, [], ◌∷◌, length, map, refl, sym, ◌∙◌, ap, inl, inr, arith}
 use Rattle.std.specs.List.{list_any, list_all}
 use Rattle.std.specs.Int.RustNames.{unsigned_abs}
+use Rattle.std.proofs.Math.Nat.{mul-pos}
 use Rattle.std.proofs.lemmas.Int.{unsigned_abs-mul}
 use Rattle.pl_spec.proofs.Signed.{int_eq-true}
 use Rattle.std.proofs.lemmas.List.{length-map}
@@ -15,8 +16,8 @@ use Rattle.pl_spec.specs.Rounding.{MISSING, MILLION, Fraction, is_missing, is_pr
 use Rattle.pl_pipeline.specs.declared.WindowKind.{WindowKind}
 use Rattle.pl_pipeline.specs.Formula.{FINE, oldest, newest, gap, mean, if_any, deviation, products, weights, weighted_mean, faded_mean, rank_among, place_number, formula}
 use Rattle.pl_invariance.specs.Exact.{Divides}
-use Rattle.pl_invariance.specs.Pipelines.{Measure, FormulaRule, IsQuotientExact, IsPercentileExact, IsBandGiven, spans, GivesExact, AreSpansExact, IsFormulaExact}
-use Rattle.pl_invariance.specs.Pipelines.Measure.{Price, NoUnit}
+use Rattle.pl_invariance.specs.Pipelines.{Measure, raised, ratio_of, FormulaRule, IsQuotientExact, IsPercentileExact, IsBandGiven, spans, GivesExact, AreSpansExact, IsFormulaExact}
+use Rattle.pl_invariance.specs.Pipelines.Measure.{Power, NoUnit}
 use Rattle.pl_invariance.specs.Ranked.{IsExact}
 use Rattle.pl_invariance.specs.Units.{IsRatio, AreExact}
 use Rattle.pl_invariance.proofs.Compared.{oldest_scaled, newest_scaled, changes-have-no-unit}
@@ -26,28 +27,53 @@ use Rattle.pl_invariance.proofs.Exact.{cancel, missing_stays}
 use Rattle.pl_invariance.proofs.Formulas.{formulas-have-units}
 use Rattle.pl_invariance.proofs.Formulas as formulas
 use Rattle.pl_invariance.proofs.Indicators.{missing-same, nothing-divides, get-divides, position-same, indicators-have-no-unit}
+use Rattle.pl_invariance.proofs.Divided.{intercept-both}
+use Rattle.pl_invariance.proofs.Joined.{joined-in}
 use Rattle.pl_invariance.proofs.Quotients.{quotient-scaled}
 use Rattle.pl_invariance.proofs.Scales.{correlations-have-no-scale, regressions-have-units, window-scaled}
+use Rattle.pl_invariance.proofs.Shapes.{shapes-have-no-unit, roots-have-units}
 use Rattle.pl_invariance.proofs.Slopes.{slope-same}
 use Rattle.pl_invariance.proofs.Trends.{intercept-in, trend-in, off-trend-in}
 use Rattle.pl_invariance.proofs.Units as units
 
+-- ---- powers of a ratio
+
+pub raised-ratio : (r : Fraction) → IsRatio r → (n : ℕ) → IsRatio (raised r n)
+raised-ratio r h zero = h
+raised-ratio r h (suc n) = let rest = raised-ratio r h n in (mul-pos h.0 rest.0, mul-pos h.1 rest.1)
+
+-- the power of a product is the product of two
+pub raised-product : (r : Fraction) (m n : ℕ)
+    → ((raised r (suc (m + n))).num ≡ (raised r m).num * (raised r n).num) × ((raised r (suc (m + n))).den ≡ (raised r m).den * (raised r n).den)
+raised-product r zero n =
+    let none : 0 + n ≡ n = omega arith in
+    (ap (λ k. (raised r (suc k)).num) none, ap (λ k. (raised r (suc k)).den) none)
+raised-product r (suc m) n =
+    let next : suc m + n ≡ suc (m + n) = omega arith in
+    let rest = raised-product r m n in (
+      ap (λ k. (raised r (suc k)).num) next ∙ ap (λ z. r.num * z) rest.0 ∙ grouped r.num (raised r m).num (raised r n).num,
+      ap (λ k. (raised r (suc k)).den) next ∙ ap (λ z. r.den * z) rest.1 ∙ grouped r.den (raised r m).den (raised r n).den,
+    )
+  where
+    grouped : (a b c : ℕ) → a * (b * c) ≡ a * b * c
+    grouped a b c = omega arith
+
 module _ (r : Fraction) where
   -- a number, and a list of numbers, in the other unit
   abbrev pub number_in : Measure → ℤ → ℤ
-  number_in Price x = scaled r x
+  number_in (Power n) x = scaled (raised r n) x
   number_in NoUnit x = x
 
   abbrev pub list_in : Measure → List ℤ → List ℤ
-  list_in Price xs = map (scaled r) xs
+  list_in (Power n) xs = map (scaled (raised r n)) xs
   list_in NoUnit xs = xs
 
   abbrev pub IsOf : Measure → ℤ → Type 0
-  IsOf Price x = Divides r x
+  IsOf (Power n) x = Divides (raised r n) x
   IsOf NoUnit x = Unit {0}
 
   abbrev pub AreOf : Measure → List ℤ → Type 0
-  AreOf Price xs = AreExact r xs
+  AreOf (Power n) xs = AreExact (raised r n) xs
   AreOf NoUnit xs = Unit {0}
 
 module _ (r : Fraction) (ratio : IsRatio r) where
@@ -57,18 +83,6 @@ module _ (r : Fraction) (ratio : IsRatio r) where
   -- the one number that is z times the ratio
   pub by-times : (y z : ℤ) → Divides r z → is_missing z ≡ false → Times y z → y ≡ scaled r z
   by-times y z h p e = cancel y (scaled r z) r.den ratio.1 (e ∙ sym (units.exact-times r ratio z (p, h)))
-
-  -- ---- of two cells
-
-  -- two cells that are missing alike in both units
-  pub on_both : (x y x' y' v v' : ℤ) → is_missing x' ≡ is_missing x → is_missing y' ≡ is_missing y
-      → (is_missing x ≡ false → is_missing y ≡ false → v' ≡ scaled r v) → of_both x' y' v' ≡ scaled r (of_both x y v)
-  on_both x y x' y' v v' e f h = step (is_missing x) (is_missing y) refl refl
-    where
-      step : (b c : Bool) → is_missing x ≡ b → is_missing y ≡ c → of_both x' y' v' ≡ scaled r (of_both x y v)
-      step true c i j = rw (e, i) (sym (missing_stays r))
-      step false true i j = rw (e, f, i, j) (sym (missing_stays r))
-      step false false i j = rw (e, f, i, j) (h i j)
 
   -- ---- formulas
 
@@ -169,7 +183,7 @@ module _ (r : Fraction) (ratio : IsRatio r) where
   span-in : (x y v' v : ℤ) → Divides r x → Divides r y → GivesExact r x y v → (IsExact r x → IsExact r y → Times v' v)
       → (of_both (scaled r x) (scaled r y) v' ≡ scaled r (of_both x y v)) × Divides r (of_both x y v)
   span-in x y v' v h i g t = (
-    on_both x y (scaled r x) (scaled r y) v v' (missing-same r ratio x h) (missing-same r ratio y i) (λ e f. by-times v' v (g e f).1 (g e f).0 (t (e, h) (f, i))),
+    units.on_both r ratio x y (scaled r x) (scaled r y) v v' (missing-same r ratio x h) (missing-same r ratio y i) (λ e f. by-times v' v (g e f).1 (g e f).0 (t (e, h) (f, i))),
     step (is_missing x) (is_missing y) refl refl,
   )
     where
@@ -223,54 +237,70 @@ module _ (r : Fraction) (ratio : IsRatio r) where
   all-present [] h = refl
   all-present (x ∷ xs) h = rw (units.present-same r ratio x h.0, all-present xs h.1) refl
 
+module _ (r : Fraction) (ratio : IsRatio r) where
+  abbrev s : ℕ → Fraction
+  s n = raised r n
+
+  q : (n : ℕ) → IsRatio (raised r n)
+  q n = raised-ratio r ratio n
+
   pub formula-in : {k : WindowKind} {mx my mz u : Measure} → FormulaRule k mx my mz u → (xs ys zs : List ℤ) → AreOf r mx xs → AreOf r my ys → AreOf r mz zs
-      → IsFormulaExact r k my xs ys zs → formula k (list_in r mx xs) (list_in r my ys) (list_in r mz zs) ≡ number_in r u (formula k xs ys zs)
+      → IsFormulaExact (ratio_of r u) k my xs ys zs → formula k (list_in r mx xs) (list_in r my ys) (list_in r mz zs) ≡ number_in r u (formula k xs ys zs)
   unfolding formula
-  formula-in FormulaRule.latest xs ys zs h i j e = oldest_scaled r xs
-  formula-in FormulaRule.first xs ys zs h i j e = oldest_scaled r xs
-  formula-in FormulaRule.greatest xs ys zs h i j e = formulas-have-units.greatest r xs ys zs ratio h
-  formula-in FormulaRule.least xs ys zs h i j e = formulas-have-units.least r xs ys zs ratio h
-  formula-in FormulaRule.sum xs ys zs h i j e = formulas-have-units.sums r xs ys zs ratio h e
-  formula-in FormulaRule.mean xs ys zs h i j e = (formulas-have-units.means r xs ys zs ratio h e).0
-  formula-in FormulaRule.middle xs ys zs h i j e = (formulas-have-units.means r xs ys zs ratio h e).1
-  formula-in FormulaRule.linear xs ys zs h i j e = formulas-have-units.linear r xs ys zs ratio h e
-  formula-in FormulaRule.weighted xs ys zs h i j e = weighted xs ys h e
-  formula-in FormulaRule.by_volume xs ys zs h i j e = weighted xs ys h e
-  formula-in FormulaRule.dollar_volume xs ys zs h i j e = formulas-have-units.dollar_volumes r xs ys zs ratio h e
-  formula-in (FormulaRule.faded {decay}) xs ys zs h i j e = fading MILLION decay xs h e
-  formula-in (FormulaRule.fine {decay}) xs ys zs h i j e = fading FINE decay xs h e
-  formula-in FormulaRule.deviation xs ys zs h i j e = formulas-have-units.deviations r xs ys zs ratio h e
-  formula-in (FormulaRule.lower {k}) xs ys zs h i j e = lower-band k xs h e
-  formula-in (FormulaRule.upper {k}) xs ys zs h i j e = upper-band k xs h e
-  formula-in (FormulaRule.percentile {percent}) xs ys zs h i j e = percentiles percent xs h e
-  formula-in FormulaRule.true_range xs ys zs h i j e = true-range xs ys zs h i j e
-  formula-in FormulaRule.returns xs ys zs h i j e = changes-have-no-unit.returns r ratio.0 xs ys zs (get-divides r ratio xs 0 h) (get-divides r ratio xs (length xs - 1) h)
-  formula-in FormulaRule.change xs ys zs h i j e = changes-have-no-unit.changes r ratio.0 xs ys zs (get-divides r ratio xs 0 h) (get-divides r ratio xs (length xs - 1) h)
-  formula-in FormulaRule.rate xs ys zs h i j e = changes-have-no-unit.rates r ratio.0 xs ys zs (get-divides r ratio xs 0 h) (get-divides r ratio xs (length xs - 1) h)
-  formula-in FormulaRule.strength xs ys zs h i j e = indicators-have-no-unit.strength r xs ys zs ratio h
-  formula-in FormulaRule.stochastic xs ys zs h i j e = indicators-have-no-unit.stochastic r xs ys zs ratio h i j
-  formula-in FormulaRule.up xs ys zs h i j e = indicators-have-no-unit.up r xs ys zs ratio h
-  formula-in FormulaRule.down xs ys zs h i j e = indicators-have-no-unit.down r xs ys zs ratio h
-  formula-in FormulaRule.rank xs ys zs h i j e = window-rank xs h
-  formula-in FormulaRule.place_of_greatest xs ys zs h i j e =
-      let g = units.greatest-scaled r ratio xs h in
-      ap (λ x. place_number x (map (scaled r) xs)) g.0 ∙ place-in (greatest xs) g.1 xs h
-  formula-in FormulaRule.place_of_least xs ys zs h i j e =
-      let g = units.least-scaled r ratio xs h in
-      ap (λ x. place_number x (map (scaled r) xs)) g.0 ∙ place-in (least xs) g.1 xs h
-  formula-in FormulaRule.all_present xs ys zs h i j e = ap truth (all-present xs h)
-  formula-in FormulaRule.correlation ys xs zs h i j e =
-      correlations-have-no-scale.correlation.first r ys (map (scaled r) xs) zs ratio h ∙ correlations-have-no-scale.correlation.second r ys xs zs ratio i
-  formula-in FormulaRule.correlation_of_y ys xs zs h i j e = correlations-have-no-scale.correlation.first r ys xs zs ratio h
-  formula-in FormulaRule.correlation_of_x ys xs zs h i j e = correlations-have-no-scale.correlation.second r ys xs zs ratio i
-  formula-in FormulaRule.rank_correlation ys xs zs h i j e =
-      correlations-have-no-scale.ranks.first r ys (map (scaled r) xs) zs ratio h ∙ correlations-have-no-scale.ranks.second r ys xs zs ratio i
-  formula-in FormulaRule.rank_correlation_of_y ys xs zs h i j e = correlations-have-no-scale.ranks.first r ys xs zs ratio h
-  formula-in FormulaRule.rank_correlation_of_x ys xs zs h i j e = correlations-have-no-scale.ranks.second r ys xs zs ratio i
-  formula-in FormulaRule.r_squared xs ys zs h i j e = correlations-have-no-scale.r_squared r xs ys zs ratio h
-  formula-in FormulaRule.covariance ys xs zs h i j e = regressions-have-units.covariance r ys xs zs ratio h e
-  formula-in FormulaRule.slope ys xs zs h i j e = regressions-have-units.slope r ys xs zs ratio h e
-  formula-in FormulaRule.hedge ys xs zs h i j e = slope-same r ratio xs ys i h
-  formula-in FormulaRule.intercept ys xs zs h i j e = intercept-in r ratio _ _ (window-scaled r ratio xs ys h) e
-  formula-in FormulaRule.trend xs ys zs h i j e = trend-in r ratio xs h e
-  formula-in FormulaRule.off_trend xs ys zs h i j e = off-trend-in r ratio xs h e
+  formula-in (FormulaRule.latest {n}) xs ys zs h i j e = oldest_scaled (s n) xs
+  formula-in (FormulaRule.first {n}) xs ys zs h i j e = oldest_scaled (s n) xs
+  formula-in (FormulaRule.greatest {n}) xs ys zs h i j e = formulas-have-units.greatest (s n) xs ys zs (q n) h
+  formula-in (FormulaRule.least {n}) xs ys zs h i j e = formulas-have-units.least (s n) xs ys zs (q n) h
+  formula-in (FormulaRule.sum {n}) xs ys zs h i j e = formulas-have-units.sums (s n) xs ys zs (q n) h e
+  formula-in (FormulaRule.mean {n}) xs ys zs h i j e = (formulas-have-units.means (s n) xs ys zs (q n) h e).0
+  formula-in (FormulaRule.middle {n}) xs ys zs h i j e = (formulas-have-units.means (s n) xs ys zs (q n) h e).1
+  formula-in (FormulaRule.linear {n}) xs ys zs h i j e = formulas-have-units.linear (s n) xs ys zs (q n) h e
+  formula-in (FormulaRule.weighted {n}) xs ys zs h i j e = weighted (s n) (q n) xs ys h e
+  formula-in (FormulaRule.by_volume {n}) xs ys zs h i j e = weighted (s n) (q n) xs ys h e
+  formula-in (FormulaRule.dollar_volume {n}) xs ys zs h i j e = formulas-have-units.dollar_volumes (s n) xs ys zs (q n) h e
+  formula-in (FormulaRule.faded {n} {decay}) xs ys zs h i j e = fading (s n) (q n) MILLION decay xs h e
+  formula-in (FormulaRule.fine {n} {decay}) xs ys zs h i j e = fading (s n) (q n) FINE decay xs h e
+  formula-in (FormulaRule.deviation {n}) xs ys zs h i j e = formulas-have-units.deviations (s n) xs ys zs (q n) h e
+  formula-in (FormulaRule.faded_deviation {n} {decay}) xs ys zs h i j e = roots-have-units.faded_deviation (s n) decay xs ys zs (q n) h e
+  formula-in (FormulaRule.lower {n} {k}) xs ys zs h i j e = lower-band (s n) (q n) k xs h e
+  formula-in (FormulaRule.upper {n} {k}) xs ys zs h i j e = upper-band (s n) (q n) k xs h e
+  formula-in (FormulaRule.percentile {n} {percent}) xs ys zs h i j e = percentiles (s n) (q n) percent xs h e
+  formula-in (FormulaRule.true_range {n}) xs ys zs h i j e = true-range (s n) (q n) xs ys zs h i j e
+  formula-in (FormulaRule.returns {n}) xs ys zs h i j e = changes-have-no-unit.returns (s n) (q n).0 xs ys zs (get-divides (s n) (q n) xs 0 h) (get-divides (s n) (q n) xs (length xs - 1) h)
+  formula-in (FormulaRule.change {n}) xs ys zs h i j e = changes-have-no-unit.changes (s n) (q n).0 xs ys zs (get-divides (s n) (q n) xs 0 h) (get-divides (s n) (q n) xs (length xs - 1) h)
+  formula-in (FormulaRule.rate {n}) xs ys zs h i j e = changes-have-no-unit.rates (s n) (q n).0 xs ys zs (get-divides (s n) (q n) xs 0 h) (get-divides (s n) (q n) xs (length xs - 1) h)
+  formula-in (FormulaRule.strength {n}) xs ys zs h i j e = indicators-have-no-unit.strength (s n) xs ys zs (q n) h
+  formula-in (FormulaRule.stochastic {n}) xs ys zs h i j e = indicators-have-no-unit.stochastic (s n) xs ys zs (q n) h i j
+  formula-in (FormulaRule.up {n}) xs ys zs h i j e = indicators-have-no-unit.up (s n) xs ys zs (q n) h
+  formula-in (FormulaRule.down {n}) xs ys zs h i j e = indicators-have-no-unit.down (s n) xs ys zs (q n) h
+  formula-in (FormulaRule.drawdown {n}) xs ys zs h i j e = shapes-have-no-unit.drawdown (s n) xs ys zs (q n) h
+  formula-in (FormulaRule.skewness {n}) xs ys zs h i j e = shapes-have-no-unit.skewness (s n) xs ys zs (q n) h
+  formula-in (FormulaRule.kurtosis {n}) xs ys zs h i j e = shapes-have-no-unit.kurtosis (s n) xs ys zs (q n) h
+  formula-in (FormulaRule.rank {n}) xs ys zs h i j e = window-rank (s n) (q n) xs h
+  formula-in (FormulaRule.place_of_greatest {n}) xs ys zs h i j e =
+      let g = units.greatest-scaled (s n) (q n) xs h in
+      ap (λ x. place_number x (map (scaled (s n)) xs)) g.0 ∙ place-in (s n) (q n) (greatest xs) g.1 xs h
+  formula-in (FormulaRule.place_of_least {n}) xs ys zs h i j e =
+      let g = units.least-scaled (s n) (q n) xs h in
+      ap (λ x. place_number x (map (scaled (s n)) xs)) g.0 ∙ place-in (s n) (q n) (least xs) g.1 xs h
+  formula-in (FormulaRule.all_present {n}) xs ys zs h i j e = ap truth (all-present (s n) (q n) xs h)
+  formula-in (FormulaRule.correlation {m} {n}) ys xs zs h i j e =
+      correlations-have-no-scale.correlation.first (s m) ys (map (scaled (s n)) xs) zs (q m) h ∙ correlations-have-no-scale.correlation.second (s n) ys xs zs (q n) i
+  formula-in (FormulaRule.correlation_of_y {n}) ys xs zs h i j e = correlations-have-no-scale.correlation.first (s n) ys xs zs (q n) h
+  formula-in (FormulaRule.correlation_of_x {n}) ys xs zs h i j e = correlations-have-no-scale.correlation.second (s n) ys xs zs (q n) i
+  formula-in (FormulaRule.rank_correlation {m} {n}) ys xs zs h i j e =
+      correlations-have-no-scale.ranks.first (s m) ys (map (scaled (s n)) xs) zs (q m) h ∙ correlations-have-no-scale.ranks.second (s n) ys xs zs (q n) i
+  formula-in (FormulaRule.rank_correlation_of_y {n}) ys xs zs h i j e = correlations-have-no-scale.ranks.first (s n) ys xs zs (q n) h
+  formula-in (FormulaRule.rank_correlation_of_x {n}) ys xs zs h i j e = correlations-have-no-scale.ranks.second (s n) ys xs zs (q n) i
+  formula-in (FormulaRule.r_squared {n}) xs ys zs h i j e = correlations-have-no-scale.r_squared (s n) xs ys zs (q n) h
+  formula-in (FormulaRule.covariance {n}) ys xs zs h i j e = regressions-have-units.covariance (s n) ys xs zs (q n) h e
+  formula-in (FormulaRule.joint_variance {m} {n}) ys xs zs h i j e =
+      joined-in (s m) (q m) (s n) (q n) (s (suc (m + n))) (q (suc (m + n))) (raised-product r m n) xs ys i h e
+  formula-in (FormulaRule.slope {n}) ys xs zs h i j e = regressions-have-units.slope (s n) ys xs zs (q n) h e
+  formula-in (FormulaRule.hedge {n}) ys xs zs h i j e = slope-same (s n) (q n) xs ys i h
+  formula-in (FormulaRule.error {n}) ys xs zs h i j e = roots-have-units.error (s n) ys xs zs (q n) h e
+  formula-in (FormulaRule.hedge_error {n}) ys xs zs h i j e = shapes-have-no-unit.error (s n) ys xs zs (q n) h i
+  formula-in (FormulaRule.intercept {n}) ys xs zs h i j e = intercept-in (s n) (q n) _ _ (window-scaled (s n) (q n) xs ys h) e
+  formula-in (FormulaRule.hedge_intercept {n}) ys xs zs h i j e = intercept-both (s n) (q n) xs ys i h e
+  formula-in (FormulaRule.trend {n}) xs ys zs h i j e = trend-in (s n) (q n) xs h e
+  formula-in (FormulaRule.off_trend {n}) xs ys zs h i j e = off-trend-in (s n) (q n) xs h e

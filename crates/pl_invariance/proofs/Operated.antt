@@ -1,5 +1,6 @@
 -- Operations on prices in another unit.
-use Rattle.std.proofs.Common.{◌≡◌, ◌*◌, Bool, true, false, ◌||◌, if◌then◌else◌, ℤ, pos, ◌*ℤ◌, neg_ℤ, refl, sym, ◌∙◌, ap, subst}
+use Rattle.std.proofs.Common.{◌≡◌, ℕ, suc, ◌+◌, ◌*◌, Bool, true, false, ◌||◌, if◌then◌else◌, ℤ, pos, ◌*ℤ◌, neg_ℤ, refl, sym, ◌∙◌, ap, subst}
+use Rattle.std.specs.Int.{int_max, int_min}
 use Rattle.std.specs.Int.RustNames.{unsigned_abs, int_lt}
 use Rattle.std.proofs.Math.IntN.{*ℤ_comm}
 use Rattle.pl_spec.specs.Cells.{truth, is_true}
@@ -8,16 +9,20 @@ use Rattle.std.proofs.lemmas.Int.{unsigned_abs-mul}
 use Rattle.pl_pipeline.specs.Elementary.{sign, maximum, minimum}
 use Rattle.pl_pipeline.specs.Kind.{PointKind}
 use Rattle.pl_pipeline.specs.Pointwise.{pointwise}
+use Rattle.pl_invariance.specs.Crossed.{ClipsHaveUnits}
 use Rattle.pl_invariance.specs.Exact.{Divides}
-use Rattle.pl_invariance.specs.Pipelines.{Measure, OperationRule, GivesCell, IsQuotientExact, IsOperationExact}
+use Rattle.pl_invariance.specs.Pipelines.{Measure, raised, ratio_of, OperationRule, GivesCell, IsQuotientExact, IsOperationExact}
 use Rattle.pl_invariance.specs.Ranked.{IsExact}
 use Rattle.pl_invariance.specs.Units.{IsRatio}
 use Rattle.pl_invariance.proofs.Compared.{quot_same}
 use Rattle.pl_invariance.proofs.Crossed.{screens-have-no-unit}
 use Rattle.pl_invariance.proofs.Exact.{missing_stays}
 use Rattle.pl_invariance.proofs.Formulas.{add-scaled, sub-scaled, mul-scaled}
+use Rattle.pl_invariance.proofs.Divided.{quotient-in, root-in}
 use Rattle.pl_invariance.proofs.Indicators.{missing-same}
-use Rattle.pl_invariance.proofs.Measured.{number_in, IsOf, by-times, on_both}
+use Rattle.pl_invariance.proofs.Joined.{product-in}
+use Rattle.pl_invariance.proofs.Measured.{raised-ratio, raised-product, number_in, IsOf, by-times}
+use Rattle.pl_invariance.proofs.Units.{on_both}
 use Rattle.pl_invariance.proofs.Quotients.{quotient-scaled}
 use Rattle.pl_invariance.proofs.Units as units
 
@@ -159,23 +164,54 @@ module _ (r : Fraction) (ratio : IsRatio r) where
   kept true x = refl
   kept false x = sym (missing_stays r)
 
+pub clips-have-units : ClipsHaveUnits
+unfolding pointwise
+clips-have-units r ratio low high x y z hl hh h =
+    on_one r ratio x (int_max (scaled r low) (int_min (scaled r high) (scaled r x))) (int_max low (int_min high x)) h
+    (λ e.
+    let inner = units.min-scaled r ratio high x hh (e, h) in
+    ap (int_max (scaled r low)) inner.0 ∙ (units.max-scaled r ratio low (int_min high x) hl inner.1).0)
+
+-- a product of numbers of two units
+both-product : (a : Fraction) (one : IsRatio a) (b : Fraction) (two : IsRatio b) (c : Fraction) (both : IsRatio c)
+    → (c.num ≡ a.num * b.num) × (c.den ≡ a.den * b.den) → (x y : ℤ) → Divides a x → Divides b y
+    → (is_missing x ≡ false → is_missing y ≡ false → IsExact c (mul x y) × ((mul x y *ℤ pos MILLION) ≡ (x *ℤ y)))
+    → mul (scaled a x) (scaled b y) ≡ scaled c (mul x y)
+unfolding mul
+both-product a one b two c both is x y h i g =
+    on_both c both x y (scaled a x) (scaled b y) _ _ (missing-same a one x h) (missing-same b two y i)
+    (λ e f.
+    let own = both-there x y (to_cell (div_round (x *ℤ y) MILLION)) e f in
+    let found = product-in a one b two c both is x y (e, h) (f, i) (mul x y) own (g e f).0 (g e f).1 in
+    found ∙ ap (scaled c) own)
+
+module _ (r : Fraction) (ratio : IsRatio r) where
+  abbrev s : ℕ → Fraction
+  s n = raised r n
+
+  q : (n : ℕ) → IsRatio (raised r n)
+  q n = raised-ratio r ratio n
+
   pub operation-in : {k : PointKind} {mx my mz u : Measure} → OperationRule k mx my mz u → (x y z : ℤ) → IsOf r mx x → IsOf r my y → IsOf r mz z
-      → IsOf r u (pointwise k x y z) → IsOperationExact r k my x y → pointwise k (number_in r mx x) (number_in r my y) (number_in r mz z) ≡ number_in r u (pointwise k x y z)
+      → IsOf r u (pointwise k x y z) → IsOperationExact (ratio_of r u) k u x y → pointwise k (number_in r mx x) (number_in r my y) (number_in r mz z) ≡ number_in r u (pointwise k x y z)
   unfolding pointwise
-  operation-in OperationRule.plus x y z h i j w e = sums x y h i e
-  operation-in OperationRule.minus x y z h i j w e = gaps x y h i e
-  operation-in OperationRule.times x y z h i j w e = first-product x y h e
-  operation-in OperationRule.factor x y z h i j w e = product x y i e
-  operation-in OperationRule.over x y z h i j w e = share x y h e
-  operation-in OperationRule.proportion x y z h i j w e = proportions x y h i
-  operation-in OperationRule.negative x y z h i j w e = negated x h w e
-  operation-in OperationRule.magnitude x y z h i j w e = sizes x h w
-  operation-in OperationRule.greater x y z h i j w e = greater x y h i
-  operation-in OperationRule.lesser x y z h i j w e = lesser x y h i
-  operation-in OperationRule.filled x y z h i j w e = filled x y h
-  operation-in OperationRule.chosen x y z h i j w e = chosen (is_true x) y z
-  operation-in OperationRule.kept x y z h i j w e = kept (is_true y) x
-  operation-in (OperationRule.compared {c}) x y z h i j w e = screens-have-no-unit r ratio c x y h i
-  operation-in OperationRule.is_null x y z h i j w e = ap truth (missing-same r ratio x h)
-  operation-in OperationRule.not_null x y z h i j w e = ap truth (units.present-same r ratio x h)
-  operation-in OperationRule.sign x y z h i j w e = signs x h
+  operation-in (OperationRule.plus {n}) x y z h i j w e = sums (s n) (q n) x y h i e
+  operation-in (OperationRule.minus {n}) x y z h i j w e = gaps (s n) (q n) x y h i e
+  operation-in (OperationRule.times {n}) x y z h i j w e = first-product (s n) (q n) x y h e
+  operation-in (OperationRule.factor {n}) x y z h i j w e = product (s n) (q n) x y i e
+  operation-in (OperationRule.product {m} {n}) x y z h i j w e = both-product (s m) (q m) (s n) (q n) (s (suc (m + n))) (q (suc (m + n))) (raised-product r m n) x y h i e
+  operation-in (OperationRule.over {n}) x y z h i j w e = share (s n) (q n) x y h e
+  operation-in (OperationRule.proportion {n}) x y z h i j w e = proportions (s n) (q n) x y h i
+  operation-in (OperationRule.quotient {m} {n}) x y z h i j w e = quotient-in (s m) (q m) (s n) (q n) (s (suc (m + n))) (q (suc (m + n))) (raised-product r m n) x y h i e
+  operation-in (OperationRule.root {n}) x y z h i j w e = root-in (s n) (q n) (s (suc (n + n))) (q (suc (n + n))) (raised-product r n n) x h w e
+  operation-in (OperationRule.negative {n}) x y z h i j w e = negated (s n) (q n) x h w e
+  operation-in (OperationRule.magnitude {n}) x y z h i j w e = sizes (s n) (q n) x h w
+  operation-in (OperationRule.greater {n}) x y z h i j w e = greater (s n) (q n) x y h i
+  operation-in (OperationRule.lesser {n}) x y z h i j w e = lesser (s n) (q n) x y h i
+  operation-in (OperationRule.filled {n}) x y z h i j w e = filled (s n) (q n) x y h
+  operation-in (OperationRule.chosen {n}) x y z h i j w e = chosen (s n) (q n) (is_true x) y z
+  operation-in (OperationRule.kept {n}) x y z h i j w e = kept (s n) (q n) (is_true y) x
+  operation-in (OperationRule.compared {n} {c}) x y z h i j w e = screens-have-no-unit (s n) (q n) c x y h i
+  operation-in (OperationRule.is_null {n}) x y z h i j w e = ap truth (missing-same (s n) (q n) x h)
+  operation-in (OperationRule.not_null {n}) x y z h i j w e = ap truth (units.present-same (s n) (q n) x h)
+  operation-in (OperationRule.sign {n}) x y z h i j w e = signs (s n) (q n) x h

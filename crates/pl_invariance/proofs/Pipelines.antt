@@ -24,15 +24,15 @@ use Rattle.pl_pipeline.specs.Term.Term.{node}
 use Rattle.pl_pipeline.specs.Value.{Value, View, Own, From, seen_from, Part, Operands, part_from, number_of, holds, value_of_part, window_of, passes, in_group, entry, counts_for, eligible, group_of, test_value, is_filter, empty, sort_over, sort_kind, is_same, keeps_window, view_of, kind_value, seen, value}
 use Rattle.pl_pipeline.specs.Value.Value.{Number, Text}
 use Rattle.pl_invariance.specs.Exact.{Divides, AllDivide}
-use Rattle.pl_invariance.specs.Pipelines.{Measure, CrossRule, Rule, HasMeasure, IsCrossExact, IsStepExact, HoldsOfInputs, IsWhole, NothingIsRounded, in_unit, PipelinesHaveUnits}
-use Rattle.pl_invariance.specs.Pipelines.Measure.{Price, NoUnit}
+use Rattle.pl_invariance.specs.Pipelines.{Measure, raised, CrossRule, Rule, HasMeasure, IsCrossExact, IsStepExact, HoldsOfInputs, IsWhole, NothingIsRounded, in_unit, PipelinesHaveUnits}
+use Rattle.pl_invariance.specs.Pipelines.Measure.{Power, NoUnit}
 use Rattle.pl_invariance.specs.Priced.{priced_world}
 use Rattle.pl_invariance.specs.Ranked.{IsExact, scaled_entry}
 use Rattle.pl_invariance.specs.Units.{IsRatio}
 use Rattle.pl_invariance.proofs.Exact.{missing_stays}
 use Rattle.pl_invariance.proofs.Indicators.{nothing-divides}
 use Rattle.pl_invariance.proofs.Lists.{maps, any-map}
-use Rattle.pl_invariance.proofs.Measured.{number_in, list_in, IsOf, AreOf, formula-in}
+use Rattle.pl_invariance.proofs.Measured.{raised-ratio, number_in, list_in, IsOf, AreOf, formula-in}
 use Rattle.pl_invariance.proofs.Operated.{operation-in}
 use Rattle.pl_invariance.proofs.Priced.{seen_priced, seen_volume}
 use Rattle.pl_invariance.proofs.Sections.{IsAmong, cross-in}
@@ -77,59 +77,59 @@ some-long p (x ∷ xs) h = omega arith
 module _ (r : Fraction) (ratio : IsRatio r) where
   -- ---- values
 
-  zero-stays : scaled r (pos 0) ≡ pos 0
-  zero-stays =
+  zero-stays : (n : ℕ) → scaled (raised r n) (pos 0) ≡ pos 0
+  zero-stays n =
       let small : unsigned_abs (pos 0) ≤ LIMIT = omega arith in
-      units.is-scaled r ratio (pos 0) (pos 0) small (units.times-zero r ratio) ∙ units.small-cell (pos 0) small
+      units.is-scaled (raised r n) (raised-ratio r ratio n) (pos 0) (pos 0) small (units.times-zero (raised r n) (raised-ratio r ratio n)) ∙ units.small-cell (pos 0) small
 
   number-of : (u : Measure) (v : Value) → number_of (in_unit r u v) ≡ number_in r u (number_of v)
-  number-of Price (Number x) = refl
-  number-of Price (Text t) = sym zero-stays
+  number-of (Power n) (Number x) = refl
+  number-of (Power n) (Text t) = sym (zero-stays n)
   number-of NoUnit v = refl
 
   in-number : (u : Measure) (x : ℤ) → Number (number_in r u x) ≡ in_unit r u (Number x)
-  in-number Price x = refl
+  in-number (Power n) x = refl
   in-number NoUnit x = refl
 
   empty-in : (u : Measure) (k : Kind) → empty k ≡ in_unit r u (empty k)
   empty-in NoUnit k = refl
-  empty-in Price k = step (is_filter k)
+  empty-in (Power n) k = step (is_filter k)
     where
-      step : (b : Bool) → (if b then Number (pos 0) else Number MISSING) ≡ in_unit r Price (if b then Number (pos 0) else Number MISSING)
-      step true = ap Number (sym zero-stays)
-      step false = ap Number (sym (missing_stays r))
+      step : (b : Bool) → (if b then Number (pos 0) else Number MISSING) ≡ in_unit r (Power n) (if b then Number (pos 0) else Number MISSING)
+      step true = ap Number (sym (zero-stays n))
+      step false = ap Number (sym (missing_stays (raised r n)))
 
   whole-of : (u : Measure) (v : Value) → IsWhole r u v → IsOf r u (number_of v)
-  whole-of Price v h = h
+  whole-of (Power n) v h = h
   whole-of NoUnit v h = tt
 
   present-in : (u : Measure) (v : Value) → IsOf r u (number_of v) → is_present (number_of (in_unit r u v)) ≡ is_present (number_of v)
-  present-in Price (Number x) h = units.present-same r ratio x h
-  present-in Price (Text t) h = refl
+  present-in (Power n) (Number x) h = units.present-same (raised r n) (raised-ratio r ratio n) x h
+  present-in (Power n) (Text t) h = refl
   present-in NoUnit v h = refl
 
   pulled : (u : Measure) (f : ℕ → ℤ) (xs : List ℕ) → map (λ n. number_in r u (f n)) xs ≡ list_in r u (map f xs)
-  pulled Price f xs = sym (maps (scaled r) f xs)
+  pulled (Power n) f xs = sym (maps (scaled (raised r n)) f xs)
   pulled NoUnit f xs = refl
 
   all-whole : (u : Measure) (f : ℕ → Value) (xs : List ℕ) → Each (λ n. IsWhole r u (f n)) xs → AreOf r u (map (λ n. number_of (f n)) xs)
-  all-whole Price f xs h = each_in_map (Divides r) (λ n. number_of (f n)) xs h
+  all-whole (Power n) f xs h = each_in_map (Divides (raised r n)) (λ i. number_of (f i)) xs h
   all-whole NoUnit f xs h = tt
 
   abbrev entry_in : Measure → Entry → Entry
-  entry_in Price e = scaled_entry r e
+  entry_in (Power n) e = scaled_entry (raised r n) e
   entry_in NoUnit e = e
 
   abbrev entries_in : Measure → List Entry → List Entry
-  entries_in Price list = map (scaled_entry r) list
+  entries_in (Power n) list = map (scaled_entry (raised r n)) list
   entries_in NoUnit list = list
 
   entry-is : (u : Measure) (b : ℕ) (v : Value) → (b, number_of (in_unit r u v)) ≡ entry_in u (b, number_of v)
-  entry-is Price b v = ap (λ x. (b, x)) (number-of Price v)
+  entry-is (Power n) b v = ap (λ x. (b, x)) (number-of (Power n) v)
   entry-is NoUnit b v = refl
 
   entries-pulled : (u : Measure) (f : ℕ → Entry) (xs : List ℕ) → map (λ b. entry_in u (f b)) xs ≡ entries_in u (map f xs)
-  entries-pulled Price f xs = sym (maps (scaled_entry r) f xs)
+  entries-pulled (Power n) f xs = sym (maps (scaled_entry (raised r n)) f xs)
   entries-pulled NoUnit f xs = refl
 
   module _ (w : World) (names : List (List ℕ)) where
@@ -258,7 +258,7 @@ module _ (r : Fraction) (ratio : IsRatio r) where
           ∙ ap (λ p. in_group p a d b) (sym (is (here view x) (here Own g)))
 
     -- the cross-sections of prices are grouped by what they are given for it
-    group-is : {k : CrossKind} {u : Measure} → CrossRule k u → (p q : Part) → group_of k p q ≡ q
+    group-is : {n : ℕ} {k : CrossKind} {u : Measure} → CrossRule n k u → (p q : Part) → group_of k p q ≡ q
     group-is CrossRule.rank p q = refl
     group-is CrossRule.top p q = refl
     group-is CrossRule.bottom p q = refl
@@ -277,10 +277,10 @@ module _ (r : Fraction) (ratio : IsRatio r) where
     group-is CrossRule.greatest p q = refl
     group-is CrossRule.deviation p q = refl
 
-    present-true : (x : ℤ) → Divides r x → is_present x ≡ true → IsExact r x
-    present-true x h e = units.is-exact r ratio x h e
+    present-true : (n : ℕ) (x : ℤ) → Divides (raised r n) x → is_present x ≡ true → IsExact (raised r n) x
+    present-true n x h e = units.is-exact (raised r n) (raised-ratio r ratio n) x h e
 
-    module _ {x m g : Term} (hx : HasMeasure x Price) (hm : HasMeasure m NoUnit) (hg : HasMeasure g NoUnit) (ix : Known hx) (im : Known hm) (ig : Known hg) (y z : Term) (view : View) where
+    module _ {x m g : Term} {n : ℕ} (hx : HasMeasure x (Power n)) (hm : HasMeasure m NoUnit) (hg : HasMeasure g NoUnit) (ix : Known hx) (im : Known hm) (ig : Known hg) (y z : Term) (view : View) where
       abbrev AllAt : ℤ → Type 0
       AllAt d = Each (IsExactAt hx hm hg ix im ig y z view d) (living_sids w d)
 
@@ -291,42 +291,42 @@ module _ (r : Fraction) (ratio : IsRatio r) where
           let grouped = in_group (group_of k (here view x) (here Own g)) a d b in
           (and_parts (passes (here Own m) b d) shown (and_parts (passes (here Own m) b d && shown) grouped e).0).1
 
-      entries-exact : (k : CrossKind) (a : ℕ) (d : ℤ) → AllAt d → Each (λ (e : Entry). IsExact r e.1) (eligible w k (ours view x y z m g) a d)
+      entries-exact : (k : CrossKind) (a : ℕ) (d : ℤ) → AllAt d → Each (λ (e : Entry). IsExact (raised r n) e.1) (eligible w k (ours view x y z m g) a d)
       entries-exact k a d all =
-          each-counted (IsExactAt hx hm hg ix im ig y z view d) (λ (e : Entry). IsExact r e.1) (entry (here view x) d) (counts_for k (ours view x y z m g) a d) (living_sids w d)
-          (λ b e c. present-true _ (own-whole hx view b d e.0) (counts-present k a d b c)) all
+          each-counted (IsExactAt hx hm hg ix im ig y z view d) (λ (e : Entry). IsExact (raised r n) e.1) (entry (here view x) d) (counts_for k (ours view x y z m g) a d) (living_sids w d)
+          (λ b e c. present-true n _ (own-whole hx view b d e.0) (counts-present k a d b c)) all
 
       own-among : (k : CrossKind) (a : ℕ) (d : ℤ) → Exact hx view a d → list_any (λ (e : Entry). e.0 == a) (eligible w k (ours view x y z m g) a d) ≡ true
-          → IsAmong r ratio (eligible w k (ours view x y z m g) a d) (number_of (value_of_part (here view x) a d))
+          → IsAmong (raised r n) (raised-ratio r ratio n) (eligible w k (ours view x y z m g) a d) (number_of (value_of_part (here view x) a d))
       own-among k a d own h =
           let counts : counts_for k (ours view x y z m g) a d a ≡ true
           = has-counted (λ b. number_of (value_of_part (here view x) b d)) (counts_for k (ours view x y z m g) a d) a (living_sids w d) h in
-          (present-true _ (own-whole hx view a d own) (counts-present k a d a counts), some-long (λ (e : Entry). e.0 == a) (eligible w k (ours view x y z m g) a d) h)
+          (present-true n _ (own-whole hx view a d own) (counts-present k a d a counts), some-long (λ (e : Entry). e.0 == a) (eligible w k (ours view x y z m g) a d) h)
 
       -- by whether the asset is given a value
-      by_place : {k : CrossKind} {u : Measure} → CrossRule k u → (a : ℕ) (list : List Entry) (v : ℤ) → Each (λ (e : Entry). IsExact r e.1) list
-          → (list_any (λ (e : Entry). e.0 == a) list ≡ true → IsAmong r ratio list v)
+      by_place : {k : CrossKind} {u : Measure} → CrossRule n k u → (a : ℕ) (list : List Entry) (v : ℤ) → Each (λ (e : Entry). IsExact (raised r n) e.1) list
+          → (list_any (λ (e : Entry). e.0 == a) list ≡ true → IsAmong (raised r n) (raised-ratio r ratio n) list v)
           → (all among : Bool) → is_for_all k ≡ all → list_any (λ (e : Entry). e.0 == a) list ≡ among
-          → IsWhole r u (if all || among then Number (cross k list a v) else empty (Cross k)) → IsCrossExact r k (values list) v
-          → (if all || among then Number (cross k (map (scaled_entry r) list) a (scaled r v)) else empty (Cross k)) ≡ in_unit r u (if all || among then Number (cross k list a v) else empty (Cross k))
+          → IsWhole r u (if all || among then Number (cross k list a v) else empty (Cross k)) → IsCrossExact (raised r n) k (values list) v
+          → (if all || among then Number (cross k (map (scaled_entry (raised r n)) list) a (scaled (raised r n) v)) else empty (Cross k)) ≡ in_unit r u (if all || among then Number (cross k list a v) else empty (Cross k))
       by_place {k} {u} rule a list v each own true among e f whole exact =
-          ap Number (cross-in r ratio list a v each rule (λ no. absurd (true≢false (sym e ∙ no))) (whole-of u _ whole) exact) ∙ in-number u (cross k list a v)
+          ap Number (cross-in r ratio n list a v each rule (λ no. absurd (true≢false (sym e ∙ no))) (whole-of u _ whole) exact) ∙ in-number u (cross k list a v)
       by_place {k} {u} rule a list v each own false true e f whole exact =
-          ap Number (cross-in r ratio list a v each rule (λ no. own f) (whole-of u _ whole) exact) ∙ in-number u (cross k list a v)
+          ap Number (cross-in r ratio n list a v each rule (λ no. own f) (whole-of u _ whole) exact) ∙ in-number u (cross k list a v)
       by_place {k} {u} rule a list v each own false false e f whole exact = empty-in u (Cross k)
 
-      across-in : {k : CrossKind} {u : Measure} (rule : CrossRule k u) (size a : ℕ) (d : ℤ) → AllAt d → IsExactAt hx hm hg ix im ig y z view d a
+      across-in : {k : CrossKind} {u : Measure} (rule : CrossRule n k u) (size a : ℕ) (d : ℤ) → AllAt d → IsExactAt hx hm hg ix im ig y z view d a
           → IsWhole r u (kind_value w names (Cross k) size (ours view x y z m g) a d)
-          → IsCrossExact r k (values (eligible w k (ours view x y z m g) a d)) (number_of (value_of_part (here view x) a d))
+          → IsCrossExact (raised r n) k (values (eligible w k (ours view x y z m g) a d)) (number_of (value_of_part (here view x) a d))
           → kind_value other names (Cross k) size (theirs view x y z m g) a d ≡ in_unit r u (kind_value w names (Cross k) size (ours view x y z m g) a d)
       unfolding kind_value
       across-in {k} {u} rule size a d all own whole exact =
           let list = eligible w k (ours view x y z m g) a d in
           let v = number_of (value_of_part (here view x) a d) in
-          let same : eligible other k (theirs view x y z m g) a d ≡ map (scaled_entry r) list
+          let same : eligible other k (theirs view x y z m g) a d ≡ map (scaled_entry (raised r n)) list
           = eligible-in hx hm hg ix im ig y z view k a d all (group-same hx hm hg ix im ig y z view k a d own (group-is rule)) in
-          let now : number_of (value_of_part (there view x) a d) ≡ scaled r v = number-now hx view a d (ix view a d own.0) in
-          let among : list_any (λ (e : Entry). e.0 == a) (map (scaled_entry r) list) ≡ list_any (λ (e : Entry). e.0 == a) list = any-map (λ (e : Entry). e.0 == a) (scaled_entry r) list in
+          let now : number_of (value_of_part (there view x) a d) ≡ scaled (raised r n) v = number-now hx view a d (ix view a d own.0) in
+          let among : list_any (λ (e : Entry). e.0 == a) (map (scaled_entry (raised r n)) list) ≡ list_any (λ (e : Entry). e.0 == a) list = any-map (λ (e : Entry). e.0 == a) (scaled_entry (raised r n)) list in
           rw (same, now, among)
           (by_place rule a list v (entries-exact k a d all) (own-among k a d own.0) (is_for_all k) (list_any (λ (e : Entry). e.0 == a) list) refl refl whole exact)
 
@@ -362,7 +362,7 @@ module _ (r : Fraction) (ratio : IsRatio r) where
     unfolding kind_value
     step-in (Rule.pure {k = Constant cell}) hx hy hz hm hg ix iy iz im ig size view a d lives e whole exact = refl
     step-in (Rule.pure {k = Label n}) hx hy hz hm hg ix iy iz im ig size view a d lives e whole exact = refl
-    step-in (Rule.pure {k = kinds.Number n}) hx hy hz hm hg ix iy iz im ig size view a d lives e whole exact = refl
+    step-in (Rule.pure {k = kinds.Number fig n}) hx hy hz hm hg ix iy iz im ig size view a d lives e whole exact = refl
     step-in (Rule.pure {k = StaticSids sids}) hx hy hz hm hg ix iy iz im ig size view a d lives e whole exact = refl
     step-in {x = x} {y = y} {z = z} {m = m} {g = g} (Rule.pure {k = Window k}) hx hy hz hm hg ix iy iz im ig size view a d lives e whole exact =
         let q : ℤ = if keeps_window k then d else seen_from view d in

@@ -69,7 +69,7 @@ times-times a b (negsuc (suc n)) =
 
 -- ---- products of differences
 
-first-out : (k u v : ℤ) → (k *ℤ u) *ℤ v ≡ (k *ℤ v) *ℤ u
+pub first-out : (k u v : ℤ) → (k *ℤ u) *ℤ v ≡ (k *ℤ v) *ℤ u
 first-out k u v = times-times k u v ∙ ap (λ (z : ℤ). k *ℤ z) (*ℤ_comm u v) ∙ sym (times-times k v u)
 
 four : (k u v : ℤ) → (k *ℤ u) *ℤ (k *ℤ v) ≡ (k *ℤ k) *ℤ (u *ℤ v)

@@ -38,7 +38,7 @@ ranks_in ps p = (pos (twice_rank p.0 (map (λ q. q.0) ps)), pos (twice_rank p.1 
 -- ---- roots of quotients
 
 -- a and b, and a' and b', are in one proportion
-root-same : (a a' b b' p q : ℕ) → 0 < p → 0 < q → a' * q ≡ a * p → b' * q ≡ b * p → root_quot a' b' ≡ root_quot a b
+pub root-same : (a a' b b' p q : ℕ) → 0 < p → 0 < q → a' * q ≡ a * p → b' * q ≡ b * p → root_quot a' b' ≡ root_quot a b
 root-same a a' zero zero p q sp sq e f = refl
 root-same a a' zero (suc b') p q sp sq e f = absurd (let some : 0 < suc b' * q = mul-pos (omega arith) sq in omega (arith, some, f))
 root-same a a' (suc b) zero p q sp sq e f = absurd (let some : 0 < suc b * p = mul-pos (omega arith) sp in omega (arith, some, f))
@@ -61,22 +61,22 @@ module _ (r : Fraction) (ratio : IsRatio r) where
       ∙ ap (λ t. t *ℤ pos r.num) f
       ∙ times-times c (pos r.num) (pos r.num)
 
-  times-square : (y x : ℤ) → Times r ratio y x → Times (squared r) (ratio-squared r ratio) (y *ℤ y) (x *ℤ x)
+  pub times-square : (y x : ℤ) → Times r ratio y x → Times (squared r) (ratio-squared r ratio) (y *ℤ y) (x *ℤ x)
   times-square y x e = twice (y *ℤ y) (x *ℤ y) (x *ℤ x) (times-by r ratio y x y e) (by-times r ratio y x x e)
 
-  magnitudes : (y x : ℤ) → Times r ratio y x → unsigned_abs y * r.den ≡ unsigned_abs x * r.num
+  pub magnitudes : (y x : ℤ) → Times r ratio y x → unsigned_abs y * r.den ≡ unsigned_abs x * r.num
   magnitudes y x e = sym (unsigned_abs-mul y (pos r.den)) ∙ ap unsigned_abs e ∙ unsigned_abs-mul x (pos r.num)
 
   -- ---- pairs
 
   -- the pairs are those of the second list, with the second of each times the ratio
-  ArePaired : List (ℤ × ℤ) → List (ℤ × ℤ) → Type 0
+  unfoldable pub ArePaired : List (ℤ × ℤ) → List (ℤ × ℤ) → Type 0
   ArePaired [] [] = Unit {0}
   ArePaired [] (p ∷ ps) = ⊥
   ArePaired (q ∷ qs) [] = ⊥
   ArePaired (q ∷ qs) (p ∷ ps) = (q.0 ≡ p.0) × Times r ratio q.1 p.1 × ArePaired qs ps
 
-  paired : (xs ys : List ℤ) → AreExact r ys → ArePaired (present_pairs xs (map (scaled r) ys)) (present_pairs xs ys)
+  pub paired : (xs ys : List ℤ) → AreExact r ys → ArePaired (present_pairs xs (map (scaled r) ys)) (present_pairs xs ys)
   unfolding ArePaired
   paired [] ys h = tt
   paired (x ∷ xs) [] h = tt

@@ -14,7 +14,7 @@ use Rattle.pl_pipeline.specs.Formula.{spread}
 use Rattle.pl_pipeline.specs.Order.{value_at, percentile}
 use Rattle.pl_invariance.specs.Crossed.{AreUnrounded}
 use Rattle.pl_invariance.specs.Exact.{Divides}
-use Rattle.pl_invariance.specs.Pipelines.{Measure, CrossRule, IsCrossExact}
+use Rattle.pl_invariance.specs.Pipelines.{Measure, raised, CrossRule, IsCrossExact}
 use Rattle.pl_invariance.specs.Ranked.{IsExact, scaled_entry}
 use Rattle.pl_invariance.specs.Units.{IsRatio, IsUnrounded, IsSpreadExact}
 use Rattle.pl_invariance.proofs.Compared.{quot_same}
@@ -22,7 +22,7 @@ use Rattle.pl_invariance.proofs.Operated.{magnitude}
 use Rattle.pl_invariance.proofs.Crossed.{crosses-have-no-unit, value-times}
 use Rattle.pl_invariance.proofs.Exact.{missing_stays}
 use Rattle.pl_invariance.proofs.Formulas.{spread-scaled}
-use Rattle.pl_invariance.proofs.Measured.{number_in, IsOf, by-times, percentile-in}
+use Rattle.pl_invariance.proofs.Measured.{raised-ratio, number_in, IsOf, by-times, percentile-in}
 use Rattle.pl_invariance.proofs.Ranked.{ranks-have-no-unit, values_exact, values_same}
 use Rattle.pl_invariance.proofs.Units as units
 
@@ -118,41 +118,48 @@ module _ (r : Fraction) (ratio : IsRatio r) where
       bounded : ℕ → List ℤ → ℤ → ℤ
       bounded n us y = int_max (value_at us (low * n / MILLION)) (int_min (value_at us ((high * n + MILLION - 1) / MILLION - 1)) y)
 
-  -- ---- by the rules
-
   -- the asset has a value of its own among them
   abbrev pub IsAmong : List Entry → ℤ → Type 0
   IsAmong list x = IsExact r x × (0 < length list)
 
-  module _ (list : List Entry) (a : ℕ) (x : ℤ) (all : Each (λ (e : Entry). IsExact r e.1) list) where
-    exact : Each (IsExact r) (values list)
-    exact = values_exact r ratio.0 list all
+-- ---- by the rules
 
-    unrounded : IsAmong list x → AreUnrounded r list x
-    unrounded own = record { ratio = ratio; some = own.1; all = all; own = own.0 }
+module _ (r : Fraction) (ratio : IsRatio r) (n : ℕ) where
+  abbrev s : Fraction
+  s = raised r n
 
-    pub cross-in : {k : CrossKind} {u : Measure} → CrossRule k u → (is_for_all k ≡ false → IsAmong list x) → IsOf r u (cross k list a x) → IsCrossExact r k (values list) x
-        → cross k (map (scaled_entry r) list) a (scaled r x) ≡ number_in r u (cross k list a x)
+  abbrev q : IsRatio (raised r n)
+  q = raised-ratio r ratio n
+
+  module _ (list : List Entry) (a : ℕ) (x : ℤ) (all : Each (λ (e : Entry). IsExact s e.1) list) where
+    exact : Each (IsExact s) (values list)
+    exact = values_exact s q.0 list all
+
+    unrounded : IsAmong s q list x → AreUnrounded s list x
+    unrounded own = record { ratio = q; some = own.1; all = all; own = own.0 }
+
+    pub cross-in : {k : CrossKind} {u : Measure} → CrossRule n k u → (is_for_all k ≡ false → IsAmong s q list x) → IsOf r u (cross k list a x) → IsCrossExact s k (values list) x
+        → cross k (map (scaled_entry s) list) a (scaled s x) ≡ number_in r u (cross k list a x)
     unfolding cross summary
-    cross-in (CrossRule.rank {method} {order}) own w e = ranks-have-no-unit.ranks method order r ratio.0 list a x all (own refl).0
-    cross-in (CrossRule.top {n}) own w e = ranks-have-no-unit.top n r ratio.0 list a x all (own refl).0
-    cross-in (CrossRule.bottom {n}) own w e = ranks-have-no-unit.bottom n r ratio.0 list a x all (own refl).0
-    cross-in (CrossRule.quantiles {bins}) own w e = crosses-have-no-unit.quantiles bins r list a x (unrounded (own refl))
-    cross-in (CrossRule.percentiles {low} {high}) own w e = crosses-have-no-unit.percentiles low high r list a x (unrounded (own refl))
-    cross-in CrossRule.score own w e = crosses-have-no-unit.scores r list a x (unrounded (own refl)) e
-    cross-in CrossRule.distance own w e = crosses-have-no-unit.distances r list a x (unrounded (own refl)) e.0 (e.1 (own refl).0.0 (own refl).0.0)
-    cross-in CrossRule.share own w e = ap (λ vs. scaled_to_one vs (scaled r x)) (values_same r ratio.0 list) ∙ shares (values list) exact x (own refl).0
+    cross-in (CrossRule.rank {method} {order}) own w e = ranks-have-no-unit.ranks method order s q.0 list a x all (own refl).0
+    cross-in (CrossRule.top {count}) own w e = ranks-have-no-unit.top count s q.0 list a x all (own refl).0
+    cross-in (CrossRule.bottom {count}) own w e = ranks-have-no-unit.bottom count s q.0 list a x all (own refl).0
+    cross-in (CrossRule.quantiles {bins}) own w e = crosses-have-no-unit.quantiles bins s list a x (unrounded (own refl))
+    cross-in (CrossRule.percentiles {low} {high}) own w e = crosses-have-no-unit.percentiles low high s list a x (unrounded (own refl))
+    cross-in CrossRule.score own w e = crosses-have-no-unit.scores s list a x (unrounded (own refl)) e
+    cross-in CrossRule.distance own w e = crosses-have-no-unit.distances s list a x (unrounded (own refl)) e.0 (e.1 (own refl).0.0 (own refl).0.0)
+    cross-in CrossRule.share own w e = ap (λ vs. scaled_to_one vs (scaled s x)) (values_same s q.0 list) ∙ shares s q (values list) exact x (own refl).0
     cross-in (CrossRule.drawn_in {low} {high}) own w e =
-        ap (λ vs. winsorized low high vs (scaled r x)) (values_same r ratio.0 list) ∙ drawn (values list) exact low high x (own refl).0 w (e (own refl).0.0 (own refl).0.0)
-    cross-in CrossRule.median own w e = ap (λ vs. if_some vs (percentile 5000 vs)) (values_same r ratio.0 list) ∙ of_some (values list) _ _ (λ some. percentile-in r ratio 5000 (values list) exact e)
-    cross-in (CrossRule.percentile {percent}) own w e = ap (λ vs. if_some vs (percentile percent vs)) (values_same r ratio.0 list) ∙ of_some (values list) _ _ (λ some. percentile-in r ratio percent (values list) exact e)
-    cross-in CrossRule.counted own w e = ap (λ vs. pos (length vs * MILLION)) (values_same r ratio.0 list) ∙ ap (λ n. pos (n * MILLION)) (length-map (values list) (scaled r))
-    cross-in CrossRule.mean own w e = ap (λ vs. quot (total vs) (pos (length vs))) (values_same r ratio.0 list) ∙ means (values list) exact e
-    cross-in CrossRule.sum own w e = ap (λ vs. if_some vs (to_cell (total vs))) (values_same r ratio.0 list) ∙ of_some (values list) _ _ (λ some. sums (values list) exact e)
-    cross-in CrossRule.least own w e = ap (λ vs. if_some vs (value_at vs 0)) (values_same r ratio.0 list) ∙ extreme (values list) exact 0 w
+        ap (λ vs. winsorized low high vs (scaled s x)) (values_same s q.0 list) ∙ drawn s q (values list) exact low high x (own refl).0 w (e (own refl).0.0 (own refl).0.0)
+    cross-in CrossRule.median own w e = ap (λ vs. if_some vs (percentile 5000 vs)) (values_same s q.0 list) ∙ of_some s q (values list) _ _ (λ some. percentile-in s q 5000 (values list) exact e)
+    cross-in (CrossRule.percentile {percent}) own w e = ap (λ vs. if_some vs (percentile percent vs)) (values_same s q.0 list) ∙ of_some s q (values list) _ _ (λ some. percentile-in s q percent (values list) exact e)
+    cross-in CrossRule.counted own w e = ap (λ vs. pos (length vs * MILLION)) (values_same s q.0 list) ∙ ap (λ n. pos (n * MILLION)) (length-map (values list) (scaled s))
+    cross-in CrossRule.mean own w e = ap (λ vs. quot (total vs) (pos (length vs))) (values_same s q.0 list) ∙ means s q (values list) exact e
+    cross-in CrossRule.sum own w e = ap (λ vs. if_some vs (to_cell (total vs))) (values_same s q.0 list) ∙ of_some s q (values list) _ _ (λ some. sums s q (values list) exact e)
+    cross-in CrossRule.least own w e = ap (λ vs. if_some vs (value_at vs 0)) (values_same s q.0 list) ∙ extreme s q (values list) exact 0 w
     cross-in CrossRule.greatest own w e =
-        ap (λ vs. if_some vs (value_at vs (length vs - 1))) (values_same r ratio.0 list)
-        ∙ ap (λ n. if_some (map (scaled r) (values list)) (value_at (map (scaled r) (values list)) (n - 1))) (length-map (values list) (scaled r))
-        ∙ extreme (values list) exact (length (values list) - 1) w
+        ap (λ vs. if_some vs (value_at vs (length vs - 1))) (values_same s q.0 list)
+        ∙ ap (λ n. if_some (map (scaled s) (values list)) (value_at (map (scaled s) (values list)) (n - 1))) (length-map (values list) (scaled s))
+        ∙ extreme s q (values list) exact (length (values list) - 1) w
     cross-in CrossRule.deviation own w e =
-        ap (λ vs. if_some vs (to_cell (pos (spread vs)))) (values_same r ratio.0 list) ∙ of_some (values list) _ _ (spreads (values list) exact e)
+        ap (λ vs. if_some vs (to_cell (pos (spread vs)))) (values_same s q.0 list) ∙ of_some s q (values list) _ _ (spreads s q (values list) exact e)

@@ -11,14 +11,14 @@ use Rattle.pl_invariance.proofs.Units.{Times, times-by}
 spread-turned : (s t : PairSums) → AreTurned s t → spread_x t ≡ spread_y s
 spread-turned s t h = rw (h.number, h.x, h.xx) refl
 
-swapped-sums : (xs ys : List ℤ) → AreTurned (pair_sums xs ys) (sums_of_pairs (map swap (present_pairs xs ys)))
+pub swapped-sums : (xs ys : List ℤ) → AreTurned (pair_sums xs ys) (sums_of_pairs (map swap (present_pairs xs ys)))
 swapped-sums xs ys = sums-turned (present_pairs xs ys)
 
 -- the sums of pairs that are swapped
-joint-swapped : (xs ys : List ℤ) → joint_spread (pair_sums ys xs) ≡ joint_spread (pair_sums xs ys)
+pub joint-swapped : (xs ys : List ℤ) → joint_spread (pair_sums ys xs) ≡ joint_spread (pair_sums xs ys)
 joint-swapped xs ys = ap (λ (ps : List (ℤ × ℤ)). joint_spread (sums_of_pairs ps)) (pairs-swapped xs ys) ∙ joint-turned _ _ (swapped-sums xs ys)
 
-spread-swapped : (xs ys : List ℤ) → spread_x (pair_sums ys xs) ≡ spread_y (pair_sums xs ys)
+pub spread-swapped : (xs ys : List ℤ) → spread_x (pair_sums ys xs) ≡ spread_y (pair_sums xs ys)
 spread-swapped xs ys = ap (λ (ps : List (ℤ × ℤ)). spread_x (sums_of_pairs ps)) (pairs-swapped xs ys) ∙ spread-turned _ _ (swapped-sums xs ys)
 
 module _ (r : Fraction) (ratio : IsRatio r) (xs ys : List ℤ) (hx : AreExact r xs) (hy : AreExact r ys) where
@@ -29,18 +29,18 @@ module _ (r : Fraction) (ratio : IsRatio r) (xs ys : List ℤ) (hx : AreExact r 
   vs = map (scaled r) ys
 
   -- first y is in the other unit, and then x
-  of_y : AreScaled r ratio (pair_sums us vs) (pair_sums us ys)
+  pub of_y : AreScaled r ratio (pair_sums us vs) (pair_sums us ys)
   of_y = window-scaled r ratio us ys hy
 
-  of_x : AreScaled r ratio (pair_sums ys us) (pair_sums ys xs)
+  pub of_x : AreScaled r ratio (pair_sums ys us) (pair_sums ys xs)
   of_x = window-scaled r ratio ys xs hx
 
-  joint-times : Times (squared r) (ratio-squared r ratio) (joint_spread (pair_sums us vs)) (joint_spread (pair_sums xs ys))
+  pub joint-times : Times (squared r) (ratio-squared r ratio) (joint_spread (pair_sums us vs)) (joint_spread (pair_sums xs ys))
   joint-times =
       twice r ratio (joint_spread (pair_sums us vs)) (joint_spread (pair_sums us ys)) (joint_spread (pair_sums xs ys)) of_y.joint
       (ap (λ z. z *ℤ pos r.den) (joint-swapped ys us) ∙ of_x.joint ∙ ap (λ z. z *ℤ pos r.num) (joint-swapped xs ys))
 
-  spread-times : Times (squared r) (ratio-squared r ratio) (spread_x (pair_sums us vs)) (spread_x (pair_sums xs ys))
+  pub spread-times : Times (squared r) (ratio-squared r ratio) (spread_x (pair_sums us vs)) (spread_x (pair_sums xs ys))
   spread-times =
       ap (λ z. z *ℤ pos (r.den * r.den)) (of_y.spread ∙ spread-swapped ys us)
       ∙ of_x.other

@@ -11,7 +11,7 @@ use Rattle.std.proofs.lemmas.Bool.Decides.{nat_tests}
 use Rattle.std.proofs.lemmas.Int.{ints, by_lt_z, int_max_is, int_min_is}
 use Rattle.std.proofs.lemmas.List.{length-map}
 use Rattle.pl_spec.specs.Cells.{total, count, present_values, greatest, least}
-use Rattle.pl_spec.specs.Rounding.{LIMIT, MISSING, Fraction, is_missing, is_present, scaled, div_round, to_cell, quot}
+use Rattle.pl_spec.specs.Rounding.{LIMIT, MISSING, Fraction, is_missing, is_present, scaled, div_round, to_cell, quot, of_both}
 use Rattle.pl_spec.proofs.Each.{Each}
 use Rattle.pl_spec.proofs.Nearest.{nearest_is-div_round}
 use Rattle.pl_spec.proofs.Signed.{int_eq-true, eq-int_eq, lt-int_lt, lt-int_le, le-int_le, int_le-true, le-both, lt-is-le}
@@ -38,7 +38,7 @@ swapped x (pos m) n = turned x m n
 swapped x (negsuc m) n =
     ap (λ t. t *ℤ pos n) (neg-factor x m) ∙ neg-product (x *ℤ pos (suc m)) n ∙ ap neg_ℤ (turned x (suc m) n) ∙ sym (neg-factor (x *ℤ pos n) m)
 
-less-times : (x x' y y' : ℤ) (a b : ℕ) → 0 < a → 0 < b → (y *ℤ pos a) ≡ (x *ℤ pos b) → (y' *ℤ pos a) ≡ (x' *ℤ pos b) → x <ℤ x' → y <ℤ y'
+pub less-times : (x x' y y' : ℤ) (a b : ℕ) → 0 < a → 0 < b → (y *ℤ pos a) ≡ (x *ℤ pos b) → (y' *ℤ pos a) ≡ (x' *ℤ pos b) → x <ℤ x' → y <ℤ y'
 less-times x x' y y' a b some_a some_b e f l =
     by_lt_z y y' (λ less. less)
     (λ ge.
@@ -174,6 +174,18 @@ module _ (r : Fraction) (ratio : IsRatio r) where
       ap (λ t. to_cell (div_round t (suc m))) (whole n n' x (suc m) e h.0 h.1)
       ∙ ap to_cell (whole-quotient (scaled r x) (suc m) (omega arith))
       ∙ cell-scaled x (exact-present x h.0)
+
+  -- ---- of two cells
+
+  -- two cells that are missing alike in both units
+  pub on_both : (x y x' y' v v' : ℤ) → is_missing x' ≡ is_missing x → is_missing y' ≡ is_missing y
+      → (is_missing x ≡ false → is_missing y ≡ false → v' ≡ scaled r v) → of_both x' y' v' ≡ scaled r (of_both x y v)
+  on_both x y x' y' v v' e f h = step (is_missing x) (is_missing y) refl refl
+    where
+      step : (b c : Bool) → is_missing x ≡ b → is_missing y ≡ c → of_both x' y' v' ≡ scaled r (of_both x y v)
+      step true c i j = rw (e, i) (sym (missing_stays r))
+      step false true i j = rw (e, f, i, j) (sym (missing_stays r))
+      step false false i j = rw (e, f, i, j) (h i j)
 
   -- ---- lists
 

@@ -1,16 +1,18 @@
 -- Worked rows of the laws, each computed from the definitions.
-use Rattle.std.specs.Prelude.{◌≡◌, ℕ, ◌+◌, ◌-◌, ◌*◌, ℤ, pos, refl, codes, List, [], ◌∷◌, map}
+use Rattle.std.specs.Prelude.{◌≡◌, ℕ, ◌+◌, ◌-◌, ◌*◌, ℤ, pos, negsuc, refl, codes, List, [], ◌∷◌, ◌++◌, map}
 use Rattle.pl_spec.specs.declared.Column.TheVariants.{Close, Volume}
 use Rattle.pl_spec.specs.Rounding.{Fraction, scaled}
 use Rattle.pl_pipeline.specs.declared.WindowKind.{WindowKind}
-use Rattle.pl_pipeline.specs.declared.WindowKind.TheVariants.{Returns, SimpleMovingAverage, WindowSum, WindowMax, WindowStd, BollingerUpper, RSI}
+use Rattle.pl_pipeline.specs.declared.WindowKind.TheVariants.{Returns, SimpleMovingAverage, WindowSum, WindowMax, WindowStd, BollingerUpper, RSI, MaxDrawdown, WindowSkewness, WindowKurtosis, ExponentialWeightedMovingStdDev, Covariance, RegressionError}
 use Rattle.pl_pipeline.specs.Cross.{Entry, cross}
-use Rattle.pl_pipeline.specs.Formula.{formula}
+use Rattle.pl_pipeline.specs.Formula.{formula, drawdown, skewness, kurtosis, covariance, weighted_deviation, slope_error}
+use Rattle.pl_pipeline.specs.Pointwise.{pointwise}
 use Rattle.pl_spec.specs.World.{World}
 use Rattle.pl_spec.specs.Window.{bar_window}
+use Rattle.pl_spec.specs.declared.Figure.TheVariants as figure
 use Rattle.pl_pipeline.specs.declared.RankMethod.TheVariants as method
 use Rattle.pl_pipeline.specs.declared.RankOrder.TheVariants.{Ascending}
-use Rattle.pl_pipeline.specs.Kind.{CrossKind}
+use Rattle.pl_pipeline.specs.Kind.{PointKind, CrossKind}
 use Rattle.pl_pipeline.specs.Term.Term.{absent}
 use Rattle.pl_pipeline.specs.Value.{Value, value}
 use Rattle.pl_pipeline.specs.Value.Value.{Number}
@@ -26,7 +28,7 @@ abbrev earned : World → World
 earned w = record w { numbers = record { name = codes "earnings"; sid = 1; known = pos 19725; value = units 3 } ∷ [] }
 
 abbrev earnings_of : World → List Value
-earnings_of w = map (λ d. value (earned w) (codes "earnings" ∷ []) (number_term 0) 1 (pos d)) (1 ∷ 2 ∷ [])
+earnings_of w = map (λ d. value (earned w) (codes "earnings" ∷ []) (number_term figure.Value 0) 1 (pos d)) (1 ∷ 2 ∷ [])
 
 -- on the session on which it was known, and on that of the split, which does not halve it
 number_beside_a_split : earnings_of split ≡ Number (units 3) ∷ Number (units 3) ∷ []
@@ -150,6 +152,69 @@ rounded_means = refl
 strength_in_both : formula RSI (units 1 ∷ units 3 ∷ units 2 ∷ []) [] [] ∷ formula RSI (map (scaled cents) (units 1 ∷ units 3 ∷ units 2 ∷ [])) [] [] ∷ [] ≡ pos 66666667 ∷ pos 66666667 ∷ []
 unfolding opened
 strength_in_both = refl
+
+-- prices of 2, 3 and 1: from 3 to 1 they fall by twice the value at the end
+abbrev three : List ℤ
+three = units 2 ∷ units 3 ∷ units 1 ∷ []
+
+-- of prices in both units, beside what has none
+abbrev in_unit_and_cents : WindowKind → List ℤ → List ℤ → List ℤ
+in_unit_and_cents kind xs ys = formula kind xs ys [] ∷ formula kind (map (scaled cents) xs) ys [] ∷ []
+
+falls_in_both : in_unit_and_cents MaxDrawdown three [] ≡ units 2 ∷ units 2 ∷ []
+unfolding opened drawdown
+falls_in_both = refl
+
+-- of 1, 1 and 4 the mean is 2, the mean square 2, the mean cube 2 and the mean fourth power 6
+abbrev leaning : List ℤ
+leaning = units 1 ∷ units 1 ∷ units 4 ∷ []
+
+-- so the skewness is 2 over the root of 8, and the kurtosis 6 over 4, less 3
+shapes_in_both :
+    map (λ kind. formula kind leaning [] []) (WindowSkewness ∷ WindowKurtosis ∷ []) ++ map (λ kind. formula kind (map (scaled cents) leaning) [] []) (WindowSkewness ∷ WindowKurtosis ∷ [])
+    ≡ pos 707107 ∷ negsuc 1499999 ∷ pos 707107 ∷ negsuc 1499999 ∷ []
+unfolding opened skewness kurtosis
+shapes_in_both = refl
+
+-- with equal weights and the correction for bias, the deviation of 1, 2 and 3 is 1
+faded_in_both : in_unit_and_cents (ExponentialWeightedMovingStdDev (units 1)) (units 1 ∷ units 2 ∷ units 3 ∷ []) [] ≡ units 1 ∷ units 100 ∷ []
+unfolding opened weighted_deviation
+faded_in_both = refl
+
+-- Two prices are 3 away from their line and two are 4: the sum of the squares is 50. Over 4 less 2 pairs and
+-- the squares of x, which sum up to 1, that is 25.
+abbrev scattered : List ℤ
+scattered = units 0 ∷ units 6 ∷ units 10 ∷ units 18 ∷ []
+
+abbrev halves : List ℤ
+halves = units 0 ∷ units 0 ∷ units 1 ∷ units 1 ∷ []
+
+errors_in_both : in_unit_and_cents RegressionError scattered halves ≡ units 5 ∷ units 500 ∷ []
+unfolding opened slope_error
+errors_in_both = refl
+
+errors_of_prices_on_prices : formula RegressionError (map (scaled cents) scattered) (map (scaled cents) halves) [] ≡ units 5
+unfolding opened slope_error
+errors_of_prices_on_prices = refl
+
+-- The covariance of prices of 1 and 3 and prices of 2 and 6 is 2, in squared units. In cents it is 10,000 times
+-- as much.
+covariances_in_both :
+    formula Covariance (units 1 ∷ units 3 ∷ []) (units 2 ∷ units 6 ∷ []) []
+    ∷ formula Covariance (map (scaled cents) (units 1 ∷ units 3 ∷ [])) (map (scaled cents) (units 2 ∷ units 6 ∷ [])) [] ∷ []
+    ≡ units 2 ∷ units 20000 ∷ []
+unfolding opened covariance
+covariances_in_both = refl
+
+-- a price of 5 between 1 and 3
+abbrev clipped : ℤ → ℤ → ℤ → ℤ
+clipped low high x = pointwise (PointKind.Clip low high) x (pos 0) (pos 0)
+
+bounds_in_both :
+    clipped (units 1) (units 3) (units 5) ∷ clipped (scaled cents (units 1)) (scaled cents (units 3)) (scaled cents (units 5)) ∷ []
+    ≡ units 3 ∷ units 300 ∷ []
+unfolding opened
+bounds_in_both = refl
 
 -- the asset of the higher price, one deviation above the mean and in the second half
 abbrev both_entries : List Entry

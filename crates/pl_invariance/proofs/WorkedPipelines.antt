@@ -9,17 +9,19 @@ use Rattle.pl_spec.specs.World.{World}
 use Rattle.pl_pipeline.specs.declared.RankMethod.TheVariants as method
 use Rattle.pl_pipeline.specs.declared.RankOrder.TheVariants.{Ascending}
 use Rattle.pl_pipeline.specs.declared.WindowKind.{WindowKind}
-use Rattle.pl_pipeline.specs.declared.WindowKind.TheVariants.{Latest, SimpleMovingAverage, Returns}
+use Rattle.pl_pipeline.specs.declared.WindowKind.TheVariants.{Latest, SimpleMovingAverage, Returns, Covariance}
 use Rattle.pl_pipeline.specs.Kind.{Kind, PointKind, CrossKind}
-use Rattle.pl_pipeline.specs.Term.{Graph}
+use Rattle.pl_pipeline.specs.Elementary.{sqrt}
+use Rattle.pl_pipeline.specs.Formula.{covariance}
+use Rattle.pl_pipeline.specs.Term.{Graph, Term}
 use Rattle.pl_pipeline.specs.Term.Term.{absent, column, node}
-use Rattle.pl_pipeline.specs.Value.{Value, Own}
+use Rattle.pl_pipeline.specs.Value.{Value, Own, value}
 use Rattle.pl_pipeline.specs.Value.Value.{Number}
 use Rattle.pl_pipeline.specs.Table.{Pipeline, Row, table}
 use Rattle.pl_laws.proofs.Worked.Worlds.{opened, units, closed, asset, world, no_tables, window, point, number, latest, of_bars, of_terms, named, pipeline}
 use Rattle.pl_invariance.specs.Exact.{Divides}
-use Rattle.pl_invariance.specs.Pipelines.{Measure, FormulaRule, OperationRule, CrossRule, Rule, HasMeasure, NothingIsRounded, HasMeasures, IsSessionUnrounded, priced_row}
-use Rattle.pl_invariance.specs.Pipelines.Measure.{Price, NoUnit}
+use Rattle.pl_invariance.specs.Pipelines.{Measure, Price, FormulaRule, OperationRule, CrossRule, Rule, HasMeasure, NothingIsRounded, HasMeasures, IsSessionUnrounded, priced_row}
+use Rattle.pl_invariance.specs.Pipelines.Measure.{Power, NoUnit}
 use Rattle.pl_invariance.specs.Priced.{priced_world}
 use Rattle.pl_invariance.proofs.Tables.{tables-have-units}
 
@@ -120,6 +122,29 @@ in_cents : table (priced_world cents two_assets) rising 2 2 ≡ row (Number (uni
 unfolding opened
 in_cents = refl
 
+-- ---- a variance is in squared units, and its root is a price
+
+abbrev variance : Term
+variance = window Covariance 2 (column Close ∷ column Close ∷ [])
+
+abbrev variance_is : HasMeasure (window Covariance 2 (column Close ∷ column Close ∷ [])) (Power 1)
+variance_is = HasMeasure.term (Rule.formula (FormulaRule.joint_variance {m = 0} {n = 0})) (HasMeasure.price refl) (HasMeasure.price refl) HasMeasure.nothing HasMeasure.nothing HasMeasure.nothing
+
+abbrev risk_is : HasMeasure (point PointKind.Sqrt (window Covariance 2 (column Close ∷ column Close ∷ []) ∷ [])) Price
+risk_is = HasMeasure.term (Rule.operation (OperationRule.root {n = 0})) variance_is HasMeasure.nothing HasMeasure.nothing HasMeasure.nothing HasMeasure.nothing
+
+-- of the closes 2 and 4, in dollars and in cents
+abbrev at_both : Term → List Value
+at_both t = map (λ w. value w [] t 1 (pos 2)) (two_assets ∷ priced_world cents two_assets ∷ [])
+
+variances_in_both : at_both variance ≡ Number (units 1) ∷ Number (units 10000) ∷ []
+unfolding opened covariance
+variances_in_both = refl
+
+risks_in_both : at_both (point PointKind.Sqrt (variance ∷ [])) ≡ Number (units 1) ∷ Number (units 100) ∷ []
+unfolding opened covariance sqrt
+risks_in_both = refl
+
 -- ---- a price compared with a number has no measure
 
 bars_have_one : HasMeasure (column Close) NoUnit → ⊥
@@ -132,10 +157,10 @@ latest_by (Rule.formula rule) h = elim rule [ ]
 latest_has_one : HasMeasure (latest Close) NoUnit → ⊥
 latest_has_one (HasMeasure.term rule hx hy hz hm hg) = latest_by rule hx
 
-number_by : {cell : ℤ} {mx my mz : Measure} → Rule (Kind.Constant cell) mx my mz Price → ⊥
+number_by : {cell : ℤ} {n : ℕ} {mx my mz : Measure} → Rule (Kind.Constant cell) mx my mz (Power n) → ⊥
 number_by rule = elim rule [ ]
 
-number_has_none : {cell : ℤ} → HasMeasure (number cell) Price → ⊥
+number_has_none : {cell : ℤ} {n : ℕ} → HasMeasure (number cell) (Power n) → ⊥
 number_has_none (HasMeasure.term rule hx hy hz hm hg) = number_by rule
 
 compared_by : {u mx my mz : Measure} {cell : ℤ} → Rule (Kind.Point (PointKind.Comparison Greater)) mx my mz u → HasMeasure (latest Close) mx → HasMeasure (number cell) my → ⊥

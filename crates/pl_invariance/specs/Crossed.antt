@@ -1,10 +1,12 @@
--- Cross-sections and screens over prices in another unit.
+-- Cross-sections, screens and bounds of prices in another unit.
 use Rattle.std.specs.Prelude.{◌≡◌, ◌<◌, false, ℕ, ℤ, List, length, map}
 use Rattle.pl_spec.specs.Cells.{comparison}
 use Rattle.pl_spec.specs.Each.{Each}
 use Rattle.pl_spec.specs.Rounding.{Fraction, is_missing, scaled}
 use Rattle.pl_spec.specs.declared.Compare.{Compare}
 use Rattle.pl_pipeline.specs.Kind.{CrossKind}
+use Rattle.pl_pipeline.specs.Kind.PointKind.{Clip}
+use Rattle.pl_pipeline.specs.Pointwise.{pointwise}
 use Rattle.pl_pipeline.specs.Kind.CrossKind.{Demean, ZScore, Quantiles, PercentileBetween, PeerCount}
 use Rattle.pl_pipeline.specs.Cross.{Entry, values, cross}
 use Rattle.pl_invariance.specs.Exact.{Divides}
@@ -40,3 +42,10 @@ pub record CrossesHaveNoUnit : Type 0 where
 abbrev pub ScreensHaveNoUnit : Type 0
 ScreensHaveNoUnit = (r : Fraction) → IsRatio r → (c : Compare) (x y : ℤ) → Divides r x → Divides r y
     → comparison c (scaled r x) (scaled r y) ≡ comparison c x y
+
+-- a price is held between two others alike in both units
+abbrev pub ClipsHaveUnits : Type 0
+ClipsHaveUnits = (r : Fraction) → IsRatio r → (low high x y z : ℤ)
+    → IsExact r low → IsExact r high → Divides r x
+    → pointwise (Clip (scaled r low) (scaled r high)) (scaled r x) y z
+    ≡ scaled r (pointwise (Clip low high) x y z)

@@ -17,3 +17,4 @@ pub mod Lines
 pub mod Fitted
 pub mod Varied
 pub mod OneAsset
+pub mod Shapes

@@ -1,5 +1,5 @@
 -- Whole pipelines over prices in another unit.
-use Rattle.std.specs.Prelude.{◌≡◌, ◌⊎◌, ◌≤◌, ◌+◌, ◌-◌, ◌*◌, ◌/◌, ◌&&◌, suc, true, false, ℕ, ℤ, pos, negsuc, ◌-ℤ◌, ◌*ℤ◌, neg_ℤ, List, [], ◌∷◌, length, map, Option, Some, None}
+use Rattle.std.specs.Prelude.{◌≡◌, ◌⊎◌, ◌≤◌, ◌+◌, ◌-◌, ◌*◌, ◌/◌, ◌&&◌, zero, suc, true, false, ℕ, ℤ, pos, negsuc, ◌-ℤ◌, ◌*ℤ◌, neg_ℤ, List, [], ◌∷◌, length, map, Option, Some, None}
 use Rattle.std.specs.Int.RustNames.{unsigned_abs}
 use Rattle.std.specs.List.{list_any, range_with_len}
 use Rattle.pl_spec.specs.declared.Column.{Column}
@@ -17,12 +17,13 @@ use Rattle.pl_pipeline.specs.declared.RankMethod.{RankMethod}
 use Rattle.pl_pipeline.specs.declared.RankOrder.{RankOrder}
 use Rattle.pl_pipeline.specs.declared.Summary.TheVariants as summary
 use Rattle.pl_pipeline.specs.declared.WindowKind.{WindowKind}
-use Rattle.pl_pipeline.specs.declared.WindowKind.TheVariants.{Latest, SimpleMovingAverage, LinearWeightedMovingAverage, WindowSum, WindowMax, WindowMin, WindowStd, BollingerMiddle, BollingerLower, BollingerUpper, Returns, PercentChange, RateOfChangePercentage, RSI, VWAP, AverageDollarVolume, WeightedAverageValue, FastStochasticOscillator, TrueRange, ExponentialWeightedMovingAverage, ExponentialWeightedMovingMean, AroonUp, AroonDown, Correlation, RankCorrelation, Covariance, RegressionSlope, RegressionIntercept, WindowSlope, WindowResidual, WindowRSquared, WindowPercentile, WindowRank, WindowArgMax, WindowArgMin, WindowFirst, AllPresent}
+use Rattle.pl_pipeline.specs.declared.WindowKind.TheVariants.{Latest, SimpleMovingAverage, LinearWeightedMovingAverage, WindowSum, WindowMax, WindowMin, WindowStd, BollingerMiddle, BollingerLower, BollingerUpper, Returns, PercentChange, RateOfChangePercentage, RSI, VWAP, AverageDollarVolume, WeightedAverageValue, FastStochasticOscillator, TrueRange, ExponentialWeightedMovingAverage, ExponentialWeightedMovingMean, AroonUp, AroonDown, Correlation, RankCorrelation, Covariance, RegressionSlope, RegressionIntercept, RegressionError, WindowSlope, WindowResidual, WindowRSquared, WindowPercentile, WindowRank, WindowArgMax, WindowArgMin, WindowFirst, AllPresent, MaxDrawdown, WindowSkewness, WindowKurtosis, ExponentialWeightedMovingStdDev}
 use Rattle.pl_pipeline.specs.Kind.{Kind, PointKind, CrossKind}
 use Rattle.pl_pipeline.specs.Kind.Kind.{Window, Point, LabelTest, Cross, Downsample}
-use Rattle.pl_pipeline.specs.Kind.PointKind.{Add, Sub, Mul, Div, Neg, Comparison, Abs, FillNa, IsNull, NotNull, IfElse, Sign, Maximum, Minimum, Where}
+use Rattle.pl_pipeline.specs.Kind.PointKind.{Add, Sub, Mul, Div, Neg, Comparison, Abs, FillNa, IsNull, NotNull, IfElse, Sqrt, Sign, Maximum, Minimum, Where}
 use Rattle.pl_pipeline.specs.Kind.CrossKind.{Rank, Demean, ZScore, Quantiles, Top, Bottom, PercentileBetween, Winsorize, Scale, Summarize}
 use Rattle.pl_pipeline.specs.Cross.{values, center, winsorized}
+use Rattle.pl_pipeline.specs.Elementary.{sqrt}
 use Rattle.pl_pipeline.specs.Formula.{FINE, oldest, newest, places, products, weights, gap, PairSums, pair_sums, joint_spread, spread_x, trend_sums}
 use Rattle.pl_pipeline.specs.Formula as formulas
 use Rattle.pl_pipeline.specs.Order.{edge}
@@ -34,110 +35,139 @@ use Rattle.pl_pipeline.specs.Table.{NamedColumn, Pipeline, Row, is_kept, kept_si
 use Rattle.pl_invariance.specs.Exact.{Divides, AllDivide}
 use Rattle.pl_invariance.specs.Priced.{is_price, priced_world}
 use Rattle.pl_invariance.specs.Ranked.{IsExact}
+use Rattle.pl_invariance.specs.Shapes.{IsFadedExact, IsErrorExact}
 use Rattle.pl_invariance.specs.Units.{IsRatio, IsUnrounded, IsSpreadExact, IsBandExact}
 
--- what the values of a term are measured in: the unit of prices, or none
+-- what the values of a term are measured in: the unit of prices to the power n + 1, or none
 pub data Measure : Type 0 where
-  Price NoUnit : Measure
+  Power : (n : ℕ) → Measure
+  NoUnit : Measure
+
+abbrev pub Price : Measure
+Price = Power 0
+
+-- the ratio to the power n + 1, by which such values are multiplied
+abbrev pub raised : Fraction → ℕ → Fraction
+raised r zero = r
+raised r (suc n) = record { num = r.num * (raised r n).num; den = r.den * (raised r n).den }
+
+-- that of a measure
+abbrev pub ratio_of : Fraction → Measure → Fraction
+ratio_of r (Power n) = raised r n
+ratio_of r NoUnit = record { num = 1; den = 1 }
 
 -- ---- the rules
 
--- What a formula gives of windows of prices; an input that is absent has no unit, nor have weights. There is
--- no rule for drawdowns, faded deviations, skewness and kurtosis of prices, and for the error of a slope: the
--- laws say nothing of them.
+-- What a formula gives of windows of values in a power of the price's unit; an input that is absent has no
+-- unit, nor have weights.
 pub data FormulaRule : WindowKind → Measure → Measure → Measure → Measure → Type 0 where
-  latest : FormulaRule Latest Price NoUnit NoUnit Price
-  first : FormulaRule WindowFirst Price NoUnit NoUnit Price
-  greatest : FormulaRule WindowMax Price NoUnit NoUnit Price
-  least : FormulaRule WindowMin Price NoUnit NoUnit Price
-  sum : FormulaRule WindowSum Price NoUnit NoUnit Price
-  mean : FormulaRule SimpleMovingAverage Price NoUnit NoUnit Price
-  middle : FormulaRule BollingerMiddle Price NoUnit NoUnit Price
-  linear : FormulaRule LinearWeightedMovingAverage Price NoUnit NoUnit Price
-  weighted : FormulaRule WeightedAverageValue Price NoUnit NoUnit Price
-  by_volume : FormulaRule VWAP Price NoUnit NoUnit Price
-  dollar_volume : FormulaRule AverageDollarVolume Price NoUnit NoUnit Price
-  faded : {decay : ℤ} → FormulaRule (ExponentialWeightedMovingAverage decay) Price NoUnit NoUnit Price
-  fine : {decay : ℤ} → FormulaRule (ExponentialWeightedMovingMean decay) Price NoUnit NoUnit Price
-  deviation : FormulaRule WindowStd Price NoUnit NoUnit Price
-  lower : {k : ℤ} → FormulaRule (BollingerLower k) Price NoUnit NoUnit Price
-  upper : {k : ℤ} → FormulaRule (BollingerUpper k) Price NoUnit NoUnit Price
-  percentile : {percent : ℕ} → FormulaRule (WindowPercentile percent) Price NoUnit NoUnit Price
-  true_range : FormulaRule TrueRange Price Price Price Price
-  returns : FormulaRule Returns Price NoUnit NoUnit NoUnit
-  change : FormulaRule PercentChange Price NoUnit NoUnit NoUnit
-  rate : FormulaRule RateOfChangePercentage Price NoUnit NoUnit NoUnit
-  strength : FormulaRule RSI Price NoUnit NoUnit NoUnit
-  stochastic : FormulaRule FastStochasticOscillator Price Price Price NoUnit
-  up : FormulaRule AroonUp Price NoUnit NoUnit NoUnit
-  down : FormulaRule AroonDown Price NoUnit NoUnit NoUnit
-  rank : FormulaRule WindowRank Price NoUnit NoUnit NoUnit
-  place_of_greatest : FormulaRule WindowArgMax Price NoUnit NoUnit NoUnit
-  place_of_least : FormulaRule WindowArgMin Price NoUnit NoUnit NoUnit
-  all_present : FormulaRule AllPresent Price NoUnit NoUnit NoUnit
+  latest : {n : ℕ} → FormulaRule Latest (Power n) NoUnit NoUnit (Power n)
+  first : {n : ℕ} → FormulaRule WindowFirst (Power n) NoUnit NoUnit (Power n)
+  greatest : {n : ℕ} → FormulaRule WindowMax (Power n) NoUnit NoUnit (Power n)
+  least : {n : ℕ} → FormulaRule WindowMin (Power n) NoUnit NoUnit (Power n)
+  sum : {n : ℕ} → FormulaRule WindowSum (Power n) NoUnit NoUnit (Power n)
+  mean : {n : ℕ} → FormulaRule SimpleMovingAverage (Power n) NoUnit NoUnit (Power n)
+  middle : {n : ℕ} → FormulaRule BollingerMiddle (Power n) NoUnit NoUnit (Power n)
+  linear : {n : ℕ} → FormulaRule LinearWeightedMovingAverage (Power n) NoUnit NoUnit (Power n)
+  weighted : {n : ℕ} → FormulaRule WeightedAverageValue (Power n) NoUnit NoUnit (Power n)
+  by_volume : {n : ℕ} → FormulaRule VWAP (Power n) NoUnit NoUnit (Power n)
+  dollar_volume : {n : ℕ} → FormulaRule AverageDollarVolume (Power n) NoUnit NoUnit (Power n)
+  faded : {n : ℕ} {decay : ℤ}
+      → FormulaRule (ExponentialWeightedMovingAverage decay) (Power n) NoUnit NoUnit (Power n)
+  fine : {n : ℕ} {decay : ℤ}
+      → FormulaRule (ExponentialWeightedMovingMean decay) (Power n) NoUnit NoUnit (Power n)
+  deviation : {n : ℕ} → FormulaRule WindowStd (Power n) NoUnit NoUnit (Power n)
+  faded_deviation : {n : ℕ} {decay : ℤ}
+      → FormulaRule (ExponentialWeightedMovingStdDev decay) (Power n) NoUnit NoUnit (Power n)
+  lower : {n : ℕ} {k : ℤ} → FormulaRule (BollingerLower k) (Power n) NoUnit NoUnit (Power n)
+  upper : {n : ℕ} {k : ℤ} → FormulaRule (BollingerUpper k) (Power n) NoUnit NoUnit (Power n)
+  percentile : {n : ℕ} {percent : ℕ}
+      → FormulaRule (WindowPercentile percent) (Power n) NoUnit NoUnit (Power n)
+  true_range : {n : ℕ} → FormulaRule TrueRange (Power n) (Power n) (Power n) (Power n)
+  returns : {n : ℕ} → FormulaRule Returns (Power n) NoUnit NoUnit NoUnit
+  change : {n : ℕ} → FormulaRule PercentChange (Power n) NoUnit NoUnit NoUnit
+  rate : {n : ℕ} → FormulaRule RateOfChangePercentage (Power n) NoUnit NoUnit NoUnit
+  strength : {n : ℕ} → FormulaRule RSI (Power n) NoUnit NoUnit NoUnit
+  stochastic : {n : ℕ} → FormulaRule FastStochasticOscillator (Power n) (Power n) (Power n) NoUnit
+  up : {n : ℕ} → FormulaRule AroonUp (Power n) NoUnit NoUnit NoUnit
+  down : {n : ℕ} → FormulaRule AroonDown (Power n) NoUnit NoUnit NoUnit
+  drawdown : {n : ℕ} → FormulaRule MaxDrawdown (Power n) NoUnit NoUnit NoUnit
+  skewness : {n : ℕ} → FormulaRule WindowSkewness (Power n) NoUnit NoUnit NoUnit
+  kurtosis : {n : ℕ} → FormulaRule WindowKurtosis (Power n) NoUnit NoUnit NoUnit
+  rank : {n : ℕ} → FormulaRule WindowRank (Power n) NoUnit NoUnit NoUnit
+  place_of_greatest : {n : ℕ} → FormulaRule WindowArgMax (Power n) NoUnit NoUnit NoUnit
+  place_of_least : {n : ℕ} → FormulaRule WindowArgMin (Power n) NoUnit NoUnit NoUnit
+  all_present : {n : ℕ} → FormulaRule AllPresent (Power n) NoUnit NoUnit NoUnit
   -- of pairs, the first input being y
-  correlation : FormulaRule Correlation Price Price NoUnit NoUnit
-  correlation_of_y : FormulaRule Correlation Price NoUnit NoUnit NoUnit
-  correlation_of_x : FormulaRule Correlation NoUnit Price NoUnit NoUnit
-  rank_correlation : FormulaRule RankCorrelation Price Price NoUnit NoUnit
-  rank_correlation_of_y : FormulaRule RankCorrelation Price NoUnit NoUnit NoUnit
-  rank_correlation_of_x : FormulaRule RankCorrelation NoUnit Price NoUnit NoUnit
-  r_squared : FormulaRule WindowRSquared Price NoUnit NoUnit NoUnit
-  covariance : FormulaRule Covariance Price NoUnit NoUnit Price
-  slope : FormulaRule RegressionSlope Price NoUnit NoUnit Price
-  hedge : FormulaRule RegressionSlope Price Price NoUnit NoUnit
-  intercept : FormulaRule RegressionIntercept Price NoUnit NoUnit Price
-  trend : FormulaRule WindowSlope Price NoUnit NoUnit Price
-  off_trend : FormulaRule WindowResidual Price NoUnit NoUnit Price
+  correlation : {m n : ℕ} → FormulaRule Correlation (Power m) (Power n) NoUnit NoUnit
+  correlation_of_y : {n : ℕ} → FormulaRule Correlation (Power n) NoUnit NoUnit NoUnit
+  correlation_of_x : {n : ℕ} → FormulaRule Correlation NoUnit (Power n) NoUnit NoUnit
+  rank_correlation : {m n : ℕ} → FormulaRule RankCorrelation (Power m) (Power n) NoUnit NoUnit
+  rank_correlation_of_y : {n : ℕ} → FormulaRule RankCorrelation (Power n) NoUnit NoUnit NoUnit
+  rank_correlation_of_x : {n : ℕ} → FormulaRule RankCorrelation NoUnit (Power n) NoUnit NoUnit
+  r_squared : {n : ℕ} → FormulaRule WindowRSquared (Power n) NoUnit NoUnit NoUnit
+  covariance : {n : ℕ} → FormulaRule Covariance (Power n) NoUnit NoUnit (Power n)
+  joint_variance : {m n : ℕ} → FormulaRule Covariance (Power m) (Power n) NoUnit (Power (suc (m + n)))
+  slope : {n : ℕ} → FormulaRule RegressionSlope (Power n) NoUnit NoUnit (Power n)
+  hedge : {n : ℕ} → FormulaRule RegressionSlope (Power n) (Power n) NoUnit NoUnit
+  error : {n : ℕ} → FormulaRule RegressionError (Power n) NoUnit NoUnit (Power n)
+  hedge_error : {n : ℕ} → FormulaRule RegressionError (Power n) (Power n) NoUnit NoUnit
+  intercept : {n : ℕ} → FormulaRule RegressionIntercept (Power n) NoUnit NoUnit (Power n)
+  hedge_intercept : {n : ℕ} → FormulaRule RegressionIntercept (Power n) (Power n) NoUnit (Power n)
+  trend : {n : ℕ} → FormulaRule WindowSlope (Power n) NoUnit NoUnit (Power n)
+  off_trend : {n : ℕ} → FormulaRule WindowResidual (Power n) NoUnit NoUnit (Power n)
 
 -- What an operation gives. There is no rule for a price beside a number in a sum, a comparison or a bound: in
 -- another unit the number would have to be another.
 pub data OperationRule : PointKind → Measure → Measure → Measure → Measure → Type 0 where
-  plus : OperationRule Add Price Price NoUnit Price
-  minus : OperationRule Sub Price Price NoUnit Price
-  times : OperationRule Mul Price NoUnit NoUnit Price
-  factor : OperationRule Mul NoUnit Price NoUnit Price
-  over : OperationRule Div Price NoUnit NoUnit Price
-  proportion : OperationRule Div Price Price NoUnit NoUnit
-  negative : OperationRule Neg Price NoUnit NoUnit Price
-  magnitude : OperationRule Abs Price NoUnit NoUnit Price
-  greater : OperationRule Maximum Price Price NoUnit Price
-  lesser : OperationRule Minimum Price Price NoUnit Price
-  filled : OperationRule FillNa Price Price NoUnit Price
-  chosen : OperationRule IfElse NoUnit Price Price Price
-  kept : OperationRule Where Price NoUnit NoUnit Price
-  compared : {c : Compare} → OperationRule (Comparison c) Price Price NoUnit NoUnit
-  is_null : OperationRule IsNull Price NoUnit NoUnit NoUnit
-  not_null : OperationRule NotNull Price NoUnit NoUnit NoUnit
-  sign : OperationRule Sign Price NoUnit NoUnit NoUnit
+  plus : {n : ℕ} → OperationRule Add (Power n) (Power n) NoUnit (Power n)
+  minus : {n : ℕ} → OperationRule Sub (Power n) (Power n) NoUnit (Power n)
+  times : {n : ℕ} → OperationRule Mul (Power n) NoUnit NoUnit (Power n)
+  factor : {n : ℕ} → OperationRule Mul NoUnit (Power n) NoUnit (Power n)
+  product : {m n : ℕ} → OperationRule Mul (Power m) (Power n) NoUnit (Power (suc (m + n)))
+  over : {n : ℕ} → OperationRule Div (Power n) NoUnit NoUnit (Power n)
+  proportion : {n : ℕ} → OperationRule Div (Power n) (Power n) NoUnit NoUnit
+  quotient : {m n : ℕ} → OperationRule Div (Power (suc (m + n))) (Power m) NoUnit (Power n)
+  root : {n : ℕ} → OperationRule Sqrt (Power (suc (n + n))) NoUnit NoUnit (Power n)
+  negative : {n : ℕ} → OperationRule Neg (Power n) NoUnit NoUnit (Power n)
+  magnitude : {n : ℕ} → OperationRule Abs (Power n) NoUnit NoUnit (Power n)
+  greater : {n : ℕ} → OperationRule Maximum (Power n) (Power n) NoUnit (Power n)
+  lesser : {n : ℕ} → OperationRule Minimum (Power n) (Power n) NoUnit (Power n)
+  filled : {n : ℕ} → OperationRule FillNa (Power n) (Power n) NoUnit (Power n)
+  chosen : {n : ℕ} → OperationRule IfElse NoUnit (Power n) (Power n) (Power n)
+  kept : {n : ℕ} → OperationRule Where (Power n) NoUnit NoUnit (Power n)
+  compared : {n : ℕ} {c : Compare} → OperationRule (Comparison c) (Power n) (Power n) NoUnit NoUnit
+  is_null : {n : ℕ} → OperationRule IsNull (Power n) NoUnit NoUnit NoUnit
+  not_null : {n : ℕ} → OperationRule NotNull (Power n) NoUnit NoUnit NoUnit
+  sign : {n : ℕ} → OperationRule Sign (Power n) NoUnit NoUnit NoUnit
 
--- what a cross-section of prices gives
-pub data CrossRule : CrossKind → Measure → Type 0 where
-  rank : {method : RankMethod} {order : RankOrder} → CrossRule (Rank method order) NoUnit
-  top : {n : ℕ} → CrossRule (Top n) NoUnit
-  bottom : {n : ℕ} → CrossRule (Bottom n) NoUnit
-  quantiles : {bins : ℕ} → CrossRule (Quantiles bins) NoUnit
-  percentiles : {low high : ℕ} → CrossRule (PercentileBetween low high) NoUnit
-  score : CrossRule ZScore NoUnit
-  distance : CrossRule Demean Price
-  share : CrossRule Scale NoUnit
-  drawn_in : {low high : ℕ} → CrossRule (Winsorize low high) Price
-  counted : CrossRule (Summarize summary.NotNullCount) NoUnit
-  mean : CrossRule (Summarize summary.Mean) Price
-  sum : CrossRule (Summarize summary.Sum) Price
-  least : CrossRule (Summarize summary.Least) Price
-  greatest : CrossRule (Summarize summary.Greatest) Price
-  deviation : CrossRule (Summarize summary.StdDev) Price
-  median : CrossRule (Summarize summary.Median) Price
-  percentile : {percent : ℕ} → CrossRule (Summarize (summary.Percentile percent)) Price
+-- what a cross-section of such values gives
+pub data CrossRule (n : ℕ) : CrossKind → Measure → Type 0 where
+  rank : {method : RankMethod} {order : RankOrder} → CrossRule n (Rank method order) NoUnit
+  top : {count : ℕ} → CrossRule n (Top count) NoUnit
+  bottom : {count : ℕ} → CrossRule n (Bottom count) NoUnit
+  quantiles : {bins : ℕ} → CrossRule n (Quantiles bins) NoUnit
+  percentiles : {low high : ℕ} → CrossRule n (PercentileBetween low high) NoUnit
+  score : CrossRule n ZScore NoUnit
+  distance : CrossRule n Demean (Power n)
+  share : CrossRule n Scale NoUnit
+  drawn_in : {low high : ℕ} → CrossRule n (Winsorize low high) (Power n)
+  counted : CrossRule n (Summarize summary.NotNullCount) NoUnit
+  mean : CrossRule n (Summarize summary.Mean) (Power n)
+  sum : CrossRule n (Summarize summary.Sum) (Power n)
+  least : CrossRule n (Summarize summary.Least) (Power n)
+  greatest : CrossRule n (Summarize summary.Greatest) (Power n)
+  deviation : CrossRule n (Summarize summary.StdDev) (Power n)
+  median : CrossRule n (Summarize summary.Median) (Power n)
+  percentile : {percent : ℕ} → CrossRule n (Summarize (summary.Percentile percent)) (Power n)
 
--- What is of terms without a unit has none. Prices that are downsampled are prices.
+-- What is of terms without a unit has none. What is downsampled keeps its unit.
 pub data Rule : Kind → Measure → Measure → Measure → Measure → Type 0 where
   pure : {k : Kind} → Rule k NoUnit NoUnit NoUnit NoUnit
   formula : {k : WindowKind} {x y z u : Measure} → FormulaRule k x y z u → Rule (Window k) x y z u
   operation : {k : PointKind} {x y z u : Measure} → OperationRule k x y z u → Rule (Point k) x y z u
-  across : {k : CrossKind} {u : Measure} → CrossRule k u → Rule (Cross k) Price NoUnit NoUnit u
-  downsampled : {f : Frequency} → Rule (Downsample f) Price NoUnit NoUnit Price
+  across : {k : CrossKind} {n : ℕ} {u : Measure} → CrossRule n k u → Rule (Cross k) (Power n) NoUnit NoUnit u
+  downsampled : {f : Frequency} {n : ℕ} → Rule (Downsample f) (Power n) NoUnit NoUnit (Power n)
 
 -- The measure of a term, by the rules; a mask and a group have no unit.
 pub data HasMeasure : Term → Measure → Type 0 where
@@ -184,7 +214,8 @@ above_trend s x y =
     let n = pos s.number in
     (((n *ℤ y) -ℤ s.y) *ℤ spread_x s) -ℤ (joint_spread s *ℤ ((n *ℤ x) -ℤ s.x))
 
--- sums are cells, and quotients have no rest; the second input is of the measure
+-- Sums are cells, and quotients have no rest; the ratio is that of what is given, and the second input is of
+-- the measure.
 abbrev pub IsFormulaExact : Fraction → WindowKind → Measure → List ℤ → List ℤ → List ℤ → Type 0
 IsFormulaExact r WindowSum second xs ys zs = unsigned_abs (total (present_values xs)) ≤ LIMIT
 IsFormulaExact r SimpleMovingAverage second xs ys zs = IsUnrounded r (total (present_values xs)) (count xs)
@@ -203,6 +234,8 @@ IsFormulaExact r (ExponentialWeightedMovingMean decay) second xs ys zs =
     let ws = weights FINE decay (length xs) in
     list_any is_missing xs ≡ false → IsQuotientExact r (total (products ws xs)) (total ws)
 IsFormulaExact r WindowStd second xs ys zs = IsSpreadExact r (present_values xs)
+IsFormulaExact r (ExponentialWeightedMovingStdDev decay) second xs ys zs =
+    list_any is_missing xs ≡ false → IsFadedExact r (weights FINE decay (length xs)) xs
 IsFormulaExact r (BollingerLower k) second xs ys zs =
     IsBandGiven r k xs (formulas.formula (BollingerLower k) xs [] [])
 IsFormulaExact r (BollingerUpper k) second xs ys zs =
@@ -213,6 +246,7 @@ IsFormulaExact r Covariance second ys xs zs =
     let s = pair_sums xs ys in IsUnrounded r (joint_spread s) (s.number * s.number * MILLION)
 IsFormulaExact r RegressionSlope NoUnit ys xs zs =
     let s = pair_sums xs ys in IsUnrounded r (joint_spread s *ℤ pos MILLION) (unsigned_abs (spread_x s))
+IsFormulaExact r RegressionError NoUnit ys xs zs = IsErrorExact r (pair_sums xs ys)
 IsFormulaExact r RegressionIntercept second ys xs zs =
     let s = pair_sums xs ys in
     IsQuotientExact r ((s.y *ℤ spread_x s) -ℤ (joint_spread s *ℤ s.x)) (pos s.number *ℤ spread_x s)
@@ -228,17 +262,19 @@ IsFormulaExact r k second xs ys zs = Unit {0}
 abbrev pub GivesCell : ℤ → ℤ → ℤ → Type 0
 GivesCell x y v = is_missing x ≡ false → is_missing y ≡ false → is_missing v ≡ false
 
--- the second operand is of the measure
+-- what is given is of the measure, and the ratio is its own
 abbrev pub IsOperationExact : Fraction → PointKind → Measure → ℤ → ℤ → Type 0
-IsOperationExact r Add second x y = GivesCell x y (add x y)
-IsOperationExact r Sub second x y = GivesCell x y (sub x y)
-IsOperationExact r Neg second x y = GivesCell x x (neg x)
-IsOperationExact r Mul second x y =
+IsOperationExact r Add given x y = GivesCell x y (add x y)
+IsOperationExact r Sub given x y = GivesCell x y (sub x y)
+IsOperationExact r Neg given x y = GivesCell x x (neg x)
+IsOperationExact r Mul given x y =
     is_missing x ≡ false → is_missing y ≡ false
     → IsExact r (mul x y) × ((mul x y *ℤ pos MILLION) ≡ (x *ℤ y))
-IsOperationExact r Div NoUnit x y =
+IsOperationExact r Div (Power n) x y =
     is_missing x ≡ false → is_missing y ≡ false → IsQuotientExact r (x *ℤ pos MILLION) y
-IsOperationExact r k second x y = Unit {0}
+IsOperationExact r Sqrt given x y =
+    is_missing (sqrt x) ≡ false → formulas.square (sqrt x) ≡ unsigned_abs x * MILLION
+IsOperationExact r k given x y = Unit {0}
 
 abbrev pub IsCrossExact : Fraction → CrossKind → List ℤ → ℤ → Type 0
 IsCrossExact r ZScore vs x = IsSpreadExact r vs
@@ -255,14 +291,15 @@ IsCrossExact r k vs x = Unit {0}
 abbrev pub IsStepExact : Fraction → World → {k : Kind} {x y z u : Measure} → Rule k x y z u → ℕ → Operands
     → ℕ → ℤ → Type 0
 IsStepExact r w pure size operands a d = Unit {0}
-IsStepExact r w (formula {k} {y = y} rule) size operands a d =
-    IsFormulaExact r k y (window_of w size operands.first a d) (window_of w size operands.second a d)
-    (window_of w size operands.third a d)
-IsStepExact r w (operation {k} {y = y} rule) size operands a d =
-    IsOperationExact r k y (number_of (value_of_part operands.first a d))
+IsStepExact r w (formula {k} {y = y} {u = u} rule) size operands a d =
+    IsFormulaExact (ratio_of r u) k y (window_of w size operands.first a d)
+    (window_of w size operands.second a d) (window_of w size operands.third a d)
+IsStepExact r w (operation {k} {u = u} rule) size operands a d =
+    IsOperationExact (ratio_of r u) k u (number_of (value_of_part operands.first a d))
     (number_of (value_of_part operands.second a d))
-IsStepExact r w (across {k} rule) size operands a d =
-    IsCrossExact r k (values (eligible w k operands a d)) (number_of (value_of_part operands.first a d))
+IsStepExact r w (across {k} {n} rule) size operands a d =
+    IsCrossExact (raised r n) k (values (eligible w k operands a d))
+    (number_of (value_of_part operands.first a d))
 IsStepExact r w downsampled size operands a d = Unit {0}
 
 -- what holds of the values of a term, by view, sid and session
@@ -280,9 +317,9 @@ HoldsOfInputs w (Cross k) size view x y z m g a d =
 HoldsOfInputs w (Downsample f) size view x y z m g a d = x view a (period_start f w.days d)
 HoldsOfInputs w k size view x y z m g a d = Unit {0}
 
--- the ratio does not round a price
+-- the ratio does not round a price, nor its power one of that power
 abbrev pub IsWhole : Fraction → Measure → Value → Type 0
-IsWhole r Price v = Divides r (number_of v)
+IsWhole r (Power n) v = Divides (raised r n) (number_of v)
 IsWhole r NoUnit v = Unit {0}
 
 -- Nothing is rounded on the way to what a term is worth for asset a on session d: neither bars and the values
@@ -306,14 +343,14 @@ NothingIsRounded r w names (term {k} {size} {x} {y} {z} {m} {g} {u = u} rule hx 
 
 -- ---- the laws
 
--- a price in the other unit
+-- a value of the measure, in the other unit
 abbrev pub in_unit : Fraction → Measure → Value → Value
-in_unit r Price (Number x) = Number (scaled r x)
-in_unit r Price (Text t) = Text t
+in_unit r (Power n) (Number x) = Number (scaled (raised r n) x)
+in_unit r (Power n) (Text t) = Text t
 in_unit r NoUnit v = v
 
--- Where nothing is rounded, a term of the price's unit is multiplied by the ratio, and a term without a unit
--- is the same.
+-- Where nothing is rounded, a term in a power of the price's unit is multiplied by that power of the ratio,
+-- and a term without a unit is the same.
 abbrev pub PipelinesHaveUnits : Type 0
 PipelinesHaveUnits = (r : Fraction) (w : World) (names : List (List ℕ)) (t : Term) (u : Measure) → IsRatio r
     → (h : HasMeasure t u) (view : View) (a : ℕ) (d : ℤ) → NothingIsRounded r w names h view a d
@@ -367,8 +404,8 @@ in_units r (u ∷ us) [] = []
 abbrev pub priced_row : Fraction → List Measure → Row → Row
 priced_row r us row = record row { values = in_units r us row.values }
 
--- Where nothing is rounded, the screen keeps the same assets, and each column of the price's unit is
--- multiplied by the ratio; all others are the same.
+-- Where nothing is rounded, the screen keeps the same assets, and each column in a power of the price's unit
+-- is multiplied by that power of the ratio; all others are the same.
 pub record TablesHaveUnits : Type 0 where
   pub sids : (r : Fraction) (w : World) (p : Pipeline) (us : List Measure) → IsRatio r
       → (h : HasMeasures p us) (d : ℤ) → IsSessionUnrounded r w p us h d

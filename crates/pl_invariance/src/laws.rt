@@ -3,7 +3,7 @@ ghost use Rattle.pl_invariance.specs.Alone.{NumbersStandAlone};
 ghost use Rattle.pl_invariance.specs.Compared.{ChangesHaveNoUnit};
 ghost use Rattle.pl_invariance.specs.Ordered.{MediansAreMiddles, PercentilesAreBetween, RankCorrelationsAreBounded, WindowRanksAreRanks};
 ghost use Rattle.pl_invariance.specs.Paired.{CorrelationsAreBounded, PairsHaveNoOrder, ValuesExplainThemselves};
-ghost use Rattle.pl_invariance.specs.Crossed.{CrossesHaveNoUnit, ScreensHaveNoUnit};
+ghost use Rattle.pl_invariance.specs.Crossed.{ClipsHaveUnits, CrossesHaveNoUnit, ScreensHaveNoUnit};
 ghost use Rattle.pl_invariance.specs.Pipelines.{PipelinesHaveUnits, TablesHaveUnits};
 ghost use Rattle.pl_invariance.specs.Priced.{PricesHaveUnits};
 ghost use Rattle.pl_invariance.specs.Ranked.{RanksHaveNoUnit};
@@ -14,6 +14,7 @@ ghost use Rattle.pl_invariance.specs.Lines.{LinesGoThroughMeans, ScalesAddUp};
 ghost use Rattle.pl_invariance.specs.OneAsset.{OneAssetForAll};
 ghost use Rattle.pl_invariance.specs.Origins.{PairsHaveNoOrigin};
 ghost use Rattle.pl_invariance.specs.Scales.{CorrelationsHaveNoScale, RegressionsHaveUnits};
+ghost use Rattle.pl_invariance.specs.Shapes.{RootsHaveUnits, ShapesHaveNoUnit};
 ghost use Rattle.pl_invariance.specs.Varied.{VariedValuesExplainThemselves};
 ghost use Rattle.pl_invariance.specs.Units.{FormulasHaveUnits, IndicatorsHaveNoUnit};
 
@@ -162,6 +163,19 @@ pub fn indicators_have_no_unit()
     ensures { IndicatorsHaveNoUnit }
 {}
 
+/// The shape of a window is the same in every unit: `MaxDrawdown`, `WindowSkewness` and `WindowKurtosis` of
+/// prices that a ratio above 0 does not round, and the error of the slope of prices on prices. It guards the
+/// powers that these formulas divide by each other, and which value a fall is measured by.
+pub fn shapes_have_no_unit()
+    ensures { ShapesHaveNoUnit }
+{}
+
+/// A deviation with weights that fade, and the error of a slope, are of the price's unit, where the roots
+/// have no rest. It guards that the root is of squares, and that weights have no unit.
+pub fn roots_have_units()
+    ensures { RootsHaveUnits }
+{}
+
 /// So are the quantile of a price, whether it lies between two percentiles, how many peers it has, and its
 /// z-score where the mean and the deviation are not rounded; its distance from the mean is in its unit.
 pub fn crosses_have_no_unit()
@@ -173,21 +187,27 @@ pub fn screens_have_no_unit()
     ensures { ScreensHaveNoUnit }
 {}
 
+/// A price that is clipped to bounds in its unit is the same price in every unit. Pipelines have no rule for
+/// it, since the bounds of `clip` are numbers, and in another unit they have to be others.
+pub fn clips_have_units()
+    ensures { ClipsHaveUnits }
+{}
+
 /// Each world can be restated so, whichever of an asset's ratios is left out.
 pub fn worlds_can_be_restated()
     ensures { WorldsCanBeRestated }
 {}
 
-/// Prices in cents in place of dollars: each term of the price's unit is multiplied by 100, and each term
-/// without a unit, as a return, a rank or a comparison, is the same, from wherever it is seen and under each
-/// mask and group, where nothing is rounded. It guards what a value is made of: which inputs a kind reads, on
+/// Prices in cents in place of dollars: each term of the price's unit is multiplied by 100, each of its square,
+/// as a variance, by 10,000, and each term without a unit, as a return, a rank or a comparison, is the same,
+/// from wherever it is seen and under each mask and group, where nothing is rounded. It guards what a value is made of: which inputs a kind reads, on
 /// which sessions and of which assets, and that nothing mixes a price with a number.
 pub fn pipelines_have_units()
     ensures { PipelinesHaveUnits }
 {}
 
-/// So the table has the same rows: its screen keeps the same assets, the columns of the price's unit are
-/// multiplied by 100, and all others are the same.
+/// So the table has the same rows: its screen keeps the same assets, the columns of the price's unit or a
+/// power of it are multiplied so, and all others are the same.
 pub fn tables_have_units()
     ensures { TablesHaveUnits }
 {}

@@ -45,8 +45,8 @@ pub mod pipelines {
         SyntaxError, Word, parse, print,
     };
     pub use pl_terms::{
-        Checked, Frequency, Graph, GraphError, Input, Inputs, LabelValue, NamedColumn, Node,
-        RankMethod, RankOrder, SidList, TermId, TermKind, Text, TextList,
+        Checked, Figure, Frequency, Graph, GraphError, Input, Inputs, LabelValue, NamedColumn,
+        Node, RankMethod, RankOrder, SidList, TermId, TermKind, Text, TextList,
     };
 }
 

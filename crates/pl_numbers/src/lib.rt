@@ -18,6 +18,7 @@ mod last;
 pub mod laws;
 mod named;
 mod order;
+mod read;
 mod reading;
 mod rows;
 mod search;
@@ -29,6 +30,7 @@ pub use error::NumbersError;
 use pl_calendar::Sessions;
 use pl_fixed::Memory;
 use pl_lifetimes::Assets;
+pub use pl_spec::Figure;
 pub use rows::NumberAt;
 use rows::NumberRows;
 use std::alloc::Global;
@@ -136,15 +138,15 @@ impl Numbers {
         }
     }
 
-    /// The cell of a column under a name on a day: that of the row that was known last by then, missing where
+    /// What is read of a column under a name on a day, in the row that was known last by then; missing where
     /// there is none.
-    pub fn number_on(&self, name: u32, col: usize, day: i32) -> i64
+    pub fn number_on(&self, figure: Figure, name: u32, col: usize, day: i32) -> i64
         requires { name < length self.now.names }
         ensures value { result
-            ≡ number_on self.now.rows (slice_index_or self.now.names name []) col day }
+            ≡ number_on figure self.now.rows (slice_index_or self.now.names name []) col day }
         ensures cell { IsCell result }
     {
-        search::number_on(&self.rows, name, col, day)
+        search::number_on(&self.rows, figure, name, col, day)
     }
 
     /// The day from which that row counts, where there is one.
@@ -157,17 +159,25 @@ impl Numbers {
         search::known_on(&self.rows, name, col, day)
     }
 
-    /// Writes the cells of a column under a name on sessions from the first one on. The rows of the column
+    /// Writes what is read of a column under a name on sessions from the first one on. The rows of the column
     /// are gone over once.
-    pub fn fill(&self, name: u32, col: usize, sessions: &Sessions, first: usize, into: &mut [i64])
+    pub fn fill(
+        &self,
+        figure: Figure,
+        name: u32,
+        col: usize,
+        sessions: &Sessions,
+        first: usize,
+        into: &mut [i64],
+    )
         requires name { name < length self.now.names }
         requires range { first + length into.old ≤ length sessions.now }
         ensures values { (k : ℕ) → k < length into.old → slice_index_or into.new k (pos 0)
-            ≡ number_on self.now.rows (slice_index_or self.now.names name []) col
+            ≡ number_on figure self.now.rows (slice_index_or self.now.names name []) col
             (slice_index_or sessions.now (first + k) (pos 0)) }
         ensures cells { (k : ℕ) → k < length into.old
             → IsCell (slice_index_or into.new k (pos 0)) }
     {
-        search::fill(&self.rows, name, col, sessions, first, into);
+        search::fill(&self.rows, figure, name, col, sessions, first, into);
     }
 }

@@ -9,6 +9,7 @@ ghost use Rattle.pl_outside.specs.Reads.{IsGiven, IsReadWhole};
 
 use crate::faults::{Failed, Memory};
 use crate::shelf::Shelf;
+use crate::taking::read_pieces;
 use std::alloc::{AllocError, Global};
 
 /// Why a file isn't read.
@@ -51,9 +52,6 @@ impl From<Memory> for ReadError {
         ReadError::Memory
     }
 }
-
-// how many bytes are asked for at once
-const PIECE: usize = 65_536;
 
 /// The whole bytes of the named file, if there are at most `cap`, which is below 2^32.
 ///
@@ -101,40 +99,7 @@ pub fn read_file<S: Shelf>(
     ensures stays { S.sound shelf.new ≡ S.sound shelf.old }
     ensures calls { S.calls shelf.new ≤ S.calls shelf.old + (cap + 2) }
 {
-    shelf.begin(name)?;
-    read_rest(alloc, shelf, cap)
-}
-
-/// What is left of the file that was begun.
-fn read_rest<S: Shelf>(alloc: Global, shelf: &mut S, cap: usize) -> Result<Vec<u8>, ReadError>
-    requires { cap < 2 ^ 32 }
-    ensures within { IfOk result (λ bytes. length bytes.items ≤ cap) }
-    ensures exact { ForSome (S.holds shelf.old)
-        (λ files. IfOk result (λ bytes. S.rest shelf.old ≡ bytes.items)) }
-    ensures failed { IsErrOf result ReadError.Failed → Rose (S.faults shelf.old) (S.faults shelf.new) }
-    ensures later { S.faults shelf.old ≤ S.faults shelf.new }
-    ensures too_long { IsErrOf result ReadError.TooLong
-        → S.given shelf.new ≡ count_plus (S.given shelf.old) (cap + 1) }
-    ensures longer { ForSome (S.holds shelf.old)
-        (λ files. IsErrOf result ReadError.TooLong → cap < length (S.rest shelf.old)) }
-    ensures blameless { IsTrue (S.sound shelf.old)
-        → ¬ IsErrOf result ReadError.Failed × (S.faults shelf.new ≡ S.faults shelf.old) }
-    ensures given { (files : List Given) (name : List ℕ) → S.gave shelf.old ≡ begins files name
-        → IsGiven cap files (S.gave shelf.new) name result }
-    ensures named { S.begun shelf.new ≡ S.begun shelf.old }
-    ensures keeps { S.holds shelf.new ≡ S.holds shelf.old }
-    ensures stays { S.sound shelf.new ≡ S.sound shelf.old }
-    ensures calls { S.calls shelf.new ≤ S.calls shelf.old + (cap + 1) }
-{
-    let mut piece = [0u8; PIECE];
     let mut bytes = Vec::new(alloc);
-    while bytes.len() <= cap {
-        let most = (cap + 1 - bytes.len()).min(PIECE);
-        let count = shelf.next(&mut piece[..most])?;
-        if count == 0 {
-            return Ok(bytes);
-        }
-        bytes.extend_from_slice(&piece[..count])?;
-    }
-    Err(ReadError::TooLong)
+    read_pieces(shelf, name, cap, &mut bytes)?;
+    Ok(bytes)
 }

@@ -30,9 +30,28 @@ pub trait Taker {
     ghost joined: { (a b c : Self) (xs ys : List ℕ) → after a xs b → after b ys c → after a (xs ++ ys) c };
 }
 
+impl Taker for Vec<u8> {
+    ghost use Rattle.std.proofs.Common.{ap, sym, append_assoc, ◌∙◌};
+    ghost use Rattle.std.proofs.lemmas.List.{append-nil};
+
+    ghost after = { λ old bytes new. new.items ≡ old.items ++ bytes };
+
+    fn take(&mut self, piece: &[u8]) -> Result<(), Memory> {
+        self.extend_from_slice(piece)?;
+        Ok(())
+    }
+
+    ghost none = { λ v. sym (append-nil v.items) };
+
+    ghost joined = { λ a b c xs ys first second.
+        second ∙ ap (λ bytes. bytes ++ ys) first ∙ append_assoc a.items xs ys };
+}
+
 /// Hands the whole bytes of the named file on, if there are at most `cap`, which is below 2^32.
 ///
-/// The errors are those of `read_file`, from which it differs in that it holds no more than a piece.
+/// It holds no more than a piece. The error is `Failed` only where the shelf counted a fault, over a sound
+/// shelf exactly where the name isn't held; `TooLong` where `cap + 1` bytes were given; `Memory` where they
+/// weren't taken for want of it. It makes at most `cap + 2` calls of the shelf.
 pub fn read_pieces<S: Shelf, T: Taker>(
     shelf: &mut S,
     name: &str,
@@ -42,16 +61,23 @@ pub fn read_pieces<S: Shelf, T: Taker>(
     requires { cap < 2 ^ 32 }
     ensures failed { IsErrOf result ReadError.Failed → Rose (S.faults shelf.old) (S.faults shelf.new) }
     ensures later { S.faults shelf.old ≤ S.faults shelf.new }
+    ensures too_long { IsErrOf result ReadError.TooLong
+        → S.given shelf.new ≡ count_plus (S.given shelf.old) (cap + 1) }
+    ensures absent { ForSome (S.holds shelf.old)
+        (λ files. files name.now ≡ None → IsErrOf result ReadError.Failed) }
     ensures longer { ForSome (S.holds shelf.old) (λ files. IsErrOf result ReadError.TooLong
         → IsSomeAnd (files name.now) (λ bytes. cap < length bytes)) }
     ensures misses { IsTrue (S.sound shelf.old) → ForSome (S.holds shelf.old) (λ files.
         IsErrOf result ReadError.Failed ↔ (files name.now ≡ None)) }
+    ensures quiet { IsTrue (S.sound shelf.old) → ForSome (S.holds shelf.old) (λ files. IsSome (files name.now)
+        → S.faults shelf.new ≡ S.faults shelf.old) }
     ensures given { IsTaken cap (S.gave shelf.old) (S.gave shelf.new) name.now
         (λ bytes. T.after into.old bytes into.new)
         (λ bytes. ForSome (S.holds shelf.old) (λ files. files name.now ≡ Some bytes)) result }
     ensures named { BeginsAll (S.begun shelf.old) (S.begun shelf.new) (name.now ∷ []) }
     ensures keeps { S.holds shelf.new ≡ S.holds shelf.old }
     ensures stays { S.sound shelf.new ≡ S.sound shelf.old }
+    ensures calls { S.calls shelf.new ≤ S.calls shelf.old + (cap + 2) }
 {
     shelf.begin(name)?;
     read_rest(shelf, cap, into)
@@ -62,6 +88,8 @@ fn read_rest<S: Shelf, T: Taker>(shelf: &mut S, cap: usize, into: &mut T) -> Res
     requires { cap < 2 ^ 32 }
     ensures failed { IsErrOf result ReadError.Failed → Rose (S.faults shelf.old) (S.faults shelf.new) }
     ensures later { S.faults shelf.old ≤ S.faults shelf.new }
+    ensures too_long { IsErrOf result ReadError.TooLong
+        → S.given shelf.new ≡ count_plus (S.given shelf.old) (cap + 1) }
     ensures longer { ForSome (S.holds shelf.old)
         (λ files. IsErrOf result ReadError.TooLong → cap < length (S.rest shelf.old)) }
     ensures blameless { IsTrue (S.sound shelf.old)
@@ -72,6 +100,7 @@ fn read_rest<S: Shelf, T: Taker>(shelf: &mut S, cap: usize, into: &mut T) -> Res
     ensures named { S.begun shelf.new ≡ S.begun shelf.old }
     ensures keeps { S.holds shelf.new ≡ S.holds shelf.old }
     ensures stays { S.sound shelf.new ≡ S.sound shelf.old }
+    ensures calls { S.calls shelf.new ≤ S.calls shelf.old + (cap + 1) }
 {
     let mut piece = [0u8; PIECE];
     let mut count = 0;

@@ -131,7 +131,7 @@ all-told g n m steady are h k l = are k (omega arith)
 pub follows-kept : (k : Kind) → not (kind_row k).keeps_values ≡ follows_inputs k
 follows-kept (kind.Constant cell) = refl
 follows-kept (kind.Label name) = refl
-follows-kept (kind.Number name) = refl
+follows-kept (kind.Number figure name) = refl
 follows-kept (kind.StaticSids sids) = refl
 follows-kept (kind.Window w) = refl
 follows-kept (kind.Point o) = refl

@@ -1,50 +1,32 @@
-use Rattle.std.proofs.Common.{◌<◌, ◌∙◌, All, length, get_or, ap, sym, subst, arith}
-use Rattle.std.proofs.lemmas.Option.{slice_get-get_or}
-use Rattle.pl_spec.specs.Rounding.{IsCell}
-use Rattle.pl_daily.specs.declared.term_day.TermCells.{TermCells}
-use Rattle.pl_daily.specs.Held.{AreTermCells}
-use Rattle.pl_daily.specs.Terms.{IsRowOf, assets_at, pipeline_at}
-use Rattle.pl_daily.proofs.Followed.{rooms_stay, term_followed, terms_more}
+use Rattle.std.proofs.Common.{◌∙◌, sym, arith}
 use Rattle.pl_terms.proofs.Graphs.{graph-long}
+use Rattle.pl_daily.specs.Terms.{assets_at, pipeline_at}
+use Rattle.pl_daily.proofs.Followed.{newest_whole, read_rings}
 use Rattle.pl_daily.proofs.terms.advance_term.Goals as goal
 
-pub bounds-terms-term : goal.bounds-terms-term
-bounds-terms-term c = omega (arith, c.requires.known, c.requires.terms.many, graph-long c.args.lent.now.checked.now.graph)
+pub is_read_earlier-requires : goal.is_read_earlier-requires
+is_read_earlier-requires c = record {
+  depths = c.requires.placed.2.may.depths;
+  known = omega (arith, c.requires.known, graph-long c.args.lent.now.checked.now.graph);
+  many = c.put_row.ensures.terms.many;
+}
 
-pub term_row-requires-clause-placed : goal.term_row-requires-clause-placed
-term_row-requires-clause-placed c =
-    let next = c.requires.placed.0 in
-    let days = c.requires.placed.1 in
-    let is = c.requires.placed.2 in
-    (next, days, record { may = is.may; terms = is.terms; start = c.take_start.ensures.follow next days is })
-
-pub put_term-requires-clause-row : goal.put_term-requires-clause-row
-put_term-requires-clause-row c = subst (All IsCell) (sym c.deref.ensures.value) c.term_row.ensures.cells
-
-pub put_term-requires-clause-cells : goal.put_term-requires-clause-cells
-put_term-requires-clause-cells c =
-    let terms = c.args.terms.now in
-    let k = c.args.term.0 in
-    let inside : k < length terms = omega (arith, c.requires.known, c.requires.terms.many, graph-long c.args.lent.now.checked.now.graph) in
-    let was : TermCells = get_or terms k c.index-terms-term.result in
-    let is = slice_get-get_or terms k c.index-terms-term.result inside in
-    subst (λ n. AreTermCells n was) (sym (ap length c.deref.ensures.value ∙ c.term_row.ensures.room.out)) (c.requires.terms.full k was c.requires.used is)
-
-pub returns : goal.returns
-returns c =
+pub renew_term-requires-clause-own : goal.renew_term-requires-clause-own
+renew_term-requires-clause-own c =
     let l = c.args.lent.now in
-    let terms = c.args.terms.now in
-    let k = c.args.term.0 in
-    let inside : k < length terms = omega (arith, c.requires.known, c.requires.terms.many, graph-long c.args.lent.now.checked.now.graph) in
-    let was : TermCells = get_or terms k c.index-terms-term.result in
-    let is = slice_get-get_or terms k c.index-terms-term.result inside in
-    let new = c.put_term.new.cells in
-    let long = ap length c.deref.ensures.value ∙ c.term_row.ensures.room.out in
-    record {
-      follow = term_followed l k terms c.args.start.now c.take_start.new.start was new c.deref.result.now is inside c.requires.used c.put_term.ensures.follow
-          (sym long) c.take_start.ensures.follow (subst (IsRowOf l k terms c.take_start.new.start) (sym c.deref.ensures.value) c.term_row.ensures.row);
-      terms = terms_more (assets_at l) (pipeline_at l) l.bars.now terms k was new c.requires.terms is inside (subst (λ n. AreTermCells n new) long c.put_term.ensures.cells) c.put_term.ensures.capacity;
-      start = c.take_start.ensures.start;
-      rooms = rooms_stay terms k was new is c.put_term.ensures.capacity;
-      room = c.term_row.ensures.room;
-    }
+    λ t e.
+    read_rings (assets_at l) (pipeline_at l) l.bars.now c.put_row.new.terms c.args.term.0 c.requires.lent.checked c.put_row.ensures.terms c.requires.used
+    (sym c.is_read_earlier.ensures ∙ c.if-is_read_earlier.true) t e
+
+pub returns-then-is_read_earlier-clause-follow : goal.returns-then-is_read_earlier-clause-follow
+returns-then-is_read_earlier-clause-follow c =
+    λ next days at.
+    let put = c.put_row.ensures.follow next days at in (c.renew_term.ensures.follow next days put, put.start)
+
+pub returns-else-is_read_earlier-clause-follow : goal.returns-else-is_read_earlier-clause-follow
+returns-else-is_read_earlier-clause-follow c =
+    λ next days at.
+    let put = c.put_row.ensures.follow next days at in (
+      newest_whole c.args.lent.now c.args.term.0 c.put_row.new.terms c.put_row.new.start c.put_row.ensures.terms c.requires.used (sym c.is_read_earlier.ensures ∙ c.if-is_read_earlier.false) next days put,
+      put.start,
+    )

@@ -1,5 +1,6 @@
 use Rattle.std.proofs.Common.{rules, ◌≡◌, ◌≤◌, ◌∙◌, sym, ap, subst, arith, length, drop, slice_get, All, FitsSigned, w32}
 use Rattle.std.proofs.lemmas.Int.{to_z-of_z}
+use Rattle.std.proofs.lemmas.Option.{slice_get_within}
 use Rattle.pl_spec.specs.Limits.{most_window}
 use Rattle.pl_spec.specs.Rounding.{IsCell}
 use Rattle.pl_terms.specs.Nodes.{node_of}
@@ -24,7 +25,7 @@ fill_row-requires c =
     record {
       term_day = (
         moment_of l next days,
-        stands_at l c.args.terms c.args.term c.node.result c.deref.result _ c.args.start.now (to_z-of_z w32 l.day fits) c.deref.ensures.value c.requires.start c.requires.terms
+        stands_at l c.args.terms c.args.term c.node.result c.deref.result _ c.args.start.now (to_z-of_z w32 l.day fits) c.deref.ensures.value c.requires.start c.requires.terms.room (omega (arith, slice_get_within (pipeline_at l).graph k (node_of n) at, c.requires.terms.many))
             c.requires.lent.checked c.requires.used at c.requires.lent.few c.requires.lent.labels next days c.requires.placed.2,
       );
       cross = room.cross;
@@ -47,7 +48,7 @@ returns-clause-row c =
     let same : length new ≡ length c.deref_mut-5.result.now = search rules in
     let back = vec_back out.len new (drop (length new) out.items) (sym c.deref_mut-5.ensures.len ∙ sym same) in
     subst (IsRowOf l k c.args.terms.now c.args.start.now) (sym back)
-    (row_at l c.args.terms c.args.term c.node.result c.deref.result _ c.args.start.now (to_z-of_z w32 l.day fits) c.deref.ensures.value c.requires.start c.requires.terms
+    (row_at l c.args.terms c.args.term c.node.result c.deref.result _ c.args.start.now (to_z-of_z w32 l.day fits) c.deref.ensures.value c.requires.start c.requires.terms.room (omega (arith, slice_get_within (pipeline_at l).graph k (node_of n) at, c.requires.terms.many))
     c.requires.lent.checked c.requires.used at c.requires.lent.few c.requires.lent.labels c.fill_row.new.out c.fill_row.ensures.out)
 
 pub returns-clause-cells : goal.returns-clause-cells
@@ -64,5 +65,5 @@ returns-clause-cells c =
     let same : length new ≡ length c.deref_mut-5.result.now = search rules in
     let back = vec_back out.len new (drop (length new) out.items) (sym c.deref_mut-5.ensures.len ∙ sym same) in
     subst (All IsCell) (sym back)
-    (cells_at l c.args.terms c.args.term c.node.result c.deref.result _ c.args.start.now (to_z-of_z w32 l.day fits) c.deref.ensures.value c.requires.start c.requires.terms
+    (cells_at l c.args.terms c.args.term c.node.result c.deref.result _ c.args.start.now (to_z-of_z w32 l.day fits) c.deref.ensures.value c.requires.start c.requires.terms.room (omega (arith, slice_get_within (pipeline_at l).graph k (node_of n) at, c.requires.terms.many))
     c.requires.lent.checked c.requires.used at c.requires.lent.few c.requires.lent.labels c.fill_row.new.out c.fill_row.ensures.out next days c.requires.placed.2)

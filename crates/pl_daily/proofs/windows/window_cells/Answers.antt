@@ -27,7 +27,7 @@ loop-i-preserved c =
     let value = simp to_z-of_z at c.window_cell.ensures.value in
     let so_far = simp to_z-of_z at c.loop-i.invariant.shown in
     rw (to_z-of_z w64 _ r, to_z-of_z w64 _ e) (record {
-      shown = one_given (ShowsAt (windowed_by c.args.term_day.now) c.args.empty c.args.keep.now) c.loop-i.i c.loop-i.out c.window_cell.result so_far (omega (arith, c.loop-i-test.true))
+      shown = one_given (ShowsAt (windowed_by c.args.term_day.now 0) c.args.empty c.args.keep.now) c.loop-i.i c.loop-i.out c.window_cell.result so_far (omega (arith, c.loop-i-test.true))
           (value, c.window_cell.ensures.cell);
       first = c.window_cell.ensures.first ∙ c.loop-i.invariant.first;
       second = c.window_cell.ensures.second ∙ c.loop-i.invariant.second;
@@ -38,5 +38,5 @@ pub returns : goal.returns
 returns c =
     let e : FitsSigned w64 c.args.empty = c.ranges.empty in
     let shown = simp to_z-of_z at c.loop-i.invariant.shown in
-    all_shown (windowed_by c.args.term_day.now) c.args.empty c.args.keep.now c.loop-i.out (c.loop-i.auto.out ∙ c.requires.long)
+    all_shown (windowed_by c.args.term_day.now 0) c.args.empty c.args.keep.now c.loop-i.out (c.loop-i.auto.out ∙ c.requires.long)
     (λ i h. shown i (omega (arith, h, c.loop-i-test.false, c.loop-i.auto.out, c.requires.long)))

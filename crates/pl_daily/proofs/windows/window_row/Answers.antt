@@ -17,5 +17,5 @@ returns-clause-out c =
     let e : FitsSigned w64 c.args.empty = c.ranges.empty in
     let shown = simp to_z-of_z at c.window_cells.ensures in
     λ v is.
-    shown_out c.args.term_day.now v is c.args.keep.now c.window_cells.new.out c.args.empty (windowed_by c.args.term_day.now) c.requires.keep c.requires.none shown
+    shown_out c.args.term_day.now v is c.args.keep.now c.window_cells.new.out c.args.empty (windowed_by c.args.term_day.now 0) c.requires.keep c.requires.none shown
     (λ i h. window_given c.args.term_day.now v is c.requires.kind i h)

@@ -1,5 +1,5 @@
 use Rattle.std.proofs.Common.{arith}
-use Rattle.pl_elementary.proofs.Bits.{few-bits, half-fits, next-fits, stepped, ended}
+use Rattle.pl_elementary.proofs.Bits.{half, few-bits, next-fits, stepped, ended}
 use Rattle.pl_elementary.proofs.logarithm.log_bits.Goals as goal
 
 pub bits-init : goal.bits-init
@@ -11,17 +11,15 @@ overflow_add-bits c =
     let e = stepped c.bits.bits c.bits.left c.bits.s c.args.start (omega (arith, c.bits-test.true)) i.few i.fits i.all in
     rw c.bit.ensures (record { fits = omega (arith, e, few-bits 60 c.args.start) })
 
-pub squared-s-requires : goal.squared-s-requires
-squared-s-requires c = rw c.halved.ensures (half-fits c.bits.s c.bits.invariant.fits)
-
 pub bits-preserved : goal.bits-preserved
 bits-preserved c =
     let i = c.bits.invariant in
     let e = stepped c.bits.bits c.bits.left c.bits.s c.args.start (omega (arith, c.bits-test.true)) i.few i.fits i.all in
+    let squares = c.squared_half-s.ensures (half c.bits.s) c.twice_halved.ensures in
     record {
-      all = rw (c.bit.ensures, c.squared-s.ensures, c.halved.ensures) e;
+      all = rw (c.bit.ensures, squares) e;
       few = omega (arith, i.few);
-      fits = rw (c.squared-s.ensures, c.halved.ensures) (next-fits c.bits.s i.fits);
+      fits = rw squares (next-fits c.bits.s i.fits);
     }
 
 pub returns-clause-value : goal.returns-clause-value

@@ -1,6 +1,8 @@
 use Rattle.std.proofs.Common.{◌≡◌, ◌<◌, ◌∙◌, sym, ap, inl, inr, refl, length, min, arith}
 use Rattle.std.specs.Str.Parse.{AllDigits, digits_value}
+use Rattle.std.proofs.lemmas.Int.Digits.{digits_value-lt}
 use Rattle.pl_spec.specs.Decimals.{Decimal}
+use Rattle.pl_fixed.proofs.DigitLemmas.{AllDigits-front}
 use Rattle.pl_fixed.proofs.ReadingLemmas.{full_front, part-digits, part-read, part-refused}
 use Rattle.pl_fixed.specs.Reading.{front_digits}
 use Rattle.pl_fixed.specs.declared.digits.TheConstants.{MOST_VALUE}
@@ -19,10 +21,25 @@ pub returns-in-Some : goal.returns-in-Some
 returns-in-Some c = λ whole units.
     let ds = c.args.fraction.now in
     let d : Decimal = record { negative = c.args.negative; whole = whole; fraction = ds } in
-    let six = c.in-Some.ensures in
+    let two = c.in-Some.ensures in
+    let some : 0 < length ds = omega (arith, two.count) in
+    c.judge.ensures d two.digits refl units (omega (arith, two.number, two.small)) (sym two.count)
+    ∙ sym (part-read c.args.negative whole ds some two.digits)
+
+pub returns-in-Some-six_digits : goal.returns-in-Some-six_digits
+returns-in-Some-six_digits c = λ whole units.
+    let ds = c.args.fraction.now in
+    let d : Decimal = record { negative = c.args.negative; whole = whole; fraction = ds } in
+    let six = c.in-Some-six_digits.ensures in
     let some : 0 < length ds = omega (arith, six.count) in
-    c.judge.ensures d six.digits refl units (omega (arith, six.number, six.small)) (sym six.count)
+    c.judge-in-Some-six_digits.ensures d six.digits refl units (omega (arith, six.number, six.small)) (sym six.count)
     ∙ sym (part-read c.args.negative whole ds some six.digits)
+
+pub judge-requires-2-clause-part : goal.judge-requires-2-clause-part
+judge-requires-2-clause-part c =
+    let front = front_digits c.args.fraction.now in
+    rw c.front_number-digits.ensures.count
+    (omega (arith, c.front_number-digits.ensures.number, digits_value-lt 10 front (AllDigits-front c.args.fraction.now)))
 
 pub returns : goal.returns
 returns c = λ whole units.

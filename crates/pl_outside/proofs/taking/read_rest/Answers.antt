@@ -10,6 +10,8 @@ loop-count-preserved g c = record {
       (g.met.T.Taker.joined _ _ _ _ _ c.loop-count.invariant.on.took c.in_ok-take.ensures);
   named = search rules;
   later = search rules;
+  given = search rules;
+  calls = search rules;
   quiet = search rules;
   keeps = search rules;
   stays = search rules;

@@ -1,4 +1,5 @@
 use Rattle.std.proofs.Common.{◌≡◌, ◌≤◌, ◌+◌, ◌-◌, IsTrue}
+use Rattle.pl_outside.specs.Counts.{count_plus}
 use Rattle.pl_outside.proofs.HandedOn.{IsHandedOn, RestIs, Gave}
 use Rattle.pl_outside.proofs.taking.read_rest.Given as goal
 
@@ -12,6 +13,8 @@ invariant-loop-count g l =
           (Gave (shelf.gave l.fn.shelf) (shelf.gave l.shelf));
       named : shelf.begun l.shelf ≡ shelf.begun l.fn.shelf;
       later : shelf.faults l.fn.shelf ≤ shelf.faults l.shelf;
+      given : shelf.given l.shelf ≡ count_plus (shelf.given l.fn.shelf) l.count;
+      calls : shelf.calls l.shelf ≤ shelf.calls l.fn.shelf + l.count;
       quiet : IsTrue (shelf.sound l.fn.shelf) → shelf.faults l.shelf ≡ shelf.faults l.fn.shelf;
       keeps : shelf.holds l.shelf ≡ shelf.holds l.fn.shelf;
       stays : shelf.sound l.shelf ≡ shelf.sound l.fn.shelf;

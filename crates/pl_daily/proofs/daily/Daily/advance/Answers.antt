@@ -1,5 +1,6 @@
-use Rattle.std.proofs.Common.{◌≡◌, subst, sym, ◌∙◌, ap, rules, arith}
+use Rattle.std.proofs.Common.{◌≡◌, map, subst, sym, ◌∙◌, ap, rules, arith}
 use Rattle.pl_terms.specs.Checked.{IsChecked}
+use Rattle.pl_daily.specs.Changes.{column_event}
 use Rattle.pl_daily.specs.Days.{IsLaterThan}
 use Rattle.pl_daily.specs.Daily.{Held, last_of}
 use Rattle.pl_daily.specs.Steps.{IsMidway}
@@ -20,7 +21,7 @@ take_terms-requires g c =
     let have = c.requires.may_follow later in
     let next = next_of day.day day.bars.now day.events.now in
     let mid = midway c.args.self.now day.day day.bars.now day.events.now have.0 later have.1 have.2 c.take_bars.new.self.bars c.take_bars.ensures.bars in
-    (next, have.0, subst (λ (h : Held). IsMidway h day.day next have.0) (sym {b = record c.args.self.now { bars = c.take_bars.new.self.bars }} c.take_bars.ensures.rest) mid)
+    (next, have.0, subst (λ (h : Held). IsMidway h day.day (map column_event day.events.now) next have.0) (sym {b = record c.args.self.now { bars = c.take_bars.new.self.bars }} c.take_bars.ensures.rest) mid)
 
 pub take_session-requires : goal.take_session-requires
 take_session-requires g c =

@@ -1,4 +1,4 @@
-use Rattle.std.proofs.Common.{◌≡◌, ◌<◌, length, subst, sym, ◌∙◌, ap, arith, refl, All}
+use Rattle.std.proofs.Common.{◌≡◌, ◌<◌, length, subst, sym, ◌∙◌, ap, arith, refl, false, All}
 use Rattle.std.proofs.lemmas.List.{length-replicate}
 use Rattle.pl_terms.specs.Checked.{pipeline_of}
 use Rattle.pl_daily.specs.Columns.{AreBarRings, BeginColumns}
@@ -24,12 +24,14 @@ invariant_of-result c =
       checked = c.count-terms.ensures.checked;
       columns = columns_fit n p x bars terms starts c.column_windows.ensures room are begun begun_starts;
       windows = λ u t e. (begun.each u t e).capacity;
-      terms = terms_are n p x bars terms starts c.column_windows.ensures room are begun begun_starts;
+      terms = terms_are n p x bars terms starts c.column_windows.ensures room are begun begun_starts c.count-terms.ensures.checked;
       starts = starts_are n p x bars terms starts c.column_windows.ensures room are begun begun_starts;
       since = ap length c.in_ok-begin_since.ensures ∙ length-replicate c.count-terms.result no_session ∙ count;
       room = subst (λ m. IsRoom n m c.in_ok-reserve.field-0) count (subst (λ m. IsRoom m c.count-terms.result c.in_ok-reserve.field-0) many c.in_ok-reserve.ensures);
       kept_room = omega (arith, many, c.in_ok-with_capacity.ensures.capacity);
       kept = subst (All (λ i. i < n)) (sym c.in_ok-with_capacity.ensures.items) (λ k d l. absurd (omega (arith, l)));
+      depths = c.in_ok-depths.ensures;
+      changed = ap length (c.in_ok-vec.ensures.items_if_clones_equal (λ y same. same)) ∙ length-replicate c.len-many.result false ∙ many;
     }
 
 pub returns-clause-stands : goal.returns-clause-stands

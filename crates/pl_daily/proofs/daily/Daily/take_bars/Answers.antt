@@ -8,12 +8,12 @@ use Rattle.pl_daily.proofs.daily.Daily.take_bars.Goals as goal
 
 pub advance-requires-clause-rings : goal.advance-requires-clause-rings
 advance-requires-clause-rings g c =
-    let are = c.self.invariant.terms.bar_rings in
+    let are = c.self.invariant.terms.room.bar_rings in
     subst (λ n. AreBarRings n c.self.inside.bars) (sym are.row) are
 
 pub advance-requires-clause-handed_in : goal.advance-requires-clause-handed_in
 advance-requires-clause-handed_in g c =
-    let are = c.self.invariant.terms.bar_rings in
+    let are = c.self.invariant.terms.room.bar_rings in
     subst (λ n. IsHandedIn n c.self.inside.fed c.args.day.now.bars.now c.args.day.now.events.now) (sym are.row)
     (subst (λ (h : Held). IsHandedIn (length h.assets) h.fed c.args.day.now.bars.now c.args.day.now.events.now) (sym c.self.view_is) c.requires)
 
@@ -32,6 +32,8 @@ invariant_of-self g c =
       room = i.room;
       kept_room = i.kept_room;
       kept = i.kept;
+      depths = i.depths;
+      changed = i.changed;
     }
 
 pub returns-clause-bars : goal.returns-clause-bars

@@ -18,5 +18,5 @@ put_kept-requires-clause-screen c =
     (λ t e.
     let inside : t < length terms = (let l = screen-in p i.checked t e in omega (arith, l, i.terms.many)) in
     let x = slice_get-some terms t inside in
-    ap (λ o. length (row_of o)) x.1 ∙ (i.terms.full t x.0 (screen-used p i.checked t e) x.1).row)
+    ap (λ o. length (row_of o)) x.1 ∙ (i.terms.room.full t x.0 (screen-used p i.checked t e) x.1).row)
     (c.screen_row-screen.ensures ∙ ap (λ ts. number_row ts p.screen) c.deref.ensures.value)

@@ -22,6 +22,8 @@ invariant_of-self c =
           (record { cross = i.room.cross; first = i.room.first; second = i.room.second; third = i.room.third; keep = i.room.keep; out = i.room.out; sessions = e.sessions });
       kept_room = i.kept_room;
       kept = i.kept;
+      depths = i.depths;
+      changed = i.changed;
     }
 
 pub returns-clause-since : goal.returns-clause-since

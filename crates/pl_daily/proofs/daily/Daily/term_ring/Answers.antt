@@ -29,6 +29,6 @@ returns-clause-rings c =
     λ x used some is.
     let at : slice_get d.terms.items c.args.t.0 ≡ Some x = subst (λ (h : Held). slice_get h.terms c.args.t.0 ≡ Some x) (sym c.self.view_is) is in
     let same : was ≡ x = c.index.ensures ∙ get_or_from_slice_get d.terms.items c.args.t.0 x was at in
-    let full = c.self.invariant.terms.full c.args.t.0 x (subst (λ (h : Held). is_used h.pipeline c.args.t.0 ≡ true) (sym c.self.view_is) used) at in
+    let full = c.self.invariant.terms.room.full c.args.t.0 x (subst (λ (h : Held). is_used h.pipeline c.args.t.0 ≡ true) (sym c.self.view_is) used) at in
     subst (λ (h : Held). AreRings (length h.assets) was.rings.capacity x.rings.rings.items) c.self.view_is
     (subst (λ n. AreRings (length d.assets.now) n x.rings.rings.items) (ap (λ (y : TermCells). y.rings.capacity) (sym same)) (full.rings (subst (λ (y : TermCells). 0 < y.rings.capacity) same some)))
