@@ -38,6 +38,7 @@ NAMES.update(
             "exchange": Column(object),
         },
     ),
+    Events=type("Events", (DataSet,), {"call": Column(float)}),
     f=NAMES["close"].latest > 5,
     g=NAMES["volume"].latest > 0,
     abs=abs,
