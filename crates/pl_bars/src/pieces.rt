@@ -19,8 +19,8 @@ use pl_records::{has_no_quote, last_line_end};
 use std::alloc::Global;
 use std::marker::Model;
 
-/// The bars of a file that is given in pieces. Records are judged as soon as their lines are whole, so that
-/// of the text only the last line is kept; from a piece with a quote on, all that follows is.
+/// The bars of a file that is given in pieces. Records are judged as soon as their lines are whole, so that of
+/// the text only the last line is kept; from a piece with a quote on, all that follows is.
 #[derive(Drop)]
 pub struct BarsReader<'a> {
     alloc: Global,
@@ -104,7 +104,6 @@ impl<'a> BarsReader<'a> {
 impl<'a> Taker for BarsReader<'a> {
     ghost use Rattle.std.proofs.Common.{ap, sym, append_assoc, ◌∙◌};
     ghost use Rattle.std.proofs.lemmas.List.{append-nil};
-    ghost use Rattle.pl_bars.specs.InPieces.{TextSoFar};
 
     ghost after = { λ old bytes new. new ≡ record old { text = old.text ++ bytes } };
 
@@ -115,8 +114,7 @@ impl<'a> Taker for BarsReader<'a> {
 
     ghost none = { λ t. ap (λ text. record t { text = text }) (sym (append-nil t.text)) };
 
-    ghost joined = { λ a b c xs ys first second.
-        second ∙ ap (λ (t : TextSoFar). record t { text = t.text ++ ys }) first
+    ghost joined = { λ a b c xs ys first second. second ∙ ap (λ t. record t { text = t.text ++ ys }) first
         ∙ ap (λ text. record a { text = text }) (append_assoc a.text xs ys) };
 }
 

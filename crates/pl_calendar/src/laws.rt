@@ -1,10 +1,11 @@
-//! What a sessions file says, in plain words. The function does nothing: its contract is the law of
-//! the definitions that the reader's contract cites.
+//! What a sessions file says, in plain words, and how weekdays are counted. The functions do nothing: their
+//! contracts are the laws of the definitions that other contracts cite.
 
 ghost use Rattle.std.specs.Prelude.{◌≡◌, ◌<◌, ◌↔◌, ℤ, List, length, Ok, Err};
 ghost use Rattle.pl_records.specs.Reading.{Record, Fault, AreRows, Judges};
 ghost use Rattle.pl_records.specs.RuleTable.{IsFirstBroken};
-ghost use Rattle.pl_calendar.specs.Days.{DataFault, rules, day_or_rule, sessions_of};
+ghost use Rattle.pl_calendar.specs.Days.{rules, day_or_rule, sessions_of, DataFault};
+ghost use Rattle.pl_spec.specs.Ages.{WeekdaysAreCounted};
 ghost use Rattle.pl_calendar.specs.Rules.{IsSession, Breaks, IsSessionsFault};
 
 /// A file is read as sessions exactly where each record is the date of its day, later than the day
@@ -16,4 +17,10 @@ pub fn sessions_in_plain_words()
         ↔ ((0 < length days) × AreRows IsSession records days) }
     ensures fault { (records : List Record) (fault : Fault DataFault) → (sessions_of records ≡ Err fault)
         ↔ IsSessionsFault records fault }
+{}
+
+/// The number of days from Monday to Friday between two days is a difference of two numbers that rise by one on
+/// each such day, and on no other.
+pub fn weekdays_are_counted()
+    ensures { WeekdaysAreCounted }
 {}

@@ -12,12 +12,14 @@ ghost use Rattle.pl_records.specs.Records.{csv_records};
 ghost use Rattle.pl_calendar.specs.Days.{AreDays, sessions_of};
 ghost use Rattle.pl_calendar.specs.Faults.{fault_of};
 
+mod ages;
 mod error;
 pub mod laws;
 mod periods;
 mod reading;
 mod search;
 
+pub use ages::{days_between, weekdays_between};
 pub use error::CalendarError;
 pub use periods::period_of;
 use pl_fixed::{Frequency, Memory};

@@ -14,14 +14,15 @@ use Rattle.pl_grammar.specs.Script.{Head, LetHead, ColumnHead, ScreenHead, State
 use Rattle.pl_check.specs.declared.fault.CheckFault.TheVariants.{UnknownName, BadArgument}
 use Rattle.pl_check.specs.declared.operation.Operation.{Operation}
 use Rattle.pl_check.specs.Faults.{Broken, ◌>>=◌, or_fault}
-use Rattle.pl_check.specs.Values.{Value, Number, Bound}
+use Rattle.pl_check.specs.Values.{Value, Number, Bound, bound}
+use Rattle.pl_check.specs.declared.operation.Parameter.TheVariants as parameter
 use Rattle.pl_check.specs.Operations.{function_named, member_named, without_parentheses, operator}
 use Rattle.pl_check.specs.Rules.{form, broken}
 use Rattle.pl_check.specs.Typed.{is_storable, is_term_filter, bar_column, object_of, operands_of}
 use Rattle.pl_pipeline.specs.declared.Summary.TheVariants as summary
 use Rattle.pl_check.specs.declared.operation.Operation.TheVariants as op
-use Rattle.pl_check.specs.Typed.{names_one_asset}
-use Rattle.pl_check.specs.Trees.{Meaning, Forest, After, constant_of, constant_in, settled, settled_trees, tree_for, Arguments, no_arguments, made, applied, called, prefixed, combined, member_of, method_of, kept_where, told_of, mask_of, unmasked, is_one, one_asset, method_named_of, Definition, meaning_named, with_argument, meaning, arguments, TreeColumn, Judged, is_taken, stored, let_judged, column_judged, screen_judged, head_judged, statement_judged, statements_judged, ended}
+use Rattle.pl_check.specs.Typed.{names_one_asset, names_age}
+use Rattle.pl_check.specs.Trees.{Meaning, Forest, After, constant_of, constant_in, settled, settled_trees, tree_for, aged, number_named, Arguments, no_arguments, made, applied, called, prefixed, combined, member_of, method_of, kept_where, told_of, mask_of, unmasked, is_one, one_asset, method_named_of, Definition, meaning_named, with_argument, meaning, arguments, TreeColumn, Judged, is_taken, stored, let_judged, column_judged, screen_judged, head_judged, statement_judged, statements_judged, ended}
 use Rattle.pl_check.specs.Numbering.{HasMany}
 use Rattle.std.specs.Result.{IfOk}
 use Rattle.std.proofs.lemmas.Result.{IfOk-weaker}
@@ -107,10 +108,14 @@ asset-grows p m ws f =
     (λ a. then-grows of_meaning of_meaning f (called p op.StaticSids [] [] ws f) _ (called-grows p op.StaticSids [] [] ws f) (λ x. rest-grows p m x))
     (λ a. tt)
 
+age-grows : (p : Place) (m : Meaning) (ws : Arguments) (f : Forest) → Grows of_meaning f (aged p m ws f)
+age-grows p m ws f = called-grows p op.Age (bound parameter.Name (number_named f.names m.value m.tree) ∷ []) (None ∷ []) ws f
+
 pub method-grows : (v : ℕ) (p : Place) (m : Meaning) (n : List ℕ) (ws : Arguments) (f : Forest) → Grows of_meaning f (method_named_of v p m n ws f)
 method-grows v p m n ws f =
     either-ok _ (names_one_asset v n) _ _ (λ a. asset-grows p m ws f)
-    (λ a. found-ok _ UnknownName p (member_named v n) _ (λ o e. told-of-grows (mask_of o ws) p m ws f o))
+    (λ b. either-ok _ (names_age v n) _ _ (λ a. age-grows p m ws f)
+    (λ a. found-ok _ UnknownName p (member_named v n) _ (λ o e. told-of-grows (mask_of o ws) p m ws f o)))
 
 -- ---- expressions
 

@@ -1,10 +1,12 @@
 -- A typed script follows its trees, expression by expression and statement by statement.
-use Rattle.std.proofs.Common.{◌≡◌, ℕ, Bool, true, false, ◌&&◌, ◌||◌, not, cond, ◌⊎◌, List, [], ◌∷◌, ◌++◌, map, Option, Some, None, option_map, Result, Ok, Err, refl, sym, ap, ap₂, subst, ◌∙◌, inl, inr, append_assoc, append-nil, bytes_eq}
+use Rattle.std.proofs.Common.{◌≡◌, ℕ, Bool, true, false, ◌&&◌, ◌||◌, not, cond, ◌⊎◌, List, [], ◌∷◌, ◌++◌, map, Option, Some, None, option_map, slice_get, length, ◌<◌, pos, Result, Ok, Err, refl, sym, ap, ap₂, subst, ◌∙◌, inl, inr, append_assoc, append-nil, bytes_eq}
 use Rattle.std.specs.Prelude.{is_some, option_and_then}
 use Rattle.std.proofs.lemmas.List.{map-append}
 use Rattle.pl_spec.specs.declared.Column.{Column}
 use Rattle.pl_spec.proofs.Each.{each_both}
-use Rattle.pl_pipeline.specs.Term.{Term, Graph}
+use Rattle.pl_pipeline.specs.Term.{Term, Graph, Node, IsGraph, term_at, tree_over, trees}
+use Rattle.pl_pipeline.proofs.Trees.{term_at-node}
+use Rattle.pl_pipeline.proofs.Unfolds.{stands}
 use Rattle.pl_grammar.specs.declared.Place.{Place}
 use Rattle.pl_grammar.specs.declared.PrefixSign.{PrefixSign}
 use Rattle.pl_grammar.specs.declared.PrefixSign.TheVariants.{Minus}
@@ -19,14 +21,15 @@ use Rattle.pl_pipeline.specs.declared.WindowKind.TheVariants as window
 use Rattle.pl_pipeline.specs.declared.Summary.TheVariants as summary
 use Rattle.pl_check.specs.declared.operation.Operation.TheVariants as op
 use Rattle.pl_check.specs.declared.operation.Parameter.{Parameter}
+use Rattle.pl_check.specs.declared.operation.Parameter.TheVariants as parameter
 use Rattle.pl_check.specs.Faults.{Broken, ◌>>=◌, or_fault, unless}
-use Rattle.pl_check.specs.Values.{Value, Bars, Labels, Number, Text, Bound, bound}
+use Rattle.pl_check.specs.Values.{Value, Bars, Factor, Labels, Number, Text, Bound, bound}
 use Rattle.pl_check.specs.Operations.{function_named, member_named, without_parentheses, operator, prefix_operator, parameters}
 use Rattle.pl_check.specs.Rules.{Written, parameter_of, has_all, form, broken}
-use Rattle.pl_check.specs.Typed.{Terms, Found, found, Definition, bar_column, defined, value_named, made, applied, called, object_of, prefixed, operands_of, combined, member_of, method_of, written, names_mask, names_other, name_others, mask_in, without_mask, kept_where, told_of, told_method, greatest_where, one_asset, names_one_asset, method_named_of, worth, args_worth}
+use Rattle.pl_check.specs.Typed.{Terms, Found, found, Definition, bar_column, defined, value_named, made, applied, called, object_of, prefixed, operands_of, combined, member_of, method_of, written, names_mask, names_other, name_others, mask_in, without_mask, kept_where, told_of, told_method, greatest_where, one_asset, names_one_asset, name_or_none, name_of_kind, number_named, aged, names_age, method_named_of, worth, args_worth}
 use Rattle.pl_check.specs.Typed as typed
 use Rattle.pl_check.specs.Trees as by_tree
-use Rattle.pl_check.specs.Trees.{Meaning, Forest, After, after, Arguments, no_arguments, meaning_named, with_argument, meaning, arguments}
+use Rattle.pl_check.specs.Trees.{Meaning, Forest, After, after, Arguments, no_arguments, name_of_tree, meaning_named, with_argument, meaning, arguments}
 use Rattle.pl_check.proofs.Unnumbered.{unnumbered, bare, bare_written, broken-bare, form-bare, object-bare, operands-bare, operator-bare}
 use Rattle.pl_check.proofs.Rooted.{tree_of, meaning_of, IsIn, AllIn, values, in-later, tree-later, all-later, trees-later}
 use Rattle.std.specs.Result.{IfOk}
@@ -307,14 +310,59 @@ asset-agrees p v (x ∷ []) s f w i k =
     (λ b. member-method-grows p b.value no_arguments b.forest (op.Summarize summary.Greatest))))))
     (λ m. rest-grows p (meaning_of s.graph v) m)
 
+-- ---- ages of numbers
+
+-- the name is read off the term as off its node
+name-agrees : (s : Terms) (f : Forest) (v : Value) → Same s f → IsIn s.graph v → number_named s v ≡ by_tree.number_named f.names (unnumbered v) (tree_of s.graph v)
+name-agrees s f (Factor t safe) w i = ap name_or_none (here (slice_get s.graph t) refl ∙ ap (λ ns. name_of_tree ns (Some (term_at s.graph t))) w.names)
+  where
+    inside : t < length s.graph
+    inside = i t refl
+
+    here : (o : Option Node) → slice_get s.graph t ≡ o → option_and_then (λ n. name_of_kind s.names n.kind) o ≡ name_of_tree s.names (Some (term_at s.graph t))
+    here None e = absurd (let x = stands s.graph t inside in let no : None ≡ Some x.0 = sym e ∙ x.1 in cc)
+    here (Some n) e = sym (ap (λ x. name_of_tree s.names (Some x)) (term_at-node s.graph t n w.graph e))
+name-agrees s f v w i = refl
+
+-- a name, or what stands for none, is no term
+name-plain : (s : Terms) (v : Value) → (unnumbered (number_named s v) ≡ number_named s v) × (tree_of s.graph (number_named s v) ≡ None)
+name-plain s (Factor t safe) = here (option_and_then (λ n. name_of_kind s.names n.kind) (slice_get s.graph t))
+  where
+    here : (o : Option (List ℕ)) → (unnumbered (name_or_none o) ≡ name_or_none o) × (tree_of s.graph (name_or_none o) ≡ None)
+    here None = (refl, refl)
+    here (Some n) = (refl, refl)
+name-plain s v = (refl, refl)
+
+name-in : (s : Terms) (v : Value) → IsIn s.graph (number_named s v)
+name-in s (Factor t safe) = here (option_and_then (λ n. name_of_kind s.names n.kind) (slice_get s.graph t))
+  where
+    here : (o : Option (List ℕ)) → IsIn s.graph (name_or_none o)
+    here None k e = absurd (let no : None ≡ Some k = e in cc)
+    here (Some n) k e = absurd (let no : None ≡ Some k = e in cc)
+name-in s v k e = absurd (let no : None ≡ Some k = e in cc)
+
+age-agrees : (p : Place) (v : Value) (ws : List Written) (s : Terms) (f : Forest) → Same s f → IsIn s.graph v → AllIn s.graph (worths ws)
+    → Agrees of_meaning (Means s) (aged p v ws s) (by_tree.aged p (meaning_of s.graph v) (arguments_of s.graph ws) f)
+age-agrees p v ws s f w i k =
+    let x = number_named s v in
+    let plain = name-plain s v in
+    subst (λ z. Agrees of_meaning (Means s) (aged p v ws s) (by_tree.called p op.Age (bound parameter.Name z ∷ []) (None ∷ []) (arguments_of s.graph ws) f)) (name-agrees s f v w i)
+    (subst (λ z. Agrees of_meaning (Means s) (aged p v ws s) (by_tree.called p op.Age (bound parameter.Name z ∷ []) (None ∷ []) (arguments_of s.graph ws) f)) plain.0
+    (subst (λ t. Agrees of_meaning (Means s) (aged p v ws s) (by_tree.called p op.Age (bound parameter.Name (unnumbered x) ∷ []) (t ∷ []) (arguments_of s.graph ws) f)) plain.1
+    (called-agrees p op.Age (bound parameter.Name x ∷ []) ws s f w (name-in s v, tt) k)))
+
 named-method-agrees : (n : ℕ) (p : Place) (v : Value) (m : List ℕ) (ws : List Written) (s : Terms) (f : Forest) → Same s f → IsIn s.graph v → AllIn s.graph (worths ws)
     → Agrees of_meaning (Means s) (method_named_of n p v m ws s) (by_tree.method_named_of n p (meaning_of s.graph v) m (arguments_of s.graph ws) f)
 named-method-agrees n p v m ws s f w i k = here (names_one_asset n m)
   where
-    here : (b : Bool) → Agrees of_meaning (Means s) (cond b (one_asset p v ws s) (or_fault UnknownName p (member_named n m) >>= λ o. told_method p v ws s o))
-        (cond b (by_tree.one_asset p (meaning_of s.graph v) (arguments_of s.graph ws) f) (or_fault UnknownName p (member_named n m) >>= λ o. by_tree.told_method p (meaning_of s.graph v) (arguments_of s.graph ws) f o))
+    age : (b : Bool) → Agrees of_meaning (Means s) (cond b (aged p v ws s) (or_fault UnknownName p (member_named n m) >>= λ o. told_method p v ws s o)) (cond b (by_tree.aged p (meaning_of s.graph v) (arguments_of s.graph ws) f) (or_fault UnknownName p (member_named n m) >>= λ o. by_tree.told_method p (meaning_of s.graph v) (arguments_of s.graph ws) f o))
+    age true = age-agrees p v ws s f w i k
+    age false = looked-agrees of_meaning (Means s) UnknownName p (member_named n m) _ _ (λ o. told-agrees p v ws s f o w i k)
+
+    here : (b : Bool) → Agrees of_meaning (Means s) (cond b (one_asset p v ws s) (cond (names_age n m) (aged p v ws s) (or_fault UnknownName p (member_named n m) >>= λ o. told_method p v ws s o)))
+        (cond b (by_tree.one_asset p (meaning_of s.graph v) (arguments_of s.graph ws) f) (cond (names_age n m) (by_tree.aged p (meaning_of s.graph v) (arguments_of s.graph ws) f) (or_fault UnknownName p (member_named n m) >>= λ o. by_tree.told_method p (meaning_of s.graph v) (arguments_of s.graph ws) f o)))
     here true = asset-agrees p v ws s f w i k
-    here false = looked-agrees of_meaning (Means s) UnknownName p (member_named n m) _ _ (λ o. told-agrees p v ws s f o w i k)
+    here false = age (names_age n m)
 
 -- ---- names
 

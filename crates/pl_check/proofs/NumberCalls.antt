@@ -1,6 +1,6 @@
 -- A call of `number` makes a term that is a number, and nothing else does.
 use Rattle.std.proofs.Common.{◌≡◌, ℕ, zero, suc, Bool, true, false, cond, ◌||◌, nat_le, nat_lt, length, not, List, [], ◌∷◌, ◌++◌, Option, Some, None, slice_get, Result, Ok, Err, codes, refl, sym, ap, ◌∙◌, inl, inr}
-use Rattle.std.specs.Prelude.{◌↔◌, IsSome, is_some, bytes_eq, find}
+use Rattle.std.specs.Prelude.{◌↔◌, ◌&&◌, IsSome, is_some, option_and_then, if◌then◌else◌, pos, bytes_eq, find}
 use Rattle.std.specs.List.{list_all, list_any}
 use Rattle.std.specs.Result.{IfOk}
 use Rattle.std.proofs.lemmas.Bool.{and_parts}
@@ -29,12 +29,15 @@ use Rattle.pl_syntax.specs.Spells.{Parsed}
 use Rattle.pl_check.specs.declared.operation.Operation.{Operation}
 use Rattle.pl_check.specs.declared.operation.Operation.TheVariants as op
 use Rattle.pl_check.specs.Faults.{Broken, ◌>>=◌}
-use Rattle.pl_check.specs.Values.{Value, Factor, Labels, Number, Bound, bound}
+use Rattle.pl_check.specs.declared.fault.CheckFault.TheVariants.{WrongKind}
+use Rattle.pl_check.specs.declared.operation.Parameter.TheVariants as parameter
+use Rattle.pl_check.specs.Values.{Value, Factor, Labels, Number, Text, Bound, bound}
 use Rattle.pl_check.specs.Numbered.{Call, calls, calls_among, statement_calls, is_number, first_place, first_number, HasNumber, NumbersAreCalled}
 use Rattle.pl_check.specs.Operations.{Named, function_table, member_table, is_word, operation_in, first_function, function_named, member_named, operator, prefix_operator, without_parentheses}
-use Rattle.pl_check.specs.Rules.{Written, form, broken}
+use Rattle.pl_check.specs.Parameters.{takes}
+use Rattle.pl_check.specs.Rules.{Written, form, broken, each, has_all, parameter_of}
 use Rattle.pl_check.specs.Results.{constant, kind_for, node_for, names_after, result_for}
-use Rattle.pl_check.specs.Typed.{Terms, Found, found, Definition, factor_value, constant_value, place_value, asks_factor, with_constants, with_node, node_made, made, applied, called, object_of, operands_of, prefixed, combined, member_of, method_of, written, kept_where, mask_in, without_mask, told_of, told_method, one_asset, names_one_asset, method_named_of, value_named, worth, args_worth, stored, Judged, let_judged, column_judged, screen_judged, head_judged, statement_judged, statements_judged, typed, is_storable, is_term_filter, is_taken, has_column, nothing}
+use Rattle.pl_check.specs.Typed.{Terms, Found, found, Definition, factor_value, constant_value, place_value, asks_factor, with_constants, with_node, node_made, made, applied, called, object_of, operands_of, prefixed, combined, member_of, method_of, written, kept_where, mask_in, without_mask, told_of, told_method, one_asset, names_one_asset, name_or_none, name_of_kind, names_age, aged, method_named_of, value_named, worth, args_worth, stored, Judged, let_judged, column_judged, screen_judged, head_judged, statement_judged, statements_judged, typed, is_storable, is_term_filter, is_taken, has_column, nothing}
 use Rattle.pl_check.proofs.Chained.{then-ok, some-ok, found-ok, unless-ok, require-ok, either-ok}
 use Rattle.pl_check.proofs.Growing.{terms}
 use Rattle.pl_check.proofs.Placing.{bind-some}
@@ -42,7 +45,7 @@ use Rattle.pl_check.proofs.Placing.{bind-some}
 -- ---- graphs
 
 abbrev is_beside : Kind → Bool
-is_beside (kind.Number n) = true
+is_beside (kind.Number f n) = true
 is_beside k = false
 
 abbrev speaks : Graph → Bool
@@ -107,11 +110,13 @@ constants-speak done g (b ∷ bs) r h =
 
 abbrev makes : Operation → Bool
 makes op.Number = true
+makes op.Age = true
 makes o = false
 
 kind-makes : (o : Operation) (bs : List Bound) (names : List (List ℕ)) → is_beside (kind_for o bs names) ≡ makes o
 unfolding kind_for
 kind-makes op.Number bs names = refl
+kind-makes op.Age bs names = refl
 kind-makes o bs names = refl
 
 -- what is found after an operation, or after several
@@ -269,9 +274,55 @@ function-makes v n o h = here (formula_named v n) refl h
 abbrev asks : List Call → Bool
 asks cs = list_any is_number cs
 
+-- ---- the age of a number, which stands in the graph
+
+each-more : (bs : List Bound) (b : Bound) → each takes bs ≡ false → each takes (bs ++ b ∷ []) ≡ false
+each-more [] b e = absurd (let no : true ≡ false = e in cc)
+each-more (x ∷ xs) b e = here (takes x.parameter x.value) e (each-more xs b)
+  where
+    here : (t : Bool) → (t && each takes xs) ≡ false → (each takes xs ≡ false → each takes (xs ++ b ∷ []) ≡ false) → (t && each takes (xs ++ b ∷ [])) ≡ false
+    here true e more = more e
+    here false e more = refl
+
+form-refused : (o : Operation) (n : Bool) (bs : List Bound) (ws : List Written) (r : List Bound) → form o n bs ws ≡ Some r → each takes bs ≡ false → each takes r ≡ false
+unfolding form
+form-refused o n bs [] r h e = here (has_all o bs) h
+  where
+    here : (b : Bool) → (if b then Some bs else None) ≡ Some r → each takes r ≡ false
+    here true h = let same : bs ≡ r = cc in rw (← same) e
+    here false h = absurd (cc)
+form-refused o n bs (w ∷ ws) r h e =
+    let q = bind-some (parameter_of o n bs w.name) (λ p. form o (n || is_some w.name) (bs ++ bound p w.value ∷ []) ws) r h in
+    form-refused o (n || is_some w.name) (bs ++ bound q.0 w.value ∷ []) ws r q.2 (each-more bs (bound q.0 w.value) e)
+
+called-refused : (P : Found Value → Type 0) (p : Place) (o : Operation) (bs : List Bound) (ws : List Written) (s : Terms) → each takes bs ≡ false → IfOk (called p o bs ws s) P
+unfolding called applied broken
+called-refused P p o bs ws s e = found-ok _ _ p (form o false bs ws) _ (λ cs h. unless-ok _ (broken cs) p _ (λ b. absurd (let no : Some WrongKind ≡ None = rw (form-refused o false bs ws cs h e) at b in cc)))
+
+spoken : (s : Terms) (r : Result (Found Value) Broken) → speaks s.graph ≡ true → IfOk r (Adds true s) → IfOk r (Adds false s)
+spoken s (Err e) t h = tt
+spoken s (Ok x) t h = h ∙ (let same : (speaks s.graph || true) ≡ (speaks s.graph || false) = rw t refl in same)
+
+aged-of : (p : Place) (o : Option (List ℕ)) (ws : List Written) (s : Terms) → ((n : List ℕ) → o ≡ Some n → speaks s.graph ≡ true)
+    → IfOk (called p op.Age (bound parameter.Name (name_or_none o) ∷ []) ws s) (Adds false s)
+unfolding takes
+aged-of p (Some n) ws s h = spoken s _ (h n refl) (called-adds p op.Age (bound parameter.Name (Text n) ∷ []) ws s)
+aged-of p None ws s h = called-refused (Adds false s) p op.Age (bound parameter.Name (Number (pos 0)) ∷ []) ws s refl
+
+name-beside : (names : List (List ℕ)) (k : Kind) (n : List ℕ) → name_of_kind names k ≡ Some n → is_beside k ≡ true
+name-beside names (kind.Number f k) n h = refl
+name-beside names k n h = absurd (let no : None ≡ Some n = h in cc)
+
+aged-adds : (p : Place) (v : Value) (ws : List Written) (s : Terms) → IfOk (aged p v ws s) (Adds false s)
+aged-adds p (Factor t safe) ws s =
+    aged-of p (option_and_then (λ n. name_of_kind s.names n.kind) (slice_get s.graph t)) ws s
+    (λ n e. (let w = bind-some (slice_get s.graph t) (λ m. name_of_kind s.names m.kind) n e in any-at s.graph t w.0 w.1 (name-beside s.names w.0.kind n w.2)))
+aged-adds p v ws s = aged-of p None ws s (λ n e. absurd (let no : None ≡ Some n = e in cc))
+
 named-adds : (v : ℕ) (p : Place) (x : Value) (m : List ℕ) (ws : List Written) (s : Terms) → IfOk (method_named_of v p x m ws s) (Adds false s)
 named-adds v p x m ws s =
-    either-ok _ (names_one_asset v m) _ _ (λ e. asset-adds p x ws s) (λ e. found-ok _ _ p (member_named v m) _ (λ o h. told-adds p x ws s o (member-makes v m o h)))
+    either-ok _ (names_one_asset v m) _ _ (λ e. asset-adds p x ws s)
+    (λ e. either-ok _ (names_age v m) _ _ (λ a. aged-adds p x ws s) (λ a. found-ok _ _ p (member_named v m) _ (λ o h. told-adds p x ws s o (member-makes v m o h))))
 
 asks-both : (cs ds : List Call) → (asks cs || asks ds) ≡ asks (cs ++ ds)
 asks-both cs ds = sym (list_any-append is_number cs ds)
@@ -380,14 +431,14 @@ has-number [] e = absurd (let no : false ≡ true = e in cc)
 has-number (n ∷ ns) e = here n.kind refl (λ q. has-number ns q)
   where
     later : HasNumber ns → HasNumber (n ∷ ns)
-    later w = (suc w.0, w.1, w.2, w.3, w.4)
+    later w = (suc w.0, w.1, w.2, w.3, w.4, w.5)
 
     here : (k : Kind) → n.kind ≡ k → (speaks ns ≡ true → HasNumber ns) → HasNumber (n ∷ ns)
-    here (kind.Number m) q more = (0, m, n, refl, q)
+    here (kind.Number f m) q more = (0, m, f, n, refl, q)
     here k q more = later (more (sym (ap (λ x. is_beside x || speaks ns) q) ∙ e))
 
 number-has : (g : Graph) → HasNumber g → speaks g ≡ true
-number-has g w = any-at g w.0 w.2 w.3 (ap is_beside w.4)
+number-has g w = any-at g w.0 w.3 w.4 (ap is_beside w.5)
 
 pub numbers-called : NumbersAreCalled
 unfolding first_number

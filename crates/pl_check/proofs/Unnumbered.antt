@@ -165,6 +165,7 @@ kind-bare o bs names = first_of (cc, simp (number-given), simp (text-given))
 pub names-bare : (o : Operation) (bs : List Bound) (names : List (List ℕ)) → names_after o (map bare bs) names ≡ names_after o bs names
 names-bare op.Label bs names = ap (with_name names) (text-given bs parameter.Name)
 names-bare op.Number bs names = ap (with_name names) (text-given bs parameter.Name)
+names-bare op.Age bs names = ap (with_name names) (text-given bs parameter.Name)
 names-bare o bs names = refl
 
 window-of-bare : (o : Operation) (v w : Option Value) → window_of o (option_map unnumbered v) (option_map unnumbered w) ≡ window_of o v w

@@ -1,6 +1,7 @@
 -- The first call of the function `number` in a script, and the terms that such calls make.
 use Rattle.std.specs.Prelude.{◌≡◌, ◌↔◌, ℕ, Bool, List, [], ◌∷◌, ◌++◌, codes, Option, Some, IsSome, option_map, bytes_eq, slice_get, Ok}
 use Rattle.std.specs.List.{find}
+use Rattle.pl_spec.specs.declared.Figure.{Figure}
 use Rattle.pl_pipeline.specs.Kind.{Number}
 use Rattle.pl_pipeline.specs.Term.{Graph, Node}
 use Rattle.pl_pipeline.specs.Table.{Pipeline}
@@ -47,7 +48,7 @@ first_number s = first_place (statement_calls s.statements)
 
 -- a term of the graph is a number of a file
 abbrev pub HasNumber : Graph → Type 0
-HasNumber g = (k name : ℕ) × (n : Node) × (slice_get g k ≡ Some n) × (n.kind ≡ Number name)
+HasNumber g = (k name : ℕ) × (figure : Figure) × (n : Node) × (slice_get g k ≡ Some n) × (n.kind ≡ Number figure name)
 
 -- a typed script has such a term exactly where it calls that function
 abbrev pub NumbersAreCalled : Type 0

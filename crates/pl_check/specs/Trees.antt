@@ -1,6 +1,6 @@
 -- What a script means without numbers: the tree of each expression, and the trees of all terms of the script
 -- in the order of judging, equal ones too. Kinds, windows and rules are those of the typed script.
-use Rattle.std.specs.Prelude.{ℕ, nat_le, nat_lt, Bool, true, false, ◌||◌, not, if◌then◌else◌, ℤ, List, [], ◌∷◌, ◌++◌, length, map, filter_map, Option, Some, None, is_some, option_and_then, option_to_list, bytes_eq, Result, Ok, Err, get_or}
+use Rattle.std.specs.Prelude.{ℕ, nat_le, nat_lt, Bool, true, false, ◌||◌, not, if◌then◌else◌, ℤ, pos, List, [], ◌∷◌, ◌++◌, length, map, filter_map, Option, Some, None, is_some, option_and_then, option_to_list, bytes_eq, Result, Ok, Err, get_or}
 use Rattle.std.specs.Option.{option_or}
 use Rattle.std.specs.List.{list_any}
 use lib.IntN.{neg_ℤ}
@@ -21,13 +21,14 @@ use Rattle.pl_check.specs.declared.operation.Operation.{Operation}
 use Rattle.pl_check.specs.declared.operation.Operation.TheVariants as operation
 use Rattle.pl_check.specs.declared.operation.Parameter.{Parameter}
 use Rattle.pl_check.specs.declared.operation.Parameter.TheVariants.{Mask, Groupby}
+use Rattle.pl_check.specs.declared.operation.Parameter.TheVariants as parameter
 use Rattle.pl_check.specs.Parameters.{same_parameter}
 use Rattle.pl_check.specs.Faults.{Broken, ◌>>=◌, or_fault, unless}
 use Rattle.pl_check.specs.Values.{Value, Bars, Factor, Number, Text, Bound, bound, given}
 use Rattle.pl_check.specs.Operations.{function_named, member_named, without_parentheses, operator, prefix_operator, parameters}
 use Rattle.pl_check.specs.Rules.{Written, form, broken}
 use Rattle.pl_check.specs.Results.{kind_for, columns_of, gives_input, window_for, result_for, names_after}
-use Rattle.pl_check.specs.Typed.{bar_column, asks_factor, object_of, operands_of, written, names_mask, name_others, without_mask, names_one_asset, is_storable, is_term_filter, require}
+use Rattle.pl_check.specs.Typed.{bar_column, asks_factor, object_of, operands_of, written, names_mask, name_others, without_mask, names_one_asset, names_age, name_or_none, name_of_kind, is_storable, is_term_filter, require}
 
 -- What an expression is, and its tree where it is a term. No term has a number here: in the value it is 0.
 pub record Meaning : Type 0 where
@@ -196,9 +197,22 @@ one_asset p m ws s =
     then (called p operation.StaticSids [] [] ws s >>= λ f. kept_where p m f.value f.forest >>= λ r. method_of p r.value no_arguments r.forest (operation.Summarize summary.Greatest))
     else Err (record { fault = BadArgument; place = p })
 
+-- the age of a number, whose name is that of its tree
+abbrev pub name_of_tree : List (List ℕ) → Option Term → Option (List ℕ)
+name_of_tree names (Some (node k size x y z mask group)) = name_of_kind names k
+name_of_tree names t = None
+
+abbrev pub number_named : List (List ℕ) → Value → Option Term → Value
+number_named names (Factor t safe) tree = name_or_none (name_of_tree names tree)
+number_named names v tree = Number (pos 0)
+
+abbrev pub aged : Place → Meaning → Arguments → Forest → Result (After Meaning) Broken
+aged p m ws s = called p operation.Age (bound parameter.Name (number_named s.names m.value m.tree) ∷ []) (None ∷ []) ws s
+
 abbrev pub method_named_of : ℕ → Place → Meaning → List ℕ → Arguments → Forest → Result (After Meaning) Broken
 method_named_of version p m n ws s =
     if names_one_asset version n then one_asset p m ws s
+    else if names_age version n then aged p m ws s
     else (or_fault UnknownName p (member_named version n) >>= λ o. told_method p m ws s o)
 
 -- ---- expressions

@@ -1,9 +1,9 @@
-//! What a text names of a few: a method of ranks, an order, a frequency.
+//! What a text names of a few: a method of ranks, an order, a frequency, a unit of ages.
 ghost use Rattle.std.specs.Prelude.{◌≡◌};
 ghost use Rattle.pl_check.specs.Given as spec;
 
 use pl_pipeline::{RankMethod, RankOrder};
-use pl_spec::Frequency;
+use pl_spec::{Figure, Frequency};
 
 /// The method of ranks that a text names.
 #[tactic(auto, unfolding(crate::specs::Given::method_of))]
@@ -32,6 +32,18 @@ pub(crate) fn order_of(text: &[u8]) -> RankOrder
         RankOrder::Descending
     } else {
         RankOrder::Ascending
+    }
+}
+
+/// What is read of a number for its age in the unit that a text names.
+#[tactic(auto, unfolding(crate::specs::Given::figure_of))]
+pub(crate) fn figure_of(text: &[u8]) -> Figure
+    ensures { result ≡ spec.figure_of text.now }
+{
+    if text == b"business_days".as_slice() {
+        Figure::BusinessDays
+    } else {
+        Figure::Days
     }
 }
 

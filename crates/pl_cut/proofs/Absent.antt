@@ -5,11 +5,12 @@ use Rattle.std.proofs.lemmas.Bool.{and_parts, or_left, eqb-true, ne_eqb, cases_e
 use Rattle.std.proofs.lemmas.Int.{ints}
 use Rattle.pl_spec.specs.declared.AssetRow.{AssetRow}
 use Rattle.pl_spec.specs.declared.Column.{Column}
-use Rattle.pl_spec.specs.Numbers.{NumberRow, number_at, last_known, is_number_of}
+use Rattle.pl_spec.specs.Numbers.{NumberRow, read_of, number_at, last_known, is_number_of}
 use Rattle.pl_spec.specs.Rounding.{MISSING}
 use Rattle.pl_spec.specs.Window.{effects_from, effects, after_all, seen_cell}
 use Rattle.pl_spec.specs.World.{World, LabelRow, Adjustment, events_of, day_of, lives_on, living_sids, exists, cell_of, bar_cell, last_started, nonempty, is_label_of, label_at, known_number}
 use Rattle.pl_spec.proofs.Lists.{filter-filter, filter-swap}
+use Rattle.pl_spec.specs.declared.Figure.{Figure}
 use Rattle.pl_laws.proofs.Alike.{day_of-days}
 use Rattle.pl_cut.specs.Cuts.{without}
 use Rattle.pl_cut.specs.Within.{AgreeWithin}
@@ -95,13 +96,13 @@ module _ (w : World) (a : ℕ) where
             ap (λ rows. option_and_then (λ (r : LabelRow). nonempty r.text) (last_started rows))
             (rows-kept (λ (r : LabelRow). r.sid) (is_label_of name b day) (λ r e. (and_parts _ _ (and_parts _ _ e).0).1) w.labels)
 
-    numbers-kept : (name : List ℕ) (d : ℤ) → known_number w name b d ≡ known_number part name b d
-    numbers-kept name d = on_day (day_of w d) ∙ ap (λ o. unwrap_or (option_map (number_at part.numbers name b) o) MISSING) (same_days d)
+    numbers-kept : (f : Figure) (name : List ℕ) (d : ℤ) → known_number w f name b d ≡ known_number part f name b d
+    numbers-kept f name d = on_day (day_of w d) ∙ ap (λ o. unwrap_or (option_map (number_at f part.numbers name b) o) MISSING) (same_days d)
       where
-        on_day : (o : Option ℤ) → unwrap_or (option_map (number_at w.numbers name b) o) MISSING ≡ unwrap_or (option_map (number_at part.numbers name b) o) MISSING
+        on_day : (o : Option ℤ) → unwrap_or (option_map (number_at f w.numbers name b) o) MISSING ≡ unwrap_or (option_map (number_at f part.numbers name b) o) MISSING
         on_day None = refl
         on_day (Some day) =
-            ap (λ rows. unwrap_or (option_map (λ (r : NumberRow). r.value) (last_known rows)) MISSING)
+            ap (λ rows. unwrap_or (option_map (read_of f day) (last_known rows)) MISSING)
             (rows-kept (λ (r : NumberRow). r.sid) (is_number_of name b day) (λ r e. (and_parts _ _ (and_parts _ _ e).0).1) w.numbers)
 
   pub agrees : (first last : ℤ) → ((d : ℤ) → first ≤ℤ d → d ≤ℤ last → exists w a d ≡ false) → AgreeWithin w part first last
@@ -110,7 +111,7 @@ module _ (w : World) (a : ℕ) where
     assets = λ d h l. assets-kept d (absent d h l);
     cells = λ b c s d h l m e. cells-kept b (another b d (absent d (omega (arith, ints)) m) e) c s d;
     labels = λ name b d h l e. labels-kept b (another b d (absent d h l) e) name d;
-    numbers = λ name b d h l e. numbers-kept b (another b d (absent d h l) e) name d;
+    numbers = λ f name b d h l e. numbers-kept b (another b d (absent d h l) e) f name d;
   }
 
 pub absent_assets_change_nothing : AbsentAssetsChangeNothing

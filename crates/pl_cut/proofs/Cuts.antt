@@ -9,12 +9,13 @@ use Rattle.std.proofs.lemmas.Int.{ints}
 use Rattle.std.proofs.lemmas.List.Kept.{AllPairs-filter}
 use Rattle.pl_spec.specs.declared.AssetRow.{AssetRow}
 use Rattle.pl_spec.specs.declared.Column.{Column}
-use Rattle.pl_spec.specs.Numbers.{NumberRow, number_at}
+use Rattle.pl_spec.specs.Numbers.{NumberRow, read_of, number_at}
 use Rattle.pl_spec.specs.Rounding.{MISSING}
 use Rattle.pl_spec.specs.Window.{change_effect, effect, is_between, effects_in, effects_from, effects, after_all, seen_cell}
 use Rattle.pl_spec.specs.World.{World, IsWorld, LabelRow, Bar, Change, Event, Adjustment, events_of, day_of, lives_on, living_sids, exists, cell_of, bar_cell, last_started, nonempty, is_label_of, label_at, known_number}
 use Rattle.pl_spec.specs.World.Change.{Scale, Overwrite}
 use Rattle.pl_spec.proofs.Lists.{filter-filter, filter-map}
+use Rattle.pl_spec.specs.declared.Figure.{Figure}
 use Rattle.pl_pipeline.specs.Table.{table}
 use Rattle.pl_laws.proofs.Chunks.{table-split}
 use Rattle.pl_laws.proofs.Alike.{day_of-days}
@@ -164,14 +165,14 @@ module _ (w : World) (span : Span) where
               ap (option_and_then (λ (r : LabelRow). nonempty r.text))
               (sym (newest_same (λ (r : LabelRow). r.name) (λ r. r.sid) (λ r. r.start) w.labels (is_of w span) span.first_day span.last_day name a day of (from_first d day h e) (by_last d day l e)))
 
-      numbers-kept : (name : List ℕ) (d : ℤ) → pos span.first ≤ℤ d → d ≤ℤ pos span.last → known_number w name a d ≡ known_number part name a d
-      numbers-kept name d h l = on_day (day_of w d) refl ∙ ap (λ o. unwrap_or (option_map (number_at part.numbers name a) o) MISSING) (same_days d)
+      numbers-kept : (f : Figure) (name : List ℕ) (d : ℤ) → pos span.first ≤ℤ d → d ≤ℤ pos span.last → known_number w f name a d ≡ known_number part f name a d
+      numbers-kept f name d h l = on_day (day_of w d) refl ∙ ap (λ o. unwrap_or (option_map (number_at f part.numbers name a) o) MISSING) (same_days d)
         where
           on_day : (o : Option ℤ) → day_of w d ≡ o
-              → unwrap_or (option_map (number_at w.numbers name a) o) MISSING ≡ unwrap_or (option_map (number_at part.numbers name a) o) MISSING
+              → unwrap_or (option_map (number_at f w.numbers name a) o) MISSING ≡ unwrap_or (option_map (number_at f part.numbers name a) o) MISSING
           on_day None e = refl
           on_day (Some day) e =
-              ap (λ o. unwrap_or (option_map (λ (r : NumberRow). r.value) o) MISSING)
+              ap (λ o. unwrap_or (option_map (read_of f day) o) MISSING)
               (sym (newest_same (λ (r : NumberRow). r.name) (λ r. r.sid) (λ r. r.known) w.numbers (is_of w span) span.first_day span.last_day name a day of (from_first d day h e) (by_last d day l e)))
 
     pub agrees : AgreeWithin w part (pos span.first) (pos span.last)
@@ -180,7 +181,7 @@ module _ (w : World) (span : Span) where
       assets = assets-kept;
       cells = λ a c s d h l m e. cells-kept a (of_alive a d (omega (arith, ints)) m e) c s d h l m;
       labels = λ name a d h l e. labels-kept a (of_alive a d h l e) name d h l;
-      numbers = λ name a d h l e. numbers-kept a (of_alive a d h l e) name d h l;
+      numbers = λ f name a d h l e. numbers-kept a (of_alive a d h l e) f name d h l;
     }
 
 pub cuts_agree : CutsAgree

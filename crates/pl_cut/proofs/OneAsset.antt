@@ -1,6 +1,7 @@
 -- Where two worlds tell the same of what a kind reads for an asset, it gives the same.
 use Rattle.std.proofs.Common.{◌≡◌, ℕ, ℤ, List, [], refl, sym, ◌∙◌}
 use Rattle.pl_spec.specs.World.{World, living_sids, label_at, known_number}
+use Rattle.pl_spec.specs.declared.Figure.{Figure}
 use Rattle.pl_pipeline.specs.Graph.{reads_at}
 use Rattle.pl_pipeline.specs.Kind.{Kind}
 use Rattle.pl_pipeline.specs.Kind.Kind.{Window, Point}
@@ -25,7 +26,7 @@ Counts k a b = Unit {0}
 -- reads them at, its mask and its group on d. Only windows are read over more than a session.
 pub record SameForAsset (w v : World) (k : Kind) (size : ℕ) (o q : Operands) (a : ℕ) (d : ℤ) : Type 0 where
   pub labels : (name : List ℕ) → label_at w name a d ≡ label_at v name a d
-  pub numbers : (name : List ℕ) → known_number w name a d ≡ known_number v name a d
+  pub numbers : (f : Figure) (name : List ℕ) → known_number w f name a d ≡ known_number v f name a d
   pub living : living_sids w d ≡ living_sids v d
   pub reads : reads_at w.days k d ≡ reads_at v.days k d
   pub first : (b : ℕ) → Counts k a b → Alike o.first q.first b (reads_at w.days k d)

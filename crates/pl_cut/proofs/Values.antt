@@ -122,7 +122,7 @@ module _ (w v : World) (first last : ℤ) (same : AgreeWithin w v first last) wh
       = λ b. now_same Own m _ _ 1 d (omega arith) (seen_same names m ok.4 Own) parts.1.1.1.1.0 b (shown_own b d l) in
       let reads : SameForAliveAsset names t view a d = λ alive. record {
         labels = λ name. same.labels name a d from l alive;
-        numbers = λ name. same.numbers name a d from l alive;
+        numbers = λ f name. same.numbers f name a d from l alive;
         living = same.assets d from l;
         reads = reads_at-same w.days v.days last (λ i near. same.days (pos i) near) k d l;
         first = λ b e. now_same inner x _ _ size read ok.0 (seen_same names x ok.1 inner) parts.1.0 b (inner_shown k view a d s alive b e);

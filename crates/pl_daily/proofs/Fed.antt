@@ -205,7 +205,7 @@ module _ (g : Start) (now next : FedDay) (earlier : List FedDay) (start : IsStar
     adjustments = events_stay;
     lifetimes = lives_on_day;
     labels = λ name a s below. labels-of_days (fed g (now ∷ earlier)) (fed g (next ∷ now ∷ earlier)) refl name a s (days_stay s below);
-    numbers = λ name a x below. refl;
+    numbers = λ f name a x below. refl;
   }
     where
       on_bars : (a : ℕ) (c : Column) (s : ℤ) → s <ℤ pos (length earlier) → bar_cell (fed g (now ∷ earlier)) a c s ≡ bar_cell (fed g (next ∷ now ∷ earlier)) a c s

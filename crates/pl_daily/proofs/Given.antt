@@ -14,6 +14,7 @@ use Rattle.pl_pipeline.specs.Term as spec
 use Rattle.pl_pipeline.specs.Term.Input.{BarColumn, TermInput}
 use Rattle.pl_pipeline.specs.Table.{Pipeline}
 use Rattle.pl_spec.specs.Window.{before, downward, seen_cell}
+use Rattle.pl_spec.specs.declared.Figure.{Figure}
 use Rattle.pl_terms.specs.declared.node.TermId.{TermId}
 use Rattle.pl_terms.specs.Nodes.{number_of, graph_of}
 use Rattle.pl_terms.specs.Sorts.{is_windowed}
@@ -101,9 +102,9 @@ module _ (t : TermDay) (v : Moment) (is : IsTermDay t v) where
       (same ∙ sym (ap (label_code w.texts) (is.here.labels name i h) ∙ ap (λ texts. label_code texts (label_on t.labels.now.rows name i t.day)) is.here.texts)) cell
 
   -- a number is that of the column
-  pub number_given : (number i : ℕ) (name : List ℕ) (x : ℤ) → n.kind ≡ Number number → slice_get p.names number ≡ Some name → i < assets_at t
-      → x ≡ number_on (rows_lent t.numbers) name i t.day → IsCell x → IsGivenCell w p sids t.term.0 n i s x
-  number_given number i name x e named h same cell = number-given w p sids t.term.0 n node_is i s x number name e named (same ∙ sym (is.here.known name i h)) cell
+  pub number_given : (f : Figure) (number i : ℕ) (name : List ℕ) (x : ℤ) → n.kind ≡ Number f number → slice_get p.names number ≡ Some name → i < assets_at t
+      → x ≡ number_on f (rows_lent t.numbers) name i t.day → IsCell x → IsGivenCell w p sids t.term.0 n i s x
+  number_given f number i name x e named h same cell = number-given w p sids t.term.0 n node_is i s x f number name e named (same ∙ sym (is.here.known f name i h)) cell
 
   -- a downsampled term has the cells that its input had on the first session of the period
   module _ (f : Frequency) (e : n.kind ≡ Downsample f) where

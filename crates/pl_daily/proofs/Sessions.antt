@@ -13,6 +13,7 @@ use Rattle.pl_spec.specs.Window.{before}
 use Rattle.pl_spec.specs.Rounding.{MISSING}
 use Rattle.pl_spec.specs.World.{World, day_of, exists, label_at, known_number, living_sids, lives_on}
 use Rattle.pl_spec.proofs.Columns.{no_asset}
+use Rattle.pl_spec.specs.declared.Figure.{Figure}
 use Rattle.pl_assets.specs.Labels.{LabelTable, AreLabels, label_on}
 use Rattle.pl_assets.proofs.LabelWorlds.{labels_those}
 use Rattle.pl_numbers.specs.Numbers.{number_on}
@@ -102,12 +103,12 @@ module _ (g : Start) (table : LabelTable) (next : FedDay) (days : List FedDay) (
   unfolding fed
   texts_here = refl
 
-  numbers_here : (name : List ℕ) (i : ℕ) → i < length g.assets → known_number w name (sid_in (sids_of g.assets) i) (pos (length days)) ≡ number_on g.numbers name i next.day
+  numbers_here : (f : Figure) (name : List ℕ) (i : ℕ) → i < length g.assets → known_number w f name (sid_in (sids_of g.assets) i) (pos (length days)) ≡ number_on f g.numbers name i next.day
   unfolding fed
-  numbers_here name i h =
-      ap (λ a. known_number w name a (pos (length days))) (sid_is i h ∙ sym (sid_place i h))
-      ∙ ap (λ o. unwrap_or (option_map (number_at w.numbers name (sid_at g.assets i)) o) MISSING) last_is
-      ∙ numbers_those g.assets g.numbers start.sids_ascend start.numbers_in name i next.day h
+  numbers_here f name i h =
+      ap (λ a. known_number w f name a (pos (length days))) (sid_is i h ∙ sym (sid_place i h))
+      ∙ ap (λ o. unwrap_or (option_map (number_at f w.numbers name (sid_at g.assets i)) o) MISSING) last_is
+      ∙ numbers_those g.assets g.numbers start.sids_ascend start.numbers_in f name i next.day h
 
 pub fed_days_are_sessions : FedDaysAreSessions
 fed_days_are_sessions g table next days start labels rows texts are = record {

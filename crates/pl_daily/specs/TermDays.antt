@@ -12,6 +12,7 @@ use Rattle.pl_spec.specs.Window.{before, downward, bar_window}
 use Rattle.pl_spec.specs.Parts.{ColumnNumber}
 use Rattle.pl_spec.specs.World.{World, exists, label_at, known_number}
 use Rattle.pl_spec.specs.declared.AssetRow.{AssetRow}
+use Rattle.pl_spec.specs.declared.Figure.{Figure}
 use Rattle.pl_assets.specs.Labels.{LabelTable, AreLabels, label_on}
 use Rattle.pl_numbers.specs.Numbers.{number_on}
 use Rattle.pl_cross.specs.Arrays.{sid_in, HasTexts}
@@ -93,7 +94,7 @@ pub record HoldsStart (t : TermDay) (v : Moment) (f : Frequency) (u : ℕ) : Typ
   pub is : pos first ≡ period_start f v.world.days (pos v.session)
   pub fills : Fills (λ i. cell_of v.world (pipeline_at t) (sids_at t) u i first) (assets_at t) t.start.now
 
--- The day is the session in the world, whose assets, labels and numbers are the given ones; each label text
+-- The day is the session in the world, whose assets, labels, numbers and their ages are the given ones; each label text
 -- has a code.
 pub record IsDayIn (assets : List AssetRow) (table : LabelTable) (numbers : List ColumnNumber) (day : ℤ) (v : Moment) : Type 0 where
   pub up : AllPairs (λ a b. a < b) (sids_of assets)
@@ -102,7 +103,7 @@ pub record IsDayIn (assets : List AssetRow) (table : LabelTable) (numbers : List
   pub texts : v.world.texts ≡ table.texts
   pub lives : (i : ℕ) → i < length assets → exists v.world (sid_in (sids_of assets) i) (pos v.session) ≡ lives_at assets day i
   pub labels : (name : List ℕ) (i : ℕ) → i < length assets → label_at v.world name (sid_in (sids_of assets) i) (pos v.session) ≡ label_on table.rows name i day
-  pub known : (name : List ℕ) (i : ℕ) → i < length assets → known_number v.world name (sid_in (sids_of assets) i) (pos v.session) ≡ number_on numbers name i day
+  pub known : (f : Figure) (name : List ℕ) (i : ℕ) → i < length assets → known_number v.world f name (sid_in (sids_of assets) i) (pos v.session) ≡ number_on f numbers name i day
 
 -- the day is the session, and what the node mentions is held for it
 pub record IsTermDay (t : TermDay) (v : Moment) : Type 0 where

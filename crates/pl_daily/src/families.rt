@@ -57,8 +57,9 @@ pub(crate) fn given_row(term_day: &TermDay<'_>, family: Family, out: &mut [i64])
             term_day.day,
             out,
         ),
-        Family::Number(name) => known_row(
+        Family::Number(figure, name) => known_row(
             term_day.numbers,
+            figure,
             term_day.checked.label_name(name),
             term_day.day,
             out,

@@ -13,7 +13,7 @@ ghost use Rattle.pl_daily.specs.Rows.{is_kept_by, rows_lent, sids_of};
 use pl_assets::{Assets, Labels};
 use pl_fixed::MISSING;
 use pl_numbers::Numbers;
-use pl_terms::TermKind;
+use pl_terms::{Figure, TermKind};
 use pl_values::{is_one, label_value, sids_value, truth_of};
 
 /// Whether the asset in a place lives on the day and passes the mask.
@@ -67,28 +67,34 @@ pub(crate) fn label_row(labels: &Labels, name: &[u8], day: i32, out: &mut [i64])
     }
 }
 
-/// Numbers under a name; where none are lent, all are missing.
-pub(crate) fn known_row(numbers: Option<&Numbers>, name: &[u8], day: i32, out: &mut [i64])
+/// Numbers under a name, or their ages; where none are lent, all are missing.
+pub(crate) fn known_row(
+    numbers: Option<&Numbers>,
+    figure: Figure,
+    name: &[u8],
+    day: i32,
+    out: &mut [i64],
+)
     ensures length { length out.new ≡ length out.old }
     ensures each { (i : ℕ) → i < length out.old
-        → get_or out.new i (pos 0) ≡ number_on (rows_lent numbers.entry) name.now i day }
+        → get_or out.new i (pos 0) ≡ number_on figure (rows_lent numbers.entry) name.now i day }
     ensures cells { (i : ℕ) → i < length out.old → IsCell (get_or out.new i (pos 0)) }
 {
     match numbers {
         None => out.fill(MISSING),
-        Some(lent) => lent_row(lent, name, day, out),
+        Some(lent) => lent_row(lent, figure, name, day, out),
     }
 }
 
 // The numbers of a table.
-fn lent_row(numbers: &Numbers, name: &[u8], day: i32, out: &mut [i64])
+fn lent_row(numbers: &Numbers, figure: Figure, name: &[u8], day: i32, out: &mut [i64])
     ensures length { length out.new ≡ length out.old }
     ensures each { (i : ℕ) → i < length out.old
-        → get_or out.new i (pos 0) ≡ number_on numbers.now.rows name.now i day }
+        → get_or out.new i (pos 0) ≡ number_on figure numbers.now.rows name.now i day }
     ensures cells { (i : ℕ) → i < length out.old → IsCell (get_or out.new i (pos 0)) }
 {
     let number = numbers.name_of(name);
     for i in 0..out.len() {
-        out[i] = numbers.number_under(name, number, i, day);
+        out[i] = numbers.number_under(figure, name, number, i, day);
     }
 }

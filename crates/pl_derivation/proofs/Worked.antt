@@ -4,6 +4,7 @@ use Rattle.pl_spec.specs.declared.Column.TheVariants.{Close}
 use Rattle.pl_spec.specs.Rounding.{MISSING}
 use Rattle.pl_spec.specs.Numbers.{NumberRow}
 use Rattle.pl_spec.specs.World.{World}
+use Rattle.pl_spec.specs.declared.Figure.TheVariants as figure
 use Rattle.pl_pipeline.specs.Kind.{Kind}
 use Rattle.pl_pipeline.specs.Table.{Pipeline}
 use Rattle.pl_pipeline.specs.Term.{Node}
@@ -46,7 +47,7 @@ scored : World
 scored = record plain { numbers = scored_from 19725 (units 3) ∷ scored_from 19731 MISSING ∷ scored_from 19727 (units 4) ∷ [] }
 
 its_number : Pipeline
-its_number = record latest_close { graph = of_terms (Kind.Number 0) [] ∷ []; names = score ∷ [] }
+its_number = record latest_close { graph = of_terms (Kind.Number figure.Value 0) [] ∷ []; names = score ∷ [] }
 
 of_the_record_that_was_known_last : derivation scored its_number 0 1 (pos 4) ≡ ValueLine 0 1 (pos 19730) (units 4) (Some (pos 19727)) ∷ []
 unfolding opened scored scored_from its_number score

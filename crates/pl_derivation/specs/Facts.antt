@@ -44,9 +44,9 @@ number_in w p (SeenValue t a s d) = in_array w.texts (seen w p.names (term_at p.
 
 -- ---- the record of a number beside bars
 
--- the day from which the number that a kind has for asset a on session d was known
+-- the day from which the number that a kind reads for asset a on session d was known
 abbrev pub kind_known : World → Pipeline → Kind → ℕ → ℤ → Option ℤ
-kind_known w p (kinds.Number n) a d = option_and_then (known_at w.numbers (name_at p.names n) a) (day_of w d)
+kind_known w p (kinds.Number f n) a d = option_and_then (known_at w.numbers (name_at p.names n) a) (day_of w d)
 kind_known w p k a d = None
 
 -- the day of the record that a fact's number is of, where it is that of a number beside bars

@@ -13,6 +13,7 @@ use Rattle.pl_pipeline.specs.Table.{Pipeline}
 use Rattle.std.proofs.lemmas.Int.{ints}
 use Rattle.pl_spec.specs.declared.Frequency.{Frequency}
 use Rattle.pl_spec.specs.Periods.{period_start}
+use Rattle.pl_spec.specs.declared.Figure.{Figure}
 use Rattle.pl_values.proofs.Downsampled.{over}
 use Rattle.pl_terms.specs.Sorts.{is_downsampled}
 use Rattle.pl_cross.specs.Arrays.{sid_in}
@@ -78,13 +79,13 @@ module _ (t : TermSession) (is : IsTermSession t) where
       ∙ ap (option_and_then (label_on t.chunk.now.world.labels.now.rows name (get_or t.chunk.now.cols.now i 0))) dated
 
   -- so is the number
-  pub number_here : (i : ℕ) (name : List ℕ) (day : ℤ) → i < assets_in (task_at t) → slice_get w.days t.session ≡ Some day
-      → known_number w name (sid_in sids i) (pos t.session) ≡ number_on t.chunk.now.world.numbers.now.rows name (get_or t.chunk.now.cols.now i 0) day
-  number_here i name day asset dated =
+  pub number_here : (f : Figure) (i : ℕ) (name : List ℕ) (day : ℤ) → i < assets_in (task_at t) → slice_get w.days t.session ≡ Some day
+      → known_number w f name (sid_in sids i) (pos t.session) ≡ number_on f t.chunk.now.world.numbers.now.rows name (get_or t.chunk.now.cols.now i 0) day
+  number_here f i name day asset dated =
       let parts = is.chunk.made.parts in
-      ap (λ a. known_number w name a (pos t.session)) (sid_of_place t.chunk.now.world.assets.now t.chunk.now.cols.now i asset)
-      ∙ ap (λ o. unwrap_or (option_map (number_at w.numbers name (sid_at w.assets (get_or t.chunk.now.cols.now i 0))) o) MISSING) dated
-      ∙ numbers_those t.chunk.now.world.assets.now t.chunk.now.world.numbers.now.rows parts.sids_ascend parts.numbers_in name (get_or t.chunk.now.cols.now i 0) day (is.chunk.task.columns.within i 0 asset)
+      ap (λ a. known_number w f name a (pos t.session)) (sid_of_place t.chunk.now.world.assets.now t.chunk.now.cols.now i asset)
+      ∙ ap (λ o. unwrap_or (option_map (number_at f w.numbers name (sid_at w.assets (get_or t.chunk.now.cols.now i 0))) o) MISSING) dated
+      ∙ numbers_those t.chunk.now.world.assets.now t.chunk.now.world.numbers.now.rows parts.sids_ascend parts.numbers_in f name (get_or t.chunk.now.cols.now i 0) day (is.chunk.task.columns.within i 0 asset)
 
   -- ---- rows of inputs
 

@@ -90,7 +90,7 @@ fn given_lane(lane: &Lane<'_>, family: Family, out: &mut [i64])
     match family {
         Family::Constant(value) => constant_lane(lane, value, out),
         Family::Label(name) => label_lane(lane, name, out),
-        Family::Number(name) => number_lane(lane, name, out),
+        Family::Number(figure, name) => number_lane(lane, figure, name, out),
         Family::Sids => sids_lane(lane, out),
         Family::LabelTest => label_test_lane(lane, out),
         Family::Point => point_lane(lane, out),

@@ -6,6 +6,7 @@ ghost use Rattle.pl_exec.specs.ChunkInputs.{AreGiven, IsLane, node_in};
 
 use crate::course::Lane;
 use crate::points::operand;
+use pl_terms::Figure;
 use pl_values::{kind_of, label_test_values, label_value, sids_value};
 
 /// A constant.
@@ -48,20 +49,24 @@ pub(crate) fn label_lane(lane: &Lane<'_>, name: u32, out: &mut [i64])
     }
 }
 
-/// The asset's numbers; `name` is the number of their name.
-pub(crate) fn number_lane(lane: &Lane<'_>, name: u32, out: &mut [i64])
+/// The asset's numbers, or their ages; `name` is the number of their name.
+pub(crate) fn number_lane(lane: &Lane<'_>, figure: Figure, name: u32, out: &mut [i64])
     requires lane { IsLane lane.now }
-    requires kind { (node_in lane.now.course.now).kind ≡ Number name }
+    requires kind { (node_in lane.now.course.now).kind ≡ Number figure name }
     requires long { length out.old ≡ lane.now.course.now.count }
     ensures { AreGiven lane.now.course.now lane.now.i out.new }
 {
     let chunk = lane.course.chunk;
     let name = chunk.checked.label_name(name);
     let col = chunk.cols[lane.i] as usize;
-    chunk
-        .world
-        .numbers
-        .fill_under(name, col, chunk.world.sessions, lane.course.low, out);
+    chunk.world.numbers.fill_under(
+        figure,
+        name,
+        col,
+        chunk.world.sessions,
+        lane.course.low,
+        out,
+    );
 }
 
 /// What the test says of the asset's labels, which are the first input.

@@ -4,6 +4,7 @@ use Rattle.std.specs.Option.{option_and_then}
 use Rattle.std.proofs.lemmas.Bool.{true≢false}
 use Rattle.pl_spec.specs.World.{World as SpecWorld, exists, day_of}
 use Rattle.pl_spec.specs.Numbers.{known_at}
+use Rattle.pl_spec.specs.declared.Figure.{Figure}
 use Rattle.pl_pipeline.specs.Kind as kinds
 use Rattle.pl_pipeline.specs.Kind.{Kind}
 use Rattle.pl_pipeline.specs.Table.{Pipeline}
@@ -25,7 +26,7 @@ pub gone-unknown : (w : SpecWorld) (p : Pipeline) (t a : ℕ) (d : ℤ) → exis
 gone-unknown w p t a d gone = rw gone refl
 
 other-kind : (w : SpecWorld) (p : Pipeline) (k : Kind) (a : ℕ) (d : ℤ) → is_number_kind k ≡ false → None ≡ kind_known w p k a d
-other-kind w p (kinds.Number name) a d h = absurd (true≢false h)
+other-kind w p (kinds.Number f name) a d h = absurd (true≢false h)
 other-kind w p k a d h = refl
 
 module _ (w : World) (c : Parts) (t : ℕ) (n : Node) (is : slice_get c.graph t ≡ Some n) (a s : ℕ) where
@@ -33,9 +34,9 @@ module _ (w : World) (c : Parts) (t : ℕ) (n : Node) (is : slice_get c.graph t 
   place = graph-at c.graph t n is
 
   -- the name of a number is one of the pipeline's
-  pub known-named : IsChecked (pipeline_of c) → (name : ℕ) → kind_of n.kind ≡ kinds.Number name → name < length (pipeline_of c).names
+  pub known-named : IsChecked (pipeline_of c) → (f : Figure) (name : ℕ) → kind_of n.kind ≡ kinds.Number f name → name < length (pipeline_of c).names
   unfolding node_of
-  known-named checked name e = number-below (kind_of n.kind) n.window _ name e (checked.nodes t (node_of n) place).parameters
+  known-named checked f name e = number-below (kind_of n.kind) n.window _ f name e (checked.nodes t (node_of n) place).parameters
 
   module _ (there : exists (world_of w) a (pos s) ≡ true) where
     here : known_day (world_of w) (pipeline_of c) (TermValue t a (pos s)) ≡ kind_known (world_of w) (pipeline_of c) (kind_of n.kind) a (pos s)
@@ -47,6 +48,6 @@ module _ (w : World) (c : Parts) (t : ℕ) (n : Node) (is : slice_get c.graph t 
     other-unknown h = other-kind (world_of w) (pipeline_of c) (kind_of n.kind) a (pos s) h ∙ sym here
 
     -- the day of the record of a number
-    pub number-known : (name : ℕ) → kind_of n.kind ≡ kinds.Number name
+    pub number-known : (f : Figure) (name : ℕ) → kind_of n.kind ≡ kinds.Number f name
         → option_and_then (known_at (world_of w).numbers (name_at (pipeline_of c).names name) a) (day_of (world_of w) (pos s)) ≡ known_day (world_of w) (pipeline_of c) (TermValue t a (pos s))
-    number-known name e = sym (here ∙ ap (λ k. kind_known (world_of w) (pipeline_of c) k a (pos s)) e)
+    number-known f name e = sym (here ∙ ap (λ k. kind_known (world_of w) (pipeline_of c) k a (pos s)) e)

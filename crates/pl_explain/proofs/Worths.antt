@@ -5,7 +5,8 @@ use Rattle.pl_spec.specs.Rounding.{IsCell}
 use Rattle.pl_spec.specs.World.{World as SpecWorld, known_number, label_at}
 use Rattle.pl_spec.specs.declared.Frequency.{Frequency}
 use Rattle.pl_spec.specs.Periods.{period_start}
-use Rattle.pl_pipeline.specs.Value.{Own, From, name_at}
+use Rattle.pl_spec.specs.declared.Figure.{Figure}
+use Rattle.pl_pipeline.specs.Value.{name_at, Own, From}
 use Rattle.pl_pipeline.specs.Kind as kinds
 use Rattle.pl_pipeline.specs.Term as spec
 use Rattle.pl_terms.specs.declared.node.Input.{Input}
@@ -86,10 +87,10 @@ module _ {b : Basis} {t col s : ℕ} (k : IsKeptAt b t col s) (n : Node) (is : s
       accepted b.stated.now [] (facts_in b t col s) (value_in b t col s) x (read-kind b.world b.checked.now k.at.on.ready.checked t n is (sid_in b col) s None (kinds.Label l) e) refl
       (same ∙ label-given b.world b.checked.now k.at.on.ready.checked t n is (sid_in b col) s k.kept l e) cell
 
-  pub number-stated : (l : ℕ) → kind_of n.kind ≡ kinds.Number l → (x : ℤ) → x ≡ known_number (world_of b.world) (name_at (pipeline_of b.checked.now).names l) (sid_in b col) (pos s) → IsCell x → IsValue (Some x)
-  number-stated l e x same cell =
-      accepted b.stated.now [] (facts_in b t col s) (value_in b t col s) x (read-kind b.world b.checked.now k.at.on.ready.checked t n is (sid_in b col) s None (kinds.Number l) e) refl
-      (same ∙ number-given b.world b.checked.now k.at.on.ready.checked t n is (sid_in b col) s k.kept l e) cell
+  pub number-stated : (f : Figure) (l : ℕ) → kind_of n.kind ≡ kinds.Number f l → (x : ℤ) → x ≡ known_number (world_of b.world) f (name_at (pipeline_of b.checked.now).names l) (sid_in b col) (pos s) → IsCell x → IsValue (Some x)
+  number-stated f l e x same cell =
+      accepted b.stated.now [] (facts_in b t col s) (value_in b t col s) x (read-kind b.world b.checked.now k.at.on.ready.checked t n is (sid_in b col) s None (kinds.Number f l) e) refl
+      (same ∙ number-given b.world b.checked.now k.at.on.ready.checked t n is (sid_in b col) s k.kept f l e) cell
 
   pub sids-stated : is_sids (kind_of n.kind) ≡ true → (x : ℤ) → x ≡ sid_flag (kind_of n.kind) (sid_in b col) → IsCell x → IsValue (Some x)
   sids-stated e x same cell =

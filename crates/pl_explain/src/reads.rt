@@ -57,7 +57,7 @@ pub(crate) fn facts_read(
     let node = node_in(checked, t);
     let sid = world.assets.sid(col);
     match family_of(&node.kind) {
-        Family::Constant(_) | Family::Label(_) | Family::Number(_) | Family::Sids => {
+        Family::Constant(_) | Family::Label(_) | Family::Number(..) | Family::Sids => {
             Ok(Vec::new(alloc))
         }
         Family::Window => {

@@ -12,11 +12,11 @@ ghost use Rattle.pl_world.specs.Worlds.{world_of};
 ghost use Rattle.pl_explain.specs.Given.{IsReady};
 
 use crate::basis::node_in;
-use pl_terms::{Checked, Node, TermId};
+use pl_terms::{Checked, Figure, Node, TermId};
 use pl_values::{Family, family_of};
 use pl_world::{World, exists, number_day};
 
-/// The day from which the value of a term for the asset in a column was known, as the session has it; `None`
+/// The day from which the number that a term reads for the asset in a column was known, as the session has it; `None`
 /// where the term is no number beside bars, none was known by then, or the asset does not exist.
 pub(crate) fn known_day(
     world: &World,
@@ -37,18 +37,18 @@ pub(crate) fn known_day(
         return None;
     }
     match number_name(node_in(checked, t)) {
-        Some(name) => number_day(world, checked, name, col, session),
+        Some((_, name)) => number_day(world, checked, name, col, session),
         None => None,
     }
 }
 
-// The number of the name under which a node is a number beside bars.
-fn number_name(node: &Node) -> Option<u32>
-    ensures some { IfSome result (λ name. kind_of node.now.kind ≡ Number name) }
+// What a node reads of a number beside bars, and the number of the name.
+fn number_name(node: &Node) -> Option<(Figure, u32)>
+    ensures some { IfSome result (λ r. kind_of node.now.kind ≡ Number r.0 r.1) }
     ensures none { IfNone result (is_number_kind (kind_of node.now.kind) ≡ false) }
 {
     match family_of(&node.kind) {
-        Family::Number(name) => Some(name),
+        Family::Number(figure, name) => Some((figure, name)),
         _ => None,
     }
 }

@@ -73,7 +73,10 @@ fn kept_stated(
     match family_of(&node.kind) {
         Family::Constant(value) => Ok(Some(value)),
         Family::Label(name) => Ok(Some(label_cell(world, basis.checked, name, col, session))),
-        Family::Number(name) => Ok(Some(number_cell(world, basis.checked, name, col, session))),
+        Family::Number(figure, name) => {
+            let checked = basis.checked;
+            Ok(Some(number_cell(world, checked, figure, name, col, session)))
+        }
         Family::Sids => Ok(Some(sids_value(&node.kind, world.assets.sid(col)))),
         Family::Window => over_windows(alloc, basis, t, col, session, view),
         Family::Point => Ok(over_operands(basis, t, col, session, view)),

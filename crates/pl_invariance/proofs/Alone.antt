@@ -5,4 +5,4 @@ use Rattle.pl_invariance.specs.Alone.{NumbersStandAlone}
 
 pub numbers-stand-alone : NumbersStandAlone
 unfolding value seen kind_value
-numbers-stand-alone w labels texts bars adjustments names n a d = refl
+numbers-stand-alone w labels texts bars adjustments names f n a d = refl

@@ -362,7 +362,7 @@ module _ (r : Fraction) (ratio : IsRatio r) where
     unfolding kind_value
     step-in (Rule.pure {k = Constant cell}) hx hy hz hm hg ix iy iz im ig size view a d lives e whole exact = refl
     step-in (Rule.pure {k = Label n}) hx hy hz hm hg ix iy iz im ig size view a d lives e whole exact = refl
-    step-in (Rule.pure {k = kinds.Number n}) hx hy hz hm hg ix iy iz im ig size view a d lives e whole exact = refl
+    step-in (Rule.pure {k = kinds.Number fig n}) hx hy hz hm hg ix iy iz im ig size view a d lives e whole exact = refl
     step-in (Rule.pure {k = StaticSids sids}) hx hy hz hm hg ix iy iz im ig size view a d lives e whole exact = refl
     step-in {x = x} {y = y} {z = z} {m = m} {g = g} (Rule.pure {k = Window k}) hx hy hz hm hg ix iy iz im ig size view a d lives e whole exact =
         let q : ℤ = if keeps_window k then d else seen_from view d in

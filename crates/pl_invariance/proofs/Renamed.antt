@@ -6,11 +6,13 @@ use Rattle.std.proofs.Math.Path.{fun_ext}
 use Rattle.pl_spec.specs.declared.AssetRow.{AssetRow}
 use Rattle.pl_spec.specs.declared.Column.{Column}
 use Rattle.pl_spec.specs.declared.Column.TheVariants.{OpenPrice, High, Low, Close, Volume}
-use Rattle.pl_spec.specs.Numbers.{NumberRow, last_known, is_number_of, number_at}
+use Rattle.pl_spec.specs.Numbers.{NumberRow, last_known, is_number_of, read_of, number_at}
 use Rattle.pl_spec.specs.Rounding.{MISSING}
 use Rattle.pl_spec.specs.Window.{effects, effects_from, after_all, seen_cell}
 use Rattle.pl_spec.specs.World.{World, LabelRow, Bar, Adjustment, day_of, lives_on, events_of, cell_of, bar_cell, last_started, nonempty, is_label_of, label_at, known_number}
 use Rattle.pl_spec.proofs.Lists.{filter-map}
+use Rattle.pl_spec.specs.declared.Figure.{Figure}
+use Rattle.pl_spec.specs.declared.Figure.TheVariants as figure
 use Rattle.pl_invariance.specs.Renamed.{Rises, renamed_world, SidsAreNames}
 use Rattle.pl_invariance.proofs.Lists.{find-map, all-map, maps}
 use Rattle.pl_invariance.proofs.Renaming.{ShowTheSame, same_sid, tables_same}
@@ -115,18 +117,23 @@ module _ (f : ℕ → ℕ) (rises : Rises f) (w : World) where
       find-map (λ (r : NumberRow). list_all (λ (q : NumberRow). int_le q.known r.known) (map number rows)) number rows
       ∙ ap (λ p. option_map number (find p rows)) (fun_ext (λ (r : NumberRow). all-map (λ (q : NumberRow). int_le q.known r.known) number rows))
 
-  value_same : (o : Option NumberRow) → option_map (λ (r : NumberRow). r.value) (option_map number o) ≡ option_map (λ (r : NumberRow). r.value) o
-  value_same None = refl
-  value_same (Some r) = refl
+  read_same : (fig : Figure) (day : ℤ) (r : NumberRow) → read_of fig day (number r) ≡ read_of fig day r
+  read_same figure.Value day r = refl
+  read_same figure.Days day r = refl
+  read_same figure.BusinessDays day r = refl
 
-  number_on : (name : List ℕ) (a : ℕ) (day : ℤ) → number_at (map number w.numbers) name (f a) day ≡ number_at w.numbers name a day
-  number_on name a day =
-      ap (λ rows. unwrap_or (option_map (λ (r : NumberRow). r.value) (last_known rows)) MISSING) (number_row name a day)
-      ∙ ap (λ o. unwrap_or (option_map (λ (r : NumberRow). r.value) o) MISSING) (last_number (filter (is_number_of name a day) w.numbers))
-      ∙ ap (λ o. unwrap_or o MISSING) (value_same (last_known (filter (is_number_of name a day) w.numbers)))
+  value_same : (fig : Figure) (day : ℤ) (o : Option NumberRow) → option_map (read_of fig day) (option_map number o) ≡ option_map (read_of fig day) o
+  value_same fig day None = refl
+  value_same fig day (Some r) = ap Some (read_same fig day r)
 
-  number_same : (name : List ℕ) (a : ℕ) (d : ℤ) → known_number (renamed_world f w) name (f a) d ≡ known_number w name a d
-  number_same name a d = ap (λ g. unwrap_or (option_map g (day_of w d)) MISSING) (fun_ext (number_on name a))
+  number_on : (fig : Figure) (name : List ℕ) (a : ℕ) (day : ℤ) → number_at fig (map number w.numbers) name (f a) day ≡ number_at fig w.numbers name a day
+  number_on fig name a day =
+      ap (λ rows. unwrap_or (option_map (read_of fig day) (last_known rows)) MISSING) (number_row name a day)
+      ∙ ap (λ o. unwrap_or (option_map (read_of fig day) o) MISSING) (last_number (filter (is_number_of name a day) w.numbers))
+      ∙ ap (λ o. unwrap_or o MISSING) (value_same fig day (last_known (filter (is_number_of name a day) w.numbers)))
+
+  number_same : (fig : Figure) (name : List ℕ) (a : ℕ) (d : ℤ) → known_number (renamed_world f w) fig name (f a) d ≡ known_number w fig name a d
+  number_same fig name a d = ap (λ g. unwrap_or (option_map g (day_of w d)) MISSING) (fun_ext (number_on fig name a))
 
   pub shows : ShowTheSame f w (renamed_world f w)
   shows = record {
@@ -134,7 +141,7 @@ module _ (f : ℕ → ℕ) (rises : Rises f) (w : World) where
     living = λ d. living_on (day_of w d);
     seen = λ a lives c s d. seen_same a c s d;
     labels = λ a lives name d. label_same name a d;
-    numbers = λ a lives name d. number_same name a d;
+    numbers = λ a lives fig name d. number_same fig name a d;
   }
 
 pub sids-are-names : SidsAreNames

@@ -14,6 +14,7 @@ use Rattle.pl_spec.specs.Periods.{period_start}
 use Rattle.pl_spec.specs.Window.{before, downward, seen_cell}
 use Rattle.pl_spec.specs.World.{World, exists, living_sids, label_at, known_number}
 use Rattle.pl_spec.proofs.Lists.{filter-map}
+use Rattle.pl_spec.specs.declared.Figure.{Figure}
 use Rattle.pl_pipeline.specs.declared.RankMethod.{RankMethod}
 use Rattle.pl_pipeline.specs.declared.RankMethod.TheVariants.{Ordinal, Min, Max, Dense, Average}
 use Rattle.pl_pipeline.specs.declared.RankOrder.{RankOrder}
@@ -42,7 +43,7 @@ pub record ShowTheSame (f : ℕ → ℕ) (w v : World) : Type 0 where
   pub living : (d : ℤ) → living_sids v d ≡ map f (living_sids w d)
   pub seen : (a : ℕ) → Lives w a → (c : Column) (s d : ℤ) → seen_cell v (f a) c s d ≡ seen_cell w a c s d
   pub labels : (a : ℕ) → Lives w a → (name : List ℕ) (d : ℤ) → label_at v name (f a) d ≡ label_at w name a d
-  pub numbers : (a : ℕ) → Lives w a → (name : List ℕ) (d : ℤ) → known_number v name (f a) d ≡ known_number w name a d
+  pub numbers : (a : ℕ) → Lives w a → (fig : Figure) (name : List ℕ) (d : ℤ) → known_number v fig name (f a) d ≡ known_number w fig name a d
 
 module _ (f : ℕ → ℕ) (rises : Rises f) where
   -- ---- sids
@@ -125,7 +126,7 @@ module _ (f : ℕ → ℕ) (rises : Rises f) where
   same_empty (StaticSids sids) = refl
   same_empty (Constant cell) = refl
   same_empty (Label n) = refl
-  same_empty (kinds.Number n) = refl
+  same_empty (kinds.Number fig n) = refl
   same_empty (Window k) = refl
   same_empty (Point k) = refl
   same_empty (LabelTest k) = refl
@@ -136,7 +137,7 @@ module _ (f : ℕ → ℕ) (rises : Rises f) where
   over_renamed (StaticSids sids) l = refl
   over_renamed (Constant cell) l = refl
   over_renamed (Label n) l = refl
-  over_renamed (kinds.Number n) l = refl
+  over_renamed (kinds.Number fig n) l = refl
   over_renamed (Window k) l = refl
   over_renamed (Point k) l = refl
   over_renamed (LabelTest k) l = refl
@@ -244,7 +245,7 @@ module _ (f : ℕ → ℕ) (rises : Rises f) where
       unfolding kind_value
       step_same (Constant cell) size a d lives = refl
       step_same (Label n) size a d lives = ap label_value (shows.labels a lives (name_at names n) d)
-      step_same (kinds.Number n) size a d lives = ap Number (shows.numbers a lives (name_at names n) d)
+      step_same (kinds.Number fig n) size a d lives = ap Number (shows.numbers a lives fig (name_at names n) d)
       step_same (StaticSids sids) size a d lives = ap (λ b. Number (truth b)) (sids_same sids a)
       step_same (Window k) size a d lives = rw (window_same view x first size a lives d, window_same view y second size a lives d, window_same view z third size a lives d) refl
       step_same (Point k) size a d lives = rw (now_same view x first a d, now_same view y second a d, now_same view z third a d) refl

@@ -8,6 +8,7 @@ use Rattle.pl_pipeline.specs.Cross.{Entry, cross}
 use Rattle.pl_pipeline.specs.Formula.{formula}
 use Rattle.pl_spec.specs.World.{World}
 use Rattle.pl_spec.specs.Window.{bar_window}
+use Rattle.pl_spec.specs.declared.Figure.TheVariants as figure
 use Rattle.pl_pipeline.specs.declared.RankMethod.TheVariants as method
 use Rattle.pl_pipeline.specs.declared.RankOrder.TheVariants.{Ascending}
 use Rattle.pl_pipeline.specs.Kind.{CrossKind}
@@ -26,7 +27,7 @@ abbrev earned : World → World
 earned w = record w { numbers = record { name = codes "earnings"; sid = 1; known = pos 19725; value = units 3 } ∷ [] }
 
 abbrev earnings_of : World → List Value
-earnings_of w = map (λ d. value (earned w) (codes "earnings" ∷ []) (number_term 0) 1 (pos d)) (1 ∷ 2 ∷ [])
+earnings_of w = map (λ d. value (earned w) (codes "earnings" ∷ []) (number_term figure.Value 0) 1 (pos d)) (1 ∷ 2 ∷ [])
 
 -- on the session on which it was known, and on that of the split, which does not halve it
 number_beside_a_split : earnings_of split ≡ Number (units 3) ∷ Number (units 3) ∷ []

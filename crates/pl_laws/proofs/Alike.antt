@@ -15,6 +15,7 @@ use Rattle.pl_pipeline.specs.Value.{empty, sort_kind, seen, value}
 use Rattle.pl_pipeline.specs.Table.{Pipeline, Row, is_kept, table_row, session_rows, table}
 use Rattle.pl_pipeline.specs.Text.{header, row_fields, row_line, text}
 use Rattle.pl_spec.specs.Lines.{day_field, line_text, sid_field}
+use Rattle.pl_spec.specs.declared.Figure.{Figure}
 use Rattle.pl_laws.specs.PermutedLaws.{AgreeingWorldsAreAlike}
 use Rattle.pl_laws.proofs.Law as law
 use Rattle.pl_laws.proofs.Law.{SeenAlike}
@@ -49,8 +50,8 @@ pub record SeenInAll (w v : World) : Type 0 where
   pub changes : (a : ℕ) (c : Column) (bar low high : ℤ) → effects_in c bar low high (events_of w a) ≡ effects_in c bar low high (events_of v a)
   pub lifetimes : (a : ℕ) (s : ℤ) → exists w a s ≡ exists v a s
   pub labels : (name : List ℕ) (a : ℕ) (s : ℤ) → label_at w name a s ≡ label_at v name a s
-  pub numbers : (name : List ℕ) (a : ℕ) (day : ℤ)
-      → number_at w.numbers name a day ≡ number_at v.numbers name a day
+  pub numbers : (f : Figure) (name : List ℕ) (a : ℕ) (day : ℤ)
+      → number_at f w.numbers name a day ≡ number_at f v.numbers name a day
 
 agree-all : (w v : World) → AgreeInAll w v → SeenInAll w v
 agree-all w v all =
@@ -75,7 +76,7 @@ module _ (w v : World) (ok : IsWorld w) (ok' : IsWorld v) (all : SeenInAll w v) 
     changes = λ a c bar low high h. all.changes a c bar low high;
     lifetimes = λ a s l. all.lifetimes a s;
     labels = λ name a s l. all.labels name a s;
-    numbers = λ name a x l. all.numbers name a x;
+    numbers = λ f name a x l. all.numbers f name a x;
   }
 
   here : (s : ℤ) → s ≤ℤ s

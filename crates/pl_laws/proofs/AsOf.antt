@@ -106,7 +106,7 @@ module _ (w : World) (d : ℕ) (day : ℤ) where
     adjustments = λ a. ap (filter (is_known day)) (events-by a) ∙ filter-filter (is_known day) (is_known day) (λ e p. p) (events_of w a);
     lifetimes = exists-kept;
     labels = label_at-kept ok at_d;
-    numbers = λ name a x h. numbers_look_back.without w.numbers day name a x h;
+    numbers = λ f name a x h. numbers_look_back.without w.numbers day f name a x h;
   }
 
 -- ---- the parts

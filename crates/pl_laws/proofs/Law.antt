@@ -24,6 +24,7 @@ use Rattle.pl_pipeline.specs.Value.{Meaning, View, Own, From, seen_from, part_fr
 use Rattle.pl_pipeline.proofs.SameOperands.{SamePart, SameReads, passes_alike, step_alike}
 use Rattle.pl_spec.proofs.Each.{Each, each_known}
 use Rattle.pl_spec.proofs.Lists.{filter-filter}
+use Rattle.pl_spec.specs.declared.Figure.{Figure}
 
 -- ---- tests
 
@@ -160,8 +161,8 @@ pub record SeenAlike (w v : World) (d day : ℤ) : Type 0 where
   pub changes : (a : ℕ) (c : Column) (bar low high : ℤ) → high ≤ℤ day → effects_in c bar low high (events_of w a) ≡ effects_in c bar low high (events_of v a)
   pub lifetimes : (a : ℕ) (s : ℤ) → s ≤ℤ d → exists w a s ≡ exists v a s
   pub labels : (name : List ℕ) (a : ℕ) (s : ℤ) → s ≤ℤ d → label_at w name a s ≡ label_at v name a s
-  pub numbers : (name : List ℕ) (a : ℕ) (x : ℤ) → x ≤ℤ day
-      → number_at w.numbers name a x ≡ number_at v.numbers name a x
+  pub numbers : (f : Figure) (name : List ℕ) (a : ℕ) (x : ℤ) → x ≤ℤ day
+      → number_at f w.numbers name a x ≡ number_at f v.numbers name a x
 
 pub agree-seen : (w v : World) (d day : ℤ) → Agree w v d day → SeenAlike w v d day
 agree-seen w v d day agree =
@@ -203,15 +204,15 @@ module _ (w v : World) (d day : ℤ) (ok : IsWorld w) (ok' : IsWorld v) (agree :
       ∙ ap (λ o. effects_from c o (day_of w e) (events_of v a)) day_s ∙ ap (λ o. effects_from c (day_of v s) o (events_of v a)) day_e in
       ap (λ x. after_all x (effects w a c s e)) bars ∙ ap (after_all (bar_cell v a c s)) rows
 
-  number_same : (name : List ℕ) (a : ℕ) (s : ℤ) → s ≤ℤ d → known_number w name a s ≡ known_number v name a s
-  number_same name a s l =
+  number_same : (f : Figure) (name : List ℕ) (a : ℕ) (s : ℤ) → s ≤ℤ d → known_number w f name a s ≡ known_number v f name a s
+  number_same f name a s l =
       on_day (day_of w s) refl
-      ∙ ap (λ o. unwrap_or (option_map (number_at v.numbers name a) o) MISSING) (agree.days s l)
+      ∙ ap (λ o. unwrap_or (option_map (number_at f v.numbers name a) o) MISSING) (agree.days s l)
     where
       on_day : (o : Option ℤ) → day_of w s ≡ o
-          → unwrap_or (option_map (number_at w.numbers name a) o) MISSING ≡ unwrap_or (option_map (number_at v.numbers name a) o) MISSING
+          → unwrap_or (option_map (number_at f w.numbers name a) o) MISSING ≡ unwrap_or (option_map (number_at f v.numbers name a) o) MISSING
       on_day None e = refl
-      on_day (Some x) e = agree.numbers name a x (day_before s x l e)
+      on_day (Some x) e = agree.numbers f name a x (day_before s x l e)
 
   pub living_same : (s : ℤ) → s ≤ℤ d → living_sids w s ≡ living_sids v s
   living_same s h = rising_is_one (living_sids w s) (living_sids v s) (living_rise w ok (day_of w s)) (living_rise v ok' (day_of v s)) (λ a. agree.lifetimes a s h)
@@ -252,7 +253,7 @@ module _ (w v : World) (d day : ℤ) (ok : IsWorld w) (ok' : IsWorld v) (agree :
       let here : IsSeenBy d inner read = inner-seen d w.days k view s l in
       let same : SameReads w v k size (seen_operands w names t view s) (seen_operands v names t view s) a s = record {
         labels = λ name. agree.labels name a s by;
-        numbers = λ name. number_same name a s by;
+        numbers = λ f name. number_same f name a s by;
         living = living_same s by;
         reads = reads_at-same w.days v.days d (λ i h. agree.days (pos i) h) k s by;
         first = part_same inner x _ _ (seen_agree names x inner) size read here;

@@ -79,7 +79,7 @@ module _ (w : World) (bars : List Bar) (low : ℤ) (same : SameBarsFrom w (recor
       let parts = below_least low d (part_reach x (reach w.days x) size read ∷ part_reach y (reach w.days y) size read ∷ part_reach z (reach w.days z) size read ∷ part_reach m (reach w.days m) 1 d ∷ part_reach p (reach w.days p) 1 d ∷ []) h in
       let same : SameReads w other k size (seen_operands w names t view d) (seen_operands other names t view d) a d = record {
         labels = λ name. refl;
-        numbers = λ name. refl;
+        numbers = λ f name. refl;
         living = refl;
         reads = refl;
         first = part_same inner x _ _ size read ok.0 (reach-enough names x ok.1 inner) parts.1.0;

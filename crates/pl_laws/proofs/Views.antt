@@ -168,7 +168,7 @@ module _ (w u : World) (v : ℤ) (is : IsSeenOn w v u) (names : List (List ℕ))
   as-if absent h view s l = refl
   as-if (column c) h view s l = refl
   as-if (node (Constant cell) size x y z absent absent) h view s l = rw (is.lifetimes a s) refl
-  as-if (node (kind.Number n) size x y z absent absent) h view s l = rw (is.lifetimes a s, is.numbers (name_at names n) a s) refl
+  as-if (node (kind.Number f n) size x y z absent absent) h view s l = rw (is.lifetimes a s, is.numbers f (name_at names n) a s) refl
   as-if (node (Window k) size x y z absent absent) h view s l =
       by_test (keeps_window k) refl
       (λ e. as-if x e (From (seen_from view s))) (λ e. as-if y e (From (seen_from view s))) (λ e. as-if z e (From (seen_from view s)))

@@ -11,6 +11,7 @@ use Rattle.pl_spec.specs.Lookups.{BarsOnce, LabelsOnce}
 use Rattle.pl_spec.specs.Numbers.{NumbersOnce, number_at}
 use Rattle.pl_spec.specs.Order.{of_table, adjustments_of}
 use Rattle.pl_spec.specs.Permuted.{AgreeInAll, HaveSameRows, EventsHaveOwnDays, events_on}
+use Rattle.pl_spec.specs.declared.Figure.{Figure}
 use Rattle.pl_pipeline.specs.Term.{Term}
 use Rattle.pl_pipeline.specs.Value.{value}
 use Rattle.pl_pipeline.specs.Table.{Pipeline, table}
@@ -41,7 +42,8 @@ pub record OrderChangesNothing : Type 0 where
   pub assets : (w v : World) → w.days ≡ v.days → IsPermutation w.assets v.assets
       → (a : ℕ) (s : ℤ) → exists w a s ≡ exists v a s
   pub numbers : (w v : World) → NumbersOnce w.numbers → IsPermutation w.numbers v.numbers
-      → (name : List ℕ) (a : ℕ) (day : ℤ) → number_at w.numbers name a day ≡ number_at v.numbers name a day
+      → (f : Figure) (name : List ℕ) (a : ℕ) (day : ℤ)
+      → number_at f w.numbers name a day ≡ number_at f v.numbers name a day
   pub all : (w v : World) → IsWorld w → IsWorld v → BarsOnce w → LabelsOnce w → NumbersOnce w.numbers
       → HaveSameRows w v → AgreeInAll w v
 

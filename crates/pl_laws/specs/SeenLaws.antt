@@ -4,6 +4,7 @@ use Rattle.pl_spec.specs.declared.Column.{Column}
 use Rattle.pl_spec.specs.World.{World, IsWorld, bar_cell, day_of, events_of, exists, known_number}
 use Rattle.pl_spec.specs.Window.{is_between, seen_cell, before, bar_window}
 use Rattle.pl_spec.specs.Agree.{Agree}
+use Rattle.pl_spec.specs.declared.Figure.{Figure}
 use Rattle.pl_pipeline.specs.Kind as kind
 use Rattle.pl_pipeline.specs.Kind.Kind.{Constant, Window, Point}
 use Rattle.pl_pipeline.specs.Term.{Term, Node, Graph, IsGraph, term_at}
@@ -94,7 +95,7 @@ abbrev pub moves_throughout : Term → Bool
 moves_throughout absent = true
 moves_throughout (column c) = true
 moves_throughout (node (Constant cell) size x y z absent absent) = true
-moves_throughout (node (kind.Number n) size x y z absent absent) = true
+moves_throughout (node (kind.Number f n) size x y z absent absent) = true
 moves_throughout (node (Window k) size x y z absent absent) =
     not (keeps_window k) && moves_throughout x && moves_throughout y && moves_throughout z
 moves_throughout (node (Point k) size x y z absent absent) =
@@ -105,7 +106,7 @@ moves_throughout t = false
 -- adjustments.
 pub record IsSeenOn (w : World) (v : ℤ) (u : World) : Type 0 where
   pub lifetimes : (a : ℕ) (s : ℤ) → exists u a s ≡ exists w a s
-  pub numbers : (name : List ℕ) (a : ℕ) (s : ℤ) → known_number u name a s ≡ known_number w name a s
+  pub numbers : (f : Figure) (name : List ℕ) (a : ℕ) (s : ℤ) → known_number u f name a s ≡ known_number w f name a s
   pub bars : (a : ℕ) (c : Column) (s : ℤ) → s <ℤ v → bar_cell u a c s ≡ seen_cell w a c s v
   pub events : (a : ℕ) → events_of u a ≡ []
 

@@ -223,7 +223,7 @@ module _ (w v : World) (d day : ℤ) (ok : IsWorld w) (ok' : IsWorld v) (agree :
       ap (λ x. after_each x (effects w a c s e)) bars ∙ ap (after_each (bar_cell v a c s)) rows
 
   kind_known-same : (k : Kind) (a : ℕ) (e : ℤ) → e ≤ℤ d → kind_known w p k a e ≡ kind_known v p k a e
-  kind_known-same (kinds.Number n) a e l = on_day (day_of w e) refl ∙ ap (option_and_then (known_at v.numbers (name_at p.names n) a)) (agree.days e l)
+  kind_known-same (kinds.Number f n) a e l = on_day (day_of w e) refl ∙ ap (option_and_then (known_at v.numbers (name_at p.names n) a)) (agree.days e l)
     where
       on_day : (o : Option ℤ) → day_of w e ≡ o → option_and_then (known_at w.numbers (name_at p.names n) a) o ≡ option_and_then (known_at v.numbers (name_at p.names n) a) o
       on_day None at = refl

@@ -79,10 +79,10 @@ module _ (w v : World) (d : ℕ) (day : ℤ) (ok : HasEachOnce w) (ok' : IsWorld
         sym (first.labels name a s h)
         ∙ order-changes-nothing.labels (as_of w d day) (as_of v d day) labels_once same.sessions same.labels name a s
         ∙ second.labels name a s h;
-    numbers = λ name a x h.
-        sym (numbers_look_back.without w.numbers day name a x h)
-        ∙ numbers_look_back.in_any_order (numbers_by day w.numbers) (numbers_by day v.numbers) numbers_once same.numbers name a x
-        ∙ numbers_look_back.without v.numbers day name a x h;
+    numbers = λ f name a x h.
+        sym (numbers_look_back.without w.numbers day f name a x h)
+        ∙ numbers_look_back.in_any_order (numbers_by day w.numbers) (numbers_by day v.numbers) numbers_once same.numbers f name a x
+        ∙ numbers_look_back.without v.numbers day f name a x h;
   }
 
   -- the first world with the sessions of the second, which names them by the same days
@@ -100,7 +100,7 @@ module _ (w v : World) (d : ℕ) (day : ℤ) (ok : HasEachOnce w) (ok' : IsWorld
     adjustments = λ a. refl;
     lifetimes = λ a s h. rw (days s h) refl;
     labels = λ name a s h. labels-of_days w dated refl name a s (days s h);
-    numbers = λ name a x h. refl;
+    numbers = λ f name a x h. refl;
   }
     where
       on_bars : (a : ℕ) (c : Column) (s : ℤ) → bar_cell w a c s ≡ bar_cell dated a c s

@@ -14,6 +14,7 @@ use Rattle.pl_spec.specs.Rounding.{IsCell, is_missing}
 use Rattle.pl_pipeline.specs.Term.{term_at}
 use Rattle.pl_pipeline.specs.Value.{Own, number_of as number_in, empty, sort_kind, name_at}
 use Rattle.pl_spec.specs.World.{exists, known_number, label_at}
+use Rattle.pl_spec.specs.declared.Figure.{Figure}
 use Rattle.pl_pipeline.proofs.Cells.{zero-cell, truth-cell, chosen-cell, empty-cell}
 use Rattle.pl_terms.specs.declared.node.TermId.{TermId}
 use Rattle.pl_terms.specs.declared.node.Input.{Input}
@@ -256,9 +257,9 @@ module _ (r : Request) (n : Node) (h : IsRequestOf r n) where
         → IsCellOf (asked_cell r) total old old x
     label-read name x old kind e c = record { value = e ∙ label-given w p ok t n h.node a s kept name kind ∙ stays (ap keeps_kind kind); cell = c; cost = free old (of_kind (kinds.Label name) kind) }
 
-    pub number-read : (name : ℕ) (x : ℤ) (old : ℕ) → IsOf (kind_of n.kind) (family.Number name) → x ≡ known_number (world_of w) (name_at (pipeline_of p).names name) a (pos s) → IsCell x
+    pub number-read : (f : Figure) (name : ℕ) (x : ℤ) (old : ℕ) → IsOf (kind_of n.kind) (family.Number f name) → x ≡ known_number (world_of w) f (name_at (pipeline_of p).names name) a (pos s) → IsCell x
         → IsCellOf (asked_cell r) total old old x
-    number-read name x old kind e c = record { value = e ∙ number-given w p ok t n h.node a s kept name kind ∙ stays (ap keeps_kind kind); cell = c; cost = free old (of_kind (kinds.Number name) kind) }
+    number-read f name x old kind e c = record { value = e ∙ number-given w p ok t n h.node a s kept f name kind ∙ stays (ap keeps_kind kind); cell = c; cost = free old (of_kind (kinds.Number f name) kind) }
 
     pub sid-read : (b : ℕ) (x : ℤ) (old : ℕ) → IsOf (kind_of n.kind) family.Sids → b ≡ a → x ≡ sid_flag (kind_of n.kind) b → IsCellOf (asked_cell r) total old old x
     sid-read b x old kind sid e =

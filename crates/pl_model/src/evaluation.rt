@@ -158,7 +158,10 @@ fn given<L: Ledger>(ask: Request, node: &Node, steps: &mut Steps<L>) -> Result<i
     match family_of(&node.kind) {
         Family::Constant(value) => Ok(value),
         Family::Label(name) => Ok(label_cell(world, ask.checked, name, ask.col, ask.session)),
-        Family::Number(name) => Ok(number_cell(world, ask.checked, name, ask.col, ask.session)),
+        Family::Number(figure, name) => {
+            let checked = ask.checked;
+            Ok(number_cell(world, checked, figure, name, ask.col, ask.session))
+        }
         Family::Sids => Ok(sids_value(&node.kind, world.assets.sid(ask.col))),
         Family::Window => window_cell(ask, node, steps),
         Family::Point => point_cell(ask, node, steps),

@@ -4,10 +4,11 @@ use Rattle.std.proofs.lemmas.Slice.Eq.{bytes_eq-Decides}
 use Rattle.std.proofs.lemmas.List.Quantifiers.{position-Some}
 use Rattle.pl_records.proofs.RuleTables.{not_true}
 use Rattle.pl_spec.specs.Rounding.{MISSING}
-use Rattle.pl_spec.specs.Numbers.{is_number_of, last_known}
+use Rattle.pl_spec.specs.Numbers.{is_number_of, last_known, read_of}
 use Rattle.pl_spec.specs.Parts.{ColumnNumber}
 use Rattle.pl_spec.proofs.Members.{In, in-contains}
 use Rattle.pl_spec.proofs.Places.{nowhere}
+use Rattle.pl_spec.specs.declared.Figure.{Figure}
 use Rattle.pl_numbers.specs.Numbers.{by_column, known_on, number_on}
 
 -- the name of a number
@@ -34,10 +35,10 @@ other-name name names rows named e r i = not_true _ here
         true≢false (sym ((bytes_eq-Decides name (get_or names there.0 r.name)).1 (sym place)) ∙ nowhere (bytes_eq name) names e there.0 r.name there.1)
 
 pub no-name : (name : List ℕ) (names : List (List ℕ)) (rows : List ColumnNumber) → All (λ r. Contains names r.name) rows → position (bytes_eq name) names ≡ None
-    → (col : ℕ) (day : ℤ) → MISSING ≡ number_on rows name col day
+    → (f : Figure) (col : ℕ) (day : ℤ) → MISSING ≡ number_on f rows name col day
 unfolding number_on
-no-name name names rows named e col day =
-    sym (ap (λ l. unwrap_or (option_map (λ r. r.value) (last_known l)) MISSING) (unnamed name col day rows (other-name name names rows named e)))
+no-name name names rows named e f col day =
+    sym (ap (λ l. unwrap_or (option_map (read_of f day) (last_known l)) MISSING) (unnamed name col day rows (other-name name names rows named e)))
 
 pub no-known : (name : List ℕ) (names : List (List ℕ)) (rows : List ColumnNumber) → All (λ r. Contains names r.name) rows → position (bytes_eq name) names ≡ None
     → (col : ℕ) (day : ℤ) → None ≡ known_on rows name col day

@@ -7,7 +7,7 @@ use Rattle.std.proofs.lemmas.Bool.Decides.{nat_tests}
 use Rattle.std.proofs.lemmas.Option.{get_or_from_slice_get, slice_get_within}
 use Rattle.pl_calendar.specs.Days.{AreDays}
 use Rattle.pl_spec.specs.Dates.{IsDay}
-use Rattle.pl_spec.specs.Numbers.{NumberRow, NumbersOnce, is_number_of}
+use Rattle.pl_spec.specs.Numbers.{NumberRow, NumbersOnce, is_number_of, read_of}
 use Rattle.pl_spec.specs.Rounding.{MISSING}
 use Rattle.pl_spec.proofs.Places.{rising_at}
 use Rattle.pl_assets.specs.LabelPlaces.{key}
@@ -16,7 +16,9 @@ use Rattle.pl_assets.proofs.LabelOrder.{keys_back, keys_between, keys_rise}
 use Rattle.pl_assets.proofs.Dated.{by-tells, contains_mapped, mapped_contains, once-mapped}
 use Rattle.std.proofs.lemmas.List.{get_or_default}
 use Rattle.pl_spec.specs.Parts.{ColumnNumber}
-use Rattle.pl_numbers.specs.Numbers.{by_column, known_on, number_on}
+use Rattle.pl_spec.specs.declared.Figure.{Figure}
+use Rattle.pl_spec.specs.declared.Figure.TheVariants as figure
+use Rattle.pl_numbers.specs.Numbers.{bare, by_column, known_on, number_on}
 use Rattle.pl_numbers.specs.NumberPlaces.{AllLow, IsNewest, IsPlace, IsTable, KeyPoint, Rise, key_of, row_at, shown_rows}
 use Rattle.pl_numbers.specs.declared.rows.Place.{Place}
 use Rattle.pl_numbers.specs.declared.rows.NumberRows.{NumberRows}
@@ -129,16 +131,18 @@ module _ (t : NumberRows) (table : IsTable t) where
             let same = keys_between number col q.known p.name p.col p.known day small (let c : p.col < 2 ^ 32 = of_p.col in omega arith) of_q.day of_p.day fits first p_low in
             other same.0 same.1
 
+        pub known_by_then : p.name ≡ number → p.col ≡ col → p.known ≤ℤ day
+        known_by_then a b =
+            let own_key : key number col p.known ≤ key number col day = (let le : key_of p ≤ key number col day = p_low in rw (a, b) at le) in
+            keys_back number col p.known day (is_place p here).day fits own_key
+
         pub newest_found : p.name ≡ number → p.col ≡ col → IsNewest t number col day (Some p)
         unfolding seen_row
         newest_found a b =
             sym (last_found (map by_column (shown_rows t)) (get_or t.names number []) col day rows_once (seen_row p) (there p here) (is_row p was_known) latest)
           where
-            own_key : key number col p.known ≤ key number col day
-            own_key = (let le : key_of p ≤ key number col day = p_low in rw (a, b) at le)
-
             was_known : WasKnown p
-            was_known = record { same_name = a; same_col = b; by_then = keys_back number col p.known day (is_place p here).day fits own_key }
+            was_known = record { same_name = a; same_col = b; by_then = known_by_then a b }
 
             latest : (q : NumberRow) → Contains (map by_column (shown_rows t)) q → is_number_of (get_or t.names number []) col day q ≡ true → q.known ≤ℤ p.known
             latest q in_rows e =
@@ -153,11 +157,16 @@ module _ (t : NumberRows) (table : IsTable t) where
 
 -- ---- what is asked of the row that was known last
 
-pub newest_value : (t : NumberRows) (number col : ℕ) (day : ℤ) (place : Option Place) → IsNewest t number col day place
-    → unwrap_or (option_map (λ p. p.value) place) MISSING ≡ number_on (shown_rows t) (get_or t.names number []) col day
+read_bare : (f : Figure) (day : ℤ) (r : NumberRow) → read_of f day (bare r.value r.known) ≡ read_of f day r
+read_bare figure.Value day r = refl
+read_bare figure.Days day r = refl
+read_bare figure.BusinessDays day r = refl
+
+pub newest_value : (f : Figure) (t : NumberRows) (number col : ℕ) (day : ℤ) (place : Option Place) → IsNewest t number col day place
+    → unwrap_or (option_map (λ p. read_of f day (bare p.value p.known)) place) MISSING ≡ number_on f (shown_rows t) (get_or t.names number []) col day
 unfolding number_on
-newest_value t number col day None e = ap (λ o. unwrap_or (option_map (λ (r : NumberRow). r.value) o) MISSING) e
-newest_value t number col day (Some p) e = ap (λ o. unwrap_or (option_map (λ (r : NumberRow). r.value) o) MISSING) e
+newest_value f t number col day None e = ap (λ o. unwrap_or (option_map (read_of f day) o) MISSING) e
+newest_value f t number col day (Some p) e = read_bare f day (by_column (row_at t.names p)) ∙ ap (λ o. unwrap_or (option_map (read_of f day) o) MISSING) e
 
 pub newest_known : (t : NumberRows) (number col : ℕ) (day : ℤ) (place : Option Place) → IsNewest t number col day place
     → option_map (λ p. p.known) place ≡ known_on (shown_rows t) (get_or t.names number []) col day

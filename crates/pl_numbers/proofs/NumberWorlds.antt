@@ -1,13 +1,15 @@
 -- The numbers of a table are those of the rows of its assets' sids.
 use Rattle.std.proofs.Common.{◌≡◌, ◌&&◌, ℕ, ◌<◌, length, ℤ, List, All, AllPairs, get_or, map, filter, Option, Some, None, option_map, unwrap_or, bytes_eq, refl, sym, ◌∙◌, ap}
 use Rattle.std.specs.Int.RustNames.{int_le}
-use Rattle.pl_spec.specs.Numbers.{NumberRow, is_number_of, last_known}
+use Rattle.pl_spec.specs.Numbers.{NumberRow, is_number_of, last_known, read_of}
 use Rattle.pl_spec.specs.declared.AssetRow.{AssetRow}
 use Rattle.pl_spec.specs.Parts.{ColumnNumber, number_of, sid_at}
 use Rattle.pl_spec.specs.Rounding.{MISSING}
 use Rattle.pl_assets.proofs.Dated.{last_row, last-mapped}
 use Rattle.pl_lifetimes.proofs.Columns.{same_col}
 use Rattle.pl_spec.proofs.Lists.{filter-same}
+use Rattle.pl_spec.specs.declared.Figure.{Figure}
+use Rattle.pl_spec.specs.declared.Figure.TheVariants as figure
 use Rattle.pl_numbers.specs.Numbers.{by_column, known_on, number_on}
 use Rattle.pl_numbers.proofs.NumberKeys.{numbers}
 use Rattle.pl_numbers.specs.NumberLaws.{KnownAreThose, NumbersAreThose}
@@ -42,7 +44,12 @@ module _ (assets : List AssetRow) (rows : List ColumnNumber) (up : AllPairs (λ 
 
 pub numbers_those : NumbersAreThose
 unfolding number_on
-numbers_those assets rows up inside name col day h = ap (λ o. unwrap_or o MISSING) (same_newest assets rows up inside name col day h (λ n. n.value) (λ r. refl))
+numbers_those assets rows up inside f name col day h = ap (λ o. unwrap_or o MISSING) (same_newest assets rows up inside name col day h (read_of f day) (read_same f))
+  where
+    read_same : (f : Figure) (r : ColumnNumber) → read_of f day (number_of assets r) ≡ read_of f day (by_column r)
+    read_same figure.Value r = refl
+    read_same figure.Days r = refl
+    read_same figure.BusinessDays r = refl
 
 pub known_those : KnownAreThose
 unfolding known_on

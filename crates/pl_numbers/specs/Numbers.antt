@@ -15,6 +15,7 @@ use Rattle.pl_spec.specs.Numbers.{NumberRow, number_at, known_at}
 use Rattle.pl_spec.specs.Parts.{ColumnNumber}
 use Rattle.pl_spec.specs.Rounding.{IsCell}
 use Rattle.pl_spec.specs.declared.AssetRow.{AssetRow}
+use Rattle.pl_spec.specs.declared.Figure.{Figure}
 use Rattle.pl_lifetimes.specs.Assets.{col_in, placed}
 use Rattle.pl_assets.specs.Labels.{first_seen}
 use Rattle.pl_assets.specs.LabelPlaces.{key}
@@ -45,10 +46,14 @@ table_of rows = record { names = names_of rows; rows = sorted_by (key_in (names_
 abbrev pub by_column : ColumnNumber → NumberRow
 by_column r = record { name = r.name; sid = r.col; known = r.known; value = r.value }
 
--- the value of the row under the name that was known last in the column by the day, missing where there is
+-- what is read of the row under the name that was known last in the column by the day, missing where there is
 -- none
-unfoldable pub number_on : List ColumnNumber → List ℕ → ℕ → ℤ → ℤ
-number_on rows name col day = number_at (map by_column rows) name col day
+unfoldable pub number_on : Figure → List ColumnNumber → List ℕ → ℕ → ℤ → ℤ
+number_on f rows name col day = number_at f (map by_column rows) name col day
+
+-- a row of which the name and the asset do not matter
+abbrev pub bare : ℤ → ℤ → NumberRow
+bare value known = record { name = []; sid = 0; known = known; value = value }
 
 -- the day from which that number was known, where there is such a row
 unfoldable pub known_on : List ColumnNumber → List ℕ → ℕ → ℤ → Option ℤ

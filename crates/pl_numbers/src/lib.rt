@@ -9,15 +9,18 @@ ghost use Rattle.pl_spec.specs.Rounding.{IsCell};
 ghost use Rattle.pl_records.specs.Reading.{Answers};
 ghost use Rattle.pl_records.specs.Records.{csv_records};
 ghost use Rattle.pl_numbers.specs.Numbers.{AreNumbers, known_on, number_on, numbers_of};
+ghost use Rattle.pl_numbers.specs.Beside.{numbers_beside};
 ghost use Rattle.pl_numbers.specs.NumberFaults.{fault_of};
 ghost use Rattle.pl_numbers.specs.NumberRowsShown.{is_newest_in, shown_at};
 
 mod cut;
 mod error;
+mod join;
 mod last;
 pub mod laws;
 mod named;
 mod order;
+mod read;
 mod reading;
 mod rows;
 mod search;
@@ -29,6 +32,7 @@ pub use error::NumbersError;
 use pl_calendar::Sessions;
 use pl_fixed::Memory;
 use pl_lifetimes::Assets;
+pub use pl_spec::Figure;
 pub use rows::NumberAt;
 use rows::NumberRows;
 use std::alloc::Global;
@@ -82,10 +86,30 @@ impl Numbers {
         ensures exact { Answers (λ n. n) fault_of result
             (numbers_of assets.now (csv_records bytes.now)) }
         ensures numbers { IfOk result AreNumbers }
-        // Each stands in the column of an asset.
+        // Each stands in the column of an asset, and each name has a row.
         ensures cols { IfOk result (λ n. All (λ r. r.col < length assets.now) n.rows) }
+        ensures named { IfOk result (λ n. length n.names ≤ length n.rows) }
     {
         let rows = table::read_table(alloc, bytes, assets)?;
+        Ok(Numbers { rows })
+    }
+
+    /// These numbers with those of a second file, which has the form of a first one. A name has rows in one
+    /// of the two alone.
+    pub fn with_file(
+        self,
+        alloc: Global,
+        bytes: &[u8],
+        assets: &Assets,
+    ) -> Result<Numbers, NumbersError>
+        requires named { length self.names ≤ length self.rows }
+        requires cols { All (λ r. r.col < length assets.now) self.rows }
+        ensures exact { Answers (λ n. n) fault_of result
+            (numbers_beside self assets.now (csv_records bytes.now)) }
+        ensures cols { IfOk result (λ n. All (λ r. r.col < length assets.now) n.rows) }
+    {
+        let Numbers { rows: first } = self;
+        let rows = join::with_file(alloc, first, bytes, assets)?;
         Ok(Numbers { rows })
     }
 
@@ -136,15 +160,15 @@ impl Numbers {
         }
     }
 
-    /// The cell of a column under a name on a day: that of the row that was known last by then, missing where
+    /// What is read of a column under a name on a day, in the row that was known last by then; missing where
     /// there is none.
-    pub fn number_on(&self, name: u32, col: usize, day: i32) -> i64
+    pub fn number_on(&self, figure: Figure, name: u32, col: usize, day: i32) -> i64
         requires { name < length self.now.names }
         ensures value { result
-            ≡ number_on self.now.rows (slice_index_or self.now.names name []) col day }
+            ≡ number_on figure self.now.rows (slice_index_or self.now.names name []) col day }
         ensures cell { IsCell result }
     {
-        search::number_on(&self.rows, name, col, day)
+        search::number_on(&self.rows, figure, name, col, day)
     }
 
     /// The day from which that row counts, where there is one.
@@ -157,17 +181,25 @@ impl Numbers {
         search::known_on(&self.rows, name, col, day)
     }
 
-    /// Writes the cells of a column under a name on sessions from the first one on. The rows of the column
+    /// Writes what is read of a column under a name on sessions from the first one on. The rows of the column
     /// are gone over once.
-    pub fn fill(&self, name: u32, col: usize, sessions: &Sessions, first: usize, into: &mut [i64])
+    pub fn fill(
+        &self,
+        figure: Figure,
+        name: u32,
+        col: usize,
+        sessions: &Sessions,
+        first: usize,
+        into: &mut [i64],
+    )
         requires name { name < length self.now.names }
         requires range { first + length into.old ≤ length sessions.now }
         ensures values { (k : ℕ) → k < length into.old → slice_index_or into.new k (pos 0)
-            ≡ number_on self.now.rows (slice_index_or self.now.names name []) col
+            ≡ number_on figure self.now.rows (slice_index_or self.now.names name []) col
             (slice_index_or sessions.now (first + k) (pos 0)) }
         ensures cells { (k : ℕ) → k < length into.old
             → IsCell (slice_index_or into.new k (pos 0)) }
     {
-        search::fill(&self.rows, name, col, sessions, first, into);
+        search::fill(&self.rows, figure, name, col, sessions, first, into);
     }
 }

@@ -7,18 +7,26 @@ ghost use Rattle.pl_numbers.specs.Numbers.{known_on, number_on};
 use crate::Numbers;
 use pl_calendar::Sessions;
 use pl_fixed::MISSING;
+use pl_spec::Figure;
 
 impl Numbers {
-    /// The cell of a column under a name on a day: that of the row that was known last by then, missing where
+    /// What is read of a column under a name on a day, in the row that was known last by then; missing where
     /// there is none. `number` is the name's number, as `name_of` gives it.
-    pub fn number_under(&self, name: &[u8], number: Option<u32>, col: usize, day: i32) -> i64
+    pub fn number_under(
+        &self,
+        figure: Figure,
+        name: &[u8],
+        number: Option<u32>,
+        col: usize,
+        day: i32,
+    ) -> i64
         requires { number ≡ position (bytes_eq name.now) self.now.names }
-        ensures value { result ≡ number_on self.now.rows name.now col day }
+        ensures value { result ≡ number_on figure self.now.rows name.now col day }
         ensures cell { IsCell result }
     {
         let _rows = self.len();
         match number {
-            Some(number) => self.number_on(number, col, day),
+            Some(number) => self.number_on(figure, number, col, day),
             None => MISSING,
         }
     }
@@ -37,9 +45,10 @@ impl Numbers {
         }
     }
 
-    /// Writes the cells of a column under a name on sessions from the first one on.
+    /// Writes what is read of a column under a name on sessions from the first one on.
     pub fn fill_under(
         &self,
+        figure: Figure,
         name: &[u8],
         col: usize,
         sessions: &Sessions,
@@ -48,13 +57,13 @@ impl Numbers {
     )
         requires { first + length into.old ≤ length sessions.now }
         ensures values { (k : ℕ) → k < length into.old → slice_index_or into.new k (pos 0)
-            ≡ number_on self.now.rows name.now col (slice_index_or sessions.now (first + k) (pos 0)) }
+            ≡ number_on figure self.now.rows name.now col (slice_index_or sessions.now (first + k) (pos 0)) }
         ensures cells { (k : ℕ) → k < length into.old
             → IsCell (slice_index_or into.new k (pos 0)) }
     {
         let _rows = self.len();
         match self.name_of(name) {
-            Some(number) => self.fill(number, col, sessions, first, into),
+            Some(number) => self.fill(figure, number, col, sessions, first, into),
             None => into.fill(MISSING),
         }
     }

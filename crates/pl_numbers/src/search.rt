@@ -1,5 +1,5 @@
-//! The number of a column on a day.
-ghost use Rattle.std.specs.Prelude.{◌≡◌, ◌+◌, ◌<◌, ◌≤◌, [], ℕ, ℤ, FitsSigned, IsTrue, length, nat_le, pos, slice_get, slice_index_or, Some, IfSome, option_map};
+//! The number of a column on a day, and its age.
+ghost use Rattle.std.specs.Prelude.{◌≡◌, ◌+◌, ◌<◌, ◌≤◌, ◌≤ℤ◌, [], ℕ, ℤ, FitsSigned, IsTrue, length, nat_le, pos, slice_get, slice_index_or, Some, IfSome, option_map};
 ghost use Rattle.std.specs.Int.{w32};
 ghost use Rattle.pl_spec.specs.Dates.{IsDay};
 ghost use Rattle.pl_spec.specs.Rounding.{IsCell};
@@ -8,19 +8,22 @@ ghost use Rattle.pl_numbers.specs.Numbers.{known_on, number_on};
 ghost use Rattle.pl_numbers.specs.NumberPlaces.{AllLow, IsNewest, IsTable, KeyPoint, Rise, key_of, shown_rows};
 ghost use Rattle.pl_numbers.specs.NumberRowsShown.{is_newest_in};
 
+use crate::read::read_of;
 use crate::rows::{NumberRows, Place, key, key_of};
 use pl_calendar::Sessions;
 use pl_fixed::MISSING;
+use pl_spec::Figure;
 
-// The cell of the row under the name that was known last in the column by the day.
-pub(crate) fn number_on(rows: &NumberRows, name: u32, col: usize, day: i32) -> i64
+// What is read of the row under the name that was known last in the column by the day.
+pub(crate) fn number_on(rows: &NumberRows, figure: Figure, name: u32, col: usize, day: i32) -> i64
     requires table { IsTable rows.now }
     requires name { name < length rows.now.names }
-    ensures value { result ≡ number_on (shown_rows rows.now) (slice_index_or rows.now.names name []) col day }
+    ensures value { result
+        ≡ number_on figure (shown_rows rows.now) (slice_index_or rows.now.names name []) col day }
     ensures cell { IsCell result }
 {
     let end = point_of(&rows.places, key(name, col, day));
-    value_before(rows, name, col, end)
+    value_before(rows, figure, name, col, end, day)
 }
 
 // The day from which the row under the name counts that was known last in the column by the day.
@@ -90,6 +93,8 @@ fn newest_before(rows: &NumberRows, name: u32, col: usize, end: usize) -> Option
     requires within { end ≤ length rows.now.places.items }
     ensures newest { (day : ℤ) → FitsSigned w32 day → KeyPoint rows.now.places.items (key name col day) end
         → IsNewest rows.now name col day result }
+    ensures by_then { (day : ℤ) → FitsSigned w32 day → KeyPoint rows.now.places.items (key name col day) end
+        → IfSome result (λ p. p.known ≤ℤ day) }
     ensures cell { IfSome result (λ p. IsCell p.value) }
     ensures day { IfSome result (λ p. IsDay p.known) }
 {
@@ -104,17 +109,25 @@ fn newest_before(rows: &NumberRows, name: u32, col: usize, end: usize) -> Option
     }
 }
 
-// The cell of that row.
-fn value_before(rows: &NumberRows, name: u32, col: usize, end: usize) -> i64
+// What is read of that row on the day.
+fn value_before(
+    rows: &NumberRows,
+    figure: Figure,
+    name: u32,
+    col: usize,
+    end: usize,
+    day: i32,
+) -> i64
     requires table { IsTable rows.now }
     requires name { name < length rows.now.names }
     requires within { end ≤ length rows.now.places.items }
-    ensures value { (day : ℤ) → FitsSigned w32 day → KeyPoint rows.now.places.items (key name col day) end
-        → result ≡ number_on (shown_rows rows.now) (slice_index_or rows.now.names name []) col day }
+    requires point { KeyPoint rows.now.places.items (key name col day) end }
+    ensures value { result
+        ≡ number_on figure (shown_rows rows.now) (slice_index_or rows.now.names name []) col day }
     ensures cell { IsCell result }
 {
     match newest_before(rows, name, col, end) {
-        Some(place) => place.value,
+        Some(place) => read_of(figure, place.value, place.known, day),
         None => MISSING,
     }
 }
@@ -123,6 +136,7 @@ fn value_before(rows: &NumberRows, name: u32, col: usize, end: usize) -> i64
 // gone over once.
 pub(crate) fn fill(
     rows: &NumberRows,
+    figure: Figure,
     name: u32,
     col: usize,
     sessions: &Sessions,
@@ -133,14 +147,15 @@ pub(crate) fn fill(
     requires name { name < length rows.now.names }
     requires range { first + length into.old ≤ length sessions.now }
     ensures values { (k : ℕ) → k < length into.old → slice_index_or into.new k (pos 0)
-        ≡ number_on (shown_rows rows.now) (slice_index_or rows.now.names name []) col
+        ≡ number_on figure (shown_rows rows.now) (slice_index_or rows.now.names name []) col
         (slice_index_or sessions.now (first + k) (pos 0)) }
     ensures cells { (k : ℕ) → k < length into.old → IsCell (slice_index_or into.new k (pos 0)) }
 {
     let _count = sessions.len();
     let mut at = point_of(&rows.places, key(name, col, i32::MIN));
     for k in 0..into.len() {
-        at = point_onward(&rows.places, at, key(name, col, sessions.day(first + k)));
-        into[k] = value_before(rows, name, col, at);
+        let day = sessions.day(first + k);
+        at = point_onward(&rows.places, at, key(name, col, day));
+        into[k] = value_before(rows, figure, name, col, at, day);
     }
 }

@@ -3,6 +3,7 @@ use Rattle.std.proofs.Common.{◌≡◌, ℕ, Bool, true, false, ◌&&◌, if◌
 use Rattle.pl_spec.specs.Rounding.{is_present}
 use Rattle.pl_spec.specs.World.{World, living_sids, label_at, known_number}
 use Rattle.pl_spec.proofs.Each.{Each, each_more, each_all, filter_each}
+use Rattle.pl_spec.specs.declared.Figure.{Figure}
 use Rattle.pl_pipeline.specs.Kind as kinds
 use Rattle.pl_pipeline.specs.Kind.{Kind, CrossKind}
 use Rattle.pl_pipeline.specs.Kind.Kind.{Label, Window, Point, LabelTest, Cross, Downsample}
@@ -74,7 +75,7 @@ pub record SamePart (w v : World) (size : ℕ) (x y : Part) (d : ℤ) : Type 0 w
 -- it reads them at, its mask and its group on d.
 pub record SameReads (w v : World) (k : Kind) (size : ℕ) (o q : Operands) (a : ℕ) (d : ℤ) : Type 0 where
   pub labels : (name : List ℕ) → label_at w name a d ≡ label_at v name a d
-  pub numbers : (name : List ℕ) → known_number w name a d ≡ known_number v name a d
+  pub numbers : (f : Figure) (name : List ℕ) → known_number w f name a d ≡ known_number v f name a d
   pub living : living_sids w d ≡ living_sids v d
   pub reads : reads_at w.days k d ≡ reads_at v.days k d
   pub first : SamePart w v size o.first q.first (reads_at w.days k d)
@@ -87,7 +88,7 @@ module _ (w v : World) (names : List (List ℕ)) (size : ℕ) (o q : Operands) (
   pub step_alike : (k : Kind) → SameReads w v k size o q a d → kind_value w names k size o a d ≡ kind_value v names k size q a d
   unfolding kind_value
   step_alike (Label n) h = ap label_value (h.labels (name_at names n))
-  step_alike (kinds.Number n) h = ap Number (h.numbers (name_at names n))
+  step_alike (kinds.Number f n) h = ap Number (h.numbers f (name_at names n))
   step_alike (Window k) h = rw (h.first.window a, h.second.window a, h.third.window a) refl
   step_alike (Point k) h = rw ((h.first.now a).value, (h.second.now a).value, (h.third.now a).value) refl
   step_alike (LabelTest k) h = ap (test_value k) (h.first.now a).value

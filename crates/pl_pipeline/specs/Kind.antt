@@ -6,6 +6,7 @@ use Rattle.pl_pipeline.specs.declared.RankMethod.{RankMethod}
 use Rattle.pl_pipeline.specs.declared.Summary.{Summary}
 use Rattle.pl_pipeline.specs.declared.RankOrder.{RankOrder}
 use Rattle.pl_spec.specs.declared.Frequency.{Frequency}
+use Rattle.pl_spec.specs.declared.Figure.{Figure}
 
 pub data PointKind : Type 0 where
   Add Sub Mul Div Neg : PointKind
@@ -32,11 +33,11 @@ pub data CrossKind : Type 0 where
   Scale : CrossKind
   Summarize : Summary → CrossKind
 
--- the name of a Label or of a Number is its number among the pipeline's names
+-- the name of a Label or of a Number is its number among the pipeline's names; of a Number a figure is read
 pub data Kind : Type 0 where
   Constant : (cell : ℤ) → Kind
   Label : (name : ℕ) → Kind
-  Number : (name : ℕ) → Kind
+  Number : (figure : Figure) (name : ℕ) → Kind
   StaticSids : (sids : List ℕ) → Kind
   Window : WindowKind → Kind
   Point : PointKind → Kind

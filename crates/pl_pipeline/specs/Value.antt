@@ -229,7 +229,7 @@ name_at names n = unwrap_or (slice_get names n) []
 unfoldable pub kind_value : World → List (List ℕ) → Kind → ℕ → Operands → Meaning
 kind_value w names (Constant cell) size operands a d = Number cell
 kind_value w names (Label n) size operands a d = label_value (label_at w (name_at names n) a d)
-kind_value w names (kind.Number n) size operands a d = Number (known_number w (name_at names n) a d)
+kind_value w names (kind.Number f n) size operands a d = Number (known_number w f (name_at names n) a d)
 kind_value w names (StaticSids sids) size operands a d = Number (truth (list_any (λ b. b == a) sids))
 kind_value w names (Window k) size operands a d =
     Number

@@ -194,5 +194,5 @@ module _ (w : World) (sound : AreSound w) where
           adjustments = same-events;
           lifetimes = same-lives;
           labels = λ name a s below. labels-of_days (fed_world w (suc n)) (world_of w) refl name a s (same-days s below);
-          numbers = λ name a x below. refl;
+          numbers = λ f name a x below. refl;
         }

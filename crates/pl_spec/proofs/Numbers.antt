@@ -7,7 +7,8 @@ use Rattle.std.proofs.lemmas.Int.{ints}
 use Rattle.std.proofs.lemmas.Bool.{eq-eqb, eqb-true, and_parts}
 use Rattle.std.proofs.lemmas.Slice.Eq.{bytes_eq-Decides}
 use Rattle.pl_spec.specs.Rounding.{MISSING}
-use Rattle.pl_spec.specs.Numbers.{NumberRow, last_known, is_number_of, number_at, numbers_by, NumbersOnce, NumbersAreFound, NumbersLookBack}
+use Rattle.pl_spec.specs.declared.Figure.{Figure}
+use Rattle.pl_spec.specs.Numbers.{NumberRow, last_known, is_number_of, read_of, number_at, numbers_by, NumbersOnce, NumbersAreFound, NumbersLookBack}
 use Rattle.pl_spec.proofs.Signed.{int_le-true, le-int_le, le-both}
 use Rattle.pl_spec.proofs.Lists.{filter-filter}
 use Rattle.pl_spec.proofs.Finds.{find-one, find-none, contains-filter, filter-contains, all-contains, contains-all}
@@ -41,8 +42,8 @@ one_last rows once name a day x y in_x in_y last_x last_y =
     once x y row_x.0 row_y.0 (of_x.0 ∙ sym of_y.0) (of_x.1 ∙ sym of_y.1) (le-both x.known y.known above below)
 
 number-found : (rows : List NumberRow) → NumbersOnce rows → (name : List ℕ) (a : ℕ) (day : ℤ) → (r : NumberRow) → Contains rows r → is_number_of name a day r ≡ true
-    → ((q : NumberRow) → Contains rows q → is_number_of name a day q ≡ true → q.known ≤ℤ r.known) → number_at rows name a day ≡ r.value
-number-found rows once name a day r h e latest = ap (λ o. unwrap_or (option_map (λ (x : NumberRow). x.value) o) MISSING) (find-one (is_last us) us r here is_last_one one)
+    → ((q : NumberRow) → Contains rows q → is_number_of name a day q ≡ true → q.known ≤ℤ r.known) → (f : Figure) → number_at f rows name a day ≡ read_of f day r
+number-found rows once name a day r h e latest f = ap (λ o. unwrap_or (option_map (read_of f day) o) MISSING) (find-one (is_last us) us r here is_last_one one)
   where
     us : List NumberRow
     us = filter (is_number_of name a day) rows
@@ -58,9 +59,9 @@ number-found rows once name a day r h e latest = ap (λ o. unwrap_or (option_map
     one : (y : NumberRow) → Contains us y → is_last us y ≡ true → y ≡ r
     one y in_us last = one_last rows once name a day y r in_us here last is_last_one
 
-number-none : (rows : List NumberRow) (name : List ℕ) (a : ℕ) (day : ℤ) → ((q : NumberRow) → Contains rows q → is_number_of name a day q ≡ true → ⊥) → number_at rows name a day ≡ MISSING
-number-none rows name a day none =
-    ap (λ o. unwrap_or (option_map (λ (x : NumberRow). x.value) o) MISSING)
+number-none : (rows : List NumberRow) (name : List ℕ) (a : ℕ) (day : ℤ) → ((q : NumberRow) → Contains rows q → is_number_of name a day q ≡ true → ⊥) → (f : Figure) → number_at f rows name a day ≡ MISSING
+number-none rows name a day none f =
+    ap (λ o. unwrap_or (option_map (read_of f day) o) MISSING)
     (find-none (is_last (filter (is_number_of name a day) rows)) (filter (is_number_of name a day) rows)
     (λ y in_us e. let place = filter-contains (is_number_of name a day) rows y in_us in none y place.0 place.1))
 
@@ -69,17 +70,17 @@ number-none rows name a day none =
 pub known_by : (name : List ℕ) (a : ℕ) (d day : ℤ) → d ≤ℤ day → (r : NumberRow) → is_number_of name a d r ≡ true → int_le r.known day ≡ true
 known_by name a d day h r p = grind (arith, ints)
 
-number-without : (rows : List NumberRow) (day : ℤ) (name : List ℕ) (a : ℕ) (d : ℤ) → d ≤ℤ day → number_at (numbers_by day rows) name a d ≡ number_at rows name a d
-number-without rows day name a d h =
-    ap (λ l. unwrap_or (option_map (λ (x : NumberRow). x.value) (last_known l)) MISSING)
+number-without : (rows : List NumberRow) (day : ℤ) (f : Figure) (name : List ℕ) (a : ℕ) (d : ℤ) → d ≤ℤ day → number_at f (numbers_by day rows) name a d ≡ number_at f rows name a d
+number-without rows day f name a d h =
+    ap (λ l. unwrap_or (option_map (read_of f d) (last_known l)) MISSING)
     (filter-filter (is_number_of name a d) (λ (r : NumberRow). int_le r.known day) (known_by name a d day h) rows)
 
-number-agreeing : (rows others : List NumberRow) (day : ℤ) → numbers_by day rows ≡ numbers_by day others → (name : List ℕ) (a : ℕ) (d : ℤ) → d ≤ℤ day → number_at rows name a d ≡ number_at others name a d
-number-agreeing rows others day same name a d h =
-    sym (number-without rows day name a d h) ∙ ap (λ l. number_at l name a d) same ∙ number-without others day name a d h
+number-agreeing : (rows others : List NumberRow) (day : ℤ) → numbers_by day rows ≡ numbers_by day others → (f : Figure) (name : List ℕ) (a : ℕ) (d : ℤ) → d ≤ℤ day → number_at f rows name a d ≡ number_at f others name a d
+number-agreeing rows others day same f name a d h =
+    sym (number-without rows day f name a d h) ∙ ap (λ l. number_at f l name a d) same ∙ number-without others day f name a d h
 
-number-permuted : (rows others : List NumberRow) → NumbersOnce rows → IsPermutation rows others → (name : List ℕ) (a : ℕ) (day : ℤ) → number_at rows name a day ≡ number_at others name a day
-number-permuted rows others once moved name a day = ap (λ o. unwrap_or (option_map (λ (x : NumberRow). x.value) o) MISSING) last_same
+number-permuted : (rows others : List NumberRow) → NumbersOnce rows → IsPermutation rows others → (f : Figure) (name : List ℕ) (a : ℕ) (day : ℤ) → number_at f rows name a day ≡ number_at f others name a day
+number-permuted rows others once moved f name a day = ap (λ o. unwrap_or (option_map (read_of f day) o) MISSING) last_same
   where
     us : List NumberRow
     us = filter (is_number_of name a day) rows

@@ -2,6 +2,7 @@
 use Rattle.std.specs.Prelude.{◌≡◌, ℕ, Bool, ℤ, ◌<ℤ◌, ◌≤ℤ◌, List, filter, Some}
 use Rattle.std.specs.Int.RustNames.{int_le}
 use Rattle.pl_spec.specs.declared.Column.{Column}
+use Rattle.pl_spec.specs.declared.Figure.{Figure}
 use Rattle.pl_spec.specs.Numbers.{number_at}
 use Rattle.pl_spec.specs.World.{World, Event, events_of, day_of, bar_cell, exists, label_at}
 
@@ -20,5 +21,5 @@ pub record Agree (w v : World) (d day : ℤ) : Type 0 where
   pub adjustments : (a : ℕ) → filter (is_known day) (events_of w a) ≡ filter (is_known day) (events_of v a)
   pub lifetimes : (a : ℕ) (s : ℤ) → s ≤ℤ d → exists w a s ≡ exists v a s
   pub labels : (name : List ℕ) (a : ℕ) (s : ℤ) → s ≤ℤ d → label_at w name a s ≡ label_at v name a s
-  pub numbers : (name : List ℕ) (a : ℕ) (x : ℤ) → x ≤ℤ day
-      → number_at w.numbers name a x ≡ number_at v.numbers name a x
+  pub numbers : (f : Figure) (name : List ℕ) (a : ℕ) (x : ℤ) → x ≤ℤ day
+      → number_at f w.numbers name a x ≡ number_at f v.numbers name a x

@@ -16,5 +16,6 @@ pub mod Agree
 pub mod Permuted
 pub mod AsOf
 pub mod Names
+pub mod Ages
 pub mod Numbers
 pub mod Each

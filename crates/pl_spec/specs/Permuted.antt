@@ -2,6 +2,7 @@
 use Rattle.std.specs.Prelude.{◌≡◌, ◌≢◌, ℕ, ℤ, List, filter, AllPairs, IsPermutation}
 use Rattle.std.specs.Ordering.{int_eq}
 use Rattle.pl_spec.specs.declared.Column.{Column}
+use Rattle.pl_spec.specs.declared.Figure.{Figure}
 use Rattle.pl_spec.specs.Numbers.{number_at}
 use Rattle.pl_spec.specs.World.{World, Event, events_of, bar_cell, exists, label_at}
 
@@ -13,8 +14,8 @@ pub record AgreeInAll (w v : World) : Type 0 where
   pub adjustments : (a : ℕ) → events_of w a ≡ events_of v a
   pub lifetimes : (a : ℕ) (s : ℤ) → exists w a s ≡ exists v a s
   pub labels : (name : List ℕ) (a : ℕ) (s : ℤ) → label_at w name a s ≡ label_at v name a s
-  pub numbers : (name : List ℕ) (a : ℕ) (day : ℤ)
-      → number_at w.numbers name a day ≡ number_at v.numbers name a day
+  pub numbers : (f : Figure) (name : List ℕ) (a : ℕ) (day : ℤ)
+      → number_at f w.numbers name a day ≡ number_at f v.numbers name a day
 
 -- the adjustments of asset a that are effective from the day on, in the order in which they act
 abbrev pub events_on : World → ℕ → ℤ → List Event

@@ -6,6 +6,7 @@ use Rattle.pl_spec.specs.declared.AssetRow.{AssetRow}
 use Rattle.pl_spec.specs.declared.AdjustmentKind.{AdjustmentKind}
 use Rattle.pl_spec.specs.declared.Column.{Column}
 use Rattle.pl_spec.specs.declared.Column.TheVariants.{OpenPrice, High, Low, Close, Volume}
+use Rattle.pl_spec.specs.declared.Figure.{Figure}
 use Rattle.pl_spec.specs.Rounding.{MISSING, Fraction}
 use Rattle.pl_spec.specs.Numbers.{NumberRow, number_at}
 
@@ -121,6 +122,6 @@ abbrev pub label_at : World → List ℕ → ℕ → ℤ → Option (List ℕ)
 label_at w name a d =
     option_and_then (λ day. option_and_then (λ r. nonempty r.text) (last_started (filter (is_label_of name a day) w.labels))) (day_of w d)
 
--- the number of asset a under the name on session d, missing where there is none
-abbrev pub known_number : World → List ℕ → ℕ → ℤ → ℤ
-known_number w name a d = unwrap_or (option_map (number_at w.numbers name a) (day_of w d)) MISSING
+-- the number of asset a under the name on session d, or its age, missing where there is none
+abbrev pub known_number : World → Figure → List ℕ → ℕ → ℤ → ℤ
+known_number w f name a d = unwrap_or (option_map (number_at f w.numbers name a) (day_of w d)) MISSING

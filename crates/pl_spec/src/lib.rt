@@ -48,6 +48,15 @@ pub enum Frequency {
     WeekStart,
 }
 
+/// What is read of the newest record of a number: its value, or how old it is, in days or in days from Monday to
+/// Friday.
+#[derive(Clone, Copy, Debug, PartialEq, Eq)]
+pub enum Figure {
+    Value,
+    Days,
+    BusinessDays,
+}
+
 /// The form of a table: fields with commas between them; columns of one width with a space between them, the
 /// date in 10 bytes, the sid in 10, each value in 20, where a longer text stays whole; or numbers as a machine
 /// has them, low bytes first, with nothing between them: the day in 4 bytes, the sid in 4, a factor's cell in

@@ -3,6 +3,8 @@ use Rattle.std.specs.Prelude.{ℕ, Bool, true, false, if◌then◌else◌, List,
 use Rattle.pl_spec.specs.declared.Column.{Column}
 use Rattle.pl_spec.specs.declared.Compare.{Compare}
 use Rattle.pl_spec.specs.declared.Compare.TheVariants.{Less, LessEqual, Greater, GreaterEqual, Equal, NotEqual}
+use Rattle.pl_spec.specs.declared.Figure.{Figure}
+use Rattle.pl_spec.specs.declared.Figure.TheVariants as figure
 use Rattle.pl_pipeline.specs.declared.Summary.{Summary}
 use Rattle.pl_pipeline.specs.declared.Summary.TheVariants as summary
 use Rattle.pl_pipeline.specs.declared.WindowKind.{WindowKind}
@@ -174,6 +176,12 @@ window_has_mask k = true
 
 -- ---- rows
 
+-- a number beside bars, or its age
+abbrev pub figure_name : Figure → List ℕ
+figure_name figure.Value = codes "Number"
+figure_name figure.Days = codes "Age"
+figure_name figure.BusinessDays = codes "BusinessAge"
+
 -- a term of no inputs may stand in a window
 abbrev leaf_row : List ℕ → Family → Sort → KindRow
 leaf_row n f s = record {
@@ -249,7 +257,7 @@ cross_row k = record {
 abbrev pub kind_row : Kind → KindRow
 kind_row (kind.Constant cell) = leaf_row (codes "Const") (family.Constant cell) Factors
 kind_row (kind.Label name) = leaf_row (codes "Label") (family.Label name) Labels
-kind_row (kind.Number name) = leaf_row (codes "Number") (family.Number name) Factors
+kind_row (kind.Number f name) = leaf_row (figure_name f) (family.Number f name) Factors
 kind_row (kind.StaticSids sids) = leaf_row (codes "StaticSids") family.Sids Filters
 kind_row (kind.Window k) = window_row k
 kind_row (kind.Point k) = point_row k

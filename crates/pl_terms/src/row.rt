@@ -7,17 +7,17 @@ ghost use Rattle.pl_terms.specs.Windows.{window_in};
 
 use crate::kind::{LabelValue, TermKind, window_kind, window_row};
 use pl_pipeline::{Summary, WindowKind};
-use pl_spec::Frequency;
+use pl_spec::{Figure, Frequency};
 
 /// How the value of a kind comes from those of its inputs: a constant in millionths, a label under the name
-/// of a number, a number beside bars under such a name, a list of sids, a formula or a filter over windows,
+/// of a number, a number beside bars, or its age, under such a name, a list of sids, a formula or a filter over windows,
 /// an operation on the values of one place, a test of a label, a cross-section, or the input's value on the
 /// first session of the period.
 #[derive(Clone, Copy, Debug, PartialEq, Eq)]
 pub enum Family {
     Constant(i64),
     Label(u32),
-    Number(u32),
+    Number(Figure, u32),
     Sids,
     Window,
     Point,
@@ -46,6 +46,16 @@ pub struct KindRow {
     pub is_safe: bool,
     pub is_safe_over: bool,
     pub keeps_values: bool,
+}
+
+fn figure_name(figure: Figure) -> &'static str
+    ensures { result.now ≡ spec.figure_name figure }
+{
+    match figure {
+        Figure::Value => "Number",
+        Figure::Days => "Age",
+        Figure::BusinessDays => "BusinessAge",
+    }
 }
 
 // A term of no inputs may stand in a window.
@@ -272,7 +282,10 @@ fn other_row(kind: &TermKind) -> KindRow
     match kind {
         TermKind::Const { value } => leaf("Const", Family::Constant(*value), Sort::Factors),
         TermKind::Label { name } => leaf("Label", Family::Label(*name), Sort::Labels),
-        TermKind::Number { name } => leaf("Number", Family::Number(*name), Sort::Factors),
+        TermKind::Number { figure, name } => {
+            let family = Family::Number(*figure, *name);
+            leaf(figure_name(*figure), family, Sort::Factors)
+        }
         TermKind::StaticSids { .. } => leaf("StaticSids", Family::Sids, Sort::Filters),
         TermKind::Add => number("Add"),
         TermKind::Sub => number("Sub"),

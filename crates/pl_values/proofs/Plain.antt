@@ -12,6 +12,7 @@ use Rattle.pl_pipeline.specs.Kind.{Kind, LabelKind}
 use Rattle.pl_spec.specs.declared.Frequency.{Frequency}
 use Rattle.pl_pipeline.specs.Kind.Kind.{Constant, Label, Number, LabelTest, Downsample}
 use Rattle.pl_spec.specs.Cells.{truth}
+use Rattle.pl_spec.specs.declared.Figure.{Figure}
 use Rattle.pl_pipeline.specs.Pointwise.{label_test}
 use Rattle.pl_pipeline.specs.Term.{Node, Input}
 use Rattle.pl_pipeline.specs.Term.Input.{BarColumn, TermInput}
@@ -58,22 +59,22 @@ label-cell w p sids k n i s own name e = (
   gated w p sids own.checked k n own.node i s (plain-reads p n (ap is_windowed e)) (label_code w.texts (label_at w (name_at p.names name) (sid_in sids i) (pos s))) (rw e refl),
 )
 
-pub number-below : (k : Kind) (w names name : ℕ) → k ≡ Number name → has_parameters k w names ≡ true → name < names
+pub number-below : (k : Kind) (w names : ℕ) (f : Figure) (name : ℕ) → k ≡ Number f name → has_parameters k w names ≡ true → name < names
 unfolding has_parameters
-number-below k w names name e h = let l : nat_lt name names ≡ true = rw e at h in grind (arith, nat_tests)
+number-below k w names f name e h = let l : nat_lt name names ≡ true = rw e at h in grind (arith, nat_tests)
 
 pub number-cell : NumberCells
 unfolding kind_value
-number-cell w p sids k n i s own name e = (
-  number-below n.kind n.window _ name e (own.checked.nodes k n own.node).parameters,
-  gated w p sids own.checked k n own.node i s (plain-reads p n (ap is_windowed e)) (known_number w (name_at p.names name) (sid_in sids i) (pos s)) (rw e refl),
+number-cell w p sids k n i s own f name e = (
+  number-below n.kind n.window _ f name e (own.checked.nodes k n own.node).parameters,
+  gated w p sids own.checked k n own.node i s (plain-reads p n (ap is_windowed e)) (known_number w f (name_at p.names name) (sid_in sids i) (pos s)) (rw e refl),
 )
 
 -- a world without numbers has none of any asset
-pub no-numbers : (w : World) → w.numbers ≡ [] → (name : List ℕ) (a : ℕ) (d : ℤ) → known_number w name a d ≡ MISSING
-no-numbers w e name a d = ap (λ rows. unwrap_or (option_map (number_at rows name a) (day_of w d)) MISSING) e ∙ here (day_of w d)
+pub no-numbers : (w : World) → w.numbers ≡ [] → (f : Figure) (name : List ℕ) (a : ℕ) (d : ℤ) → known_number w f name a d ≡ MISSING
+no-numbers w e f name a d = ap (λ rows. unwrap_or (option_map (number_at f rows name a) (day_of w d)) MISSING) e ∙ here (day_of w d)
   where
-    here : (o : Option ℤ) → unwrap_or (option_map (number_at [] name a) o) MISSING ≡ MISSING
+    here : (o : Option ℤ) → unwrap_or (option_map (number_at f [] name a) o) MISSING ≡ MISSING
     here None = refl
     here (Some day) = refl
 

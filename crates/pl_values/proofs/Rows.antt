@@ -4,6 +4,7 @@ use Rattle.std.proofs.Common.{◌≡◌, ℕ, ◌<◌, true, ℤ, pos, List, [],
 use Rattle.std.proofs.lemmas.List.{get_or_default}
 use Rattle.pl_spec.specs.Rounding.{MISSING, IsCell}
 use Rattle.pl_spec.specs.World.{World, label_at, known_number}
+use Rattle.pl_spec.specs.declared.Figure.{Figure}
 use Rattle.pl_pipeline.specs.Kind.{CrossKind}
 use Rattle.pl_pipeline.specs.Kind.Kind.{Constant, Label, Number, Cross}
 use Rattle.pl_pipeline.specs.Cross.{array_at}
@@ -36,8 +37,8 @@ given-by w p sids k n i s x y e given cell = record { given = subst (IsGiven w p
 pub label-known : (p : Pipeline) (k : ℕ) (n : Node) → IsNode p k n → (number : ℕ) → n.kind ≡ Label number → number < length p.names
 label-known p k n own number e = label-below n.kind n.window (length p.names) number e (own.checked.nodes k n own.node).parameters
 
-pub number-known : (p : Pipeline) (k : ℕ) (n : Node) → IsNode p k n → (number : ℕ) → n.kind ≡ Number number → number < length p.names
-number-known p k n own number e = number-below n.kind n.window (length p.names) number e (own.checked.nodes k n own.node).parameters
+pub number-known : (p : Pipeline) (k : ℕ) (n : Node) → IsNode p k n → (f : Figure) (number : ℕ) → n.kind ≡ Number f number → number < length p.names
+number-known p k n own f number e = number-below n.kind n.window (length p.names) f number e (own.checked.nodes k n own.node).parameters
 
 module _ (w : World) (p : Pipeline) (sids : List ℕ) (k : ℕ) (n : Node) (own : IsNode p k n) (i s : ℕ) (x : ℤ) where
   pub constant-given : (value : ℤ) → n.kind ≡ Constant value → x ≡ value → IsGivenCell w p sids k n i s x
@@ -56,10 +57,10 @@ module _ (w : World) (p : Pipeline) (sids : List ℕ) (k : ℕ) (n : Node) (own 
     cell = cell;
   }
 
-  pub number-given : (number : ℕ) (name : List ℕ) → n.kind ≡ Number number → slice_get p.names number ≡ Some name → x ≡ known_number w name (sid_in sids i) (pos s) → IsCell x
+  pub number-given : (f : Figure) (number : ℕ) (name : List ℕ) → n.kind ≡ Number f number → slice_get p.names number ≡ Some name → x ≡ known_number w f name (sid_in sids i) (pos s) → IsCell x
       → IsGivenCell w p sids k n i s x
-  number-given number name e named same cell = record {
-    given = subst (IsGiven w p sids k n i s) (ap (λ m. known_number w m (sid_in sids i) (pos s)) (ap (λ o. unwrap_or o []) named) ∙ sym same) (number-cell w p sids k n i s own number e).1;
+  number-given f number name e named same cell = record {
+    given = subst (IsGiven w p sids k n i s) (ap (λ m. known_number w f m (sid_in sids i) (pos s)) (ap (λ o. unwrap_or o []) named) ∙ sym same) (number-cell w p sids k n i s own f number e).1;
     cell = cell;
   }
 

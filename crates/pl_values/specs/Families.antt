@@ -35,7 +35,7 @@ is_label_test k = false
 abbrev pub IsOf : Kind → Family → Type 0
 IsOf k (family.Constant value) = k ≡ spec.Constant value
 IsOf k (family.Label name) = k ≡ spec.Label name
-IsOf k (family.Number name) = k ≡ spec.Number name
+IsOf k (family.Number figure name) = k ≡ spec.Number figure name
 IsOf k family.Sids = is_sids k ≡ true
 IsOf k family.Window = is_windowed k ≡ true
 IsOf k family.Point = is_point k ≡ true

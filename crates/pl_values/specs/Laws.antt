@@ -15,6 +15,7 @@ use Rattle.pl_pipeline.specs.Table.{Pipeline}
 use Rattle.pl_pipeline.specs.Value.{name_at}
 use Rattle.pl_spec.specs.declared.AssetRow.{AssetRow}
 use Rattle.pl_spec.specs.declared.BarRow.{BarRow}
+use Rattle.pl_spec.specs.declared.Figure.{Figure}
 use Rattle.pl_terms.specs.Checked.{IsChecked}
 use Rattle.pl_terms.specs.declared.row.Sort.TheVariants.{Filters}
 use Rattle.pl_terms.specs.Sorts.{sort_at}
@@ -80,10 +81,11 @@ abbrev pub LabelCells : Type 0
 LabelCells = OfNodes (λ w p sids k n i s. (name : ℕ) → n.kind ≡ spec.Label name
     → (name < length p.names) × IsGiven w p sids k n i s (label_code w.texts (label_at w (name_at p.names name) (sid_in sids i) (pos s))))
 
--- so is the name of a number, which is as given
+-- so is the name of a number, which is as given, and so is its age
 abbrev pub NumberCells : Type 0
-NumberCells = OfNodes (λ w p sids k n i s. (name : ℕ) → n.kind ≡ spec.Number name
-    → (name < length p.names) × IsGiven w p sids k n i s (known_number w (name_at p.names name) (sid_in sids i) (pos s)))
+NumberCells = OfNodes (λ w p sids k n i s. (f : Figure) (name : ℕ) → n.kind ≡ spec.Number f name
+    → (name < length p.names)
+    × IsGiven w p sids k n i s (known_number w f (name_at p.names name) (sid_in sids i) (pos s)))
 
 -- a test of the label that a code stands for
 abbrev pub LabelTestCells : Type 0

@@ -15,6 +15,7 @@ use Rattle.pl_pipeline.specs.Value.{name_at, number_of, kind_value}
 use Rattle.pl_spec.specs.World.{World, exists, known_number}
 use Rattle.pl_pipeline.specs.Table.{Pipeline, value_of}
 use Rattle.pl_spec.proofs.Ranges.{range-more, range-next}
+use Rattle.pl_spec.specs.declared.Figure.{Figure}
 use Rattle.pl_pipeline.proofs.Unfolds.{value_at-node}
 use Rattle.pl_terms.proofs.Steady.{checked-steady}
 use Rattle.pl_terms.specs.declared.node.Node as code
@@ -55,29 +56,29 @@ no-mask : (g : Graph) (m : Option ℕ) → optional_fits g false Place.Filter m 
 no-mask g None e = refl
 no-mask g (Some k) e = absurd (let bad : false ≡ true = e in cc)
 
-module _ (w : World) (p : Pipeline) (ok : IsChecked p) (t name : ℕ) (is : IsNumberUnder p t name) where
+module _ (w : World) (p : Pipeline) (ok : IsChecked p) (t : ℕ) (figure : Figure) (name : ℕ) (is : IsNumberUnder p t figure name) where
   pub named : name < length p.names
-  named = (number-cell w p [] t is.node 0 0 (record { checked = ok; node = is.at }) name is.kind).0
+  named = (number-cell w p [] t is.node 0 0 (record { checked = ok; node = is.at }) figure name is.kind).0
 
   unmasked : is.node.mask ≡ None
   unmasked = no-mask p.graph is.node.mask (ap (λ (k : Kind). optional_fits p.graph (has_mask k) Place.Filter is.node.mask) (sym is.kind) ∙ (ok.nodes t is.node is.at).mask)
 
   -- it is present where the asset exists and its number is
-  present-is : (a s : ℕ) → is_present (number_of (value_of w p t a (pos s))) ≡ (exists w a (pos s) && is_present (known_number w (name_at p.names name) a (pos s)))
+  present-is : (a s : ℕ) → is_present (number_of (value_of w p t a (pos s))) ≡ (exists w a (pos s) && is_present (known_number w figure (name_at p.names name) a (pos s)))
   unfolding kind_value
   present-is a s =
       ap (λ v. is_present (number_of v)) (value_at-node w p.names p.graph ok.graph t is.node is.at (checked-steady p ok t is.node is.at) a (pos s))
-      ∙ rw (unmasked, is.kind) (here (exists w a (pos s)) (known_number w (name_at p.names name) a (pos s)))
+      ∙ rw (unmasked, is.kind) (here (exists w a (pos s)) (known_number w figure (name_at p.names name) a (pos s)))
     where
       here : (b : Bool) (x : ℤ) → is_present (number_of (if b && true then values.Number x else values.Number MISSING)) ≡ (b && is_present x)
       here true x = refl
       here false x = refl
 
   -- the sum over the assets is the count of the definitions
-  pub present-under : (text : List ℕ) → name_at p.names name ≡ text → (from to : ℕ) → sum_by (λ x. known_on w from to text x.sid) w.assets ≡ present_in w p from to t
+  pub present-under : (text : List ℕ) → name_at p.names name ≡ text → (from to : ℕ) → sum_by (λ x. known_on w figure from to text x.sid) w.assets ≡ present_in w p from to t
   present-under text e from to =
-      sum-each (λ (x : AssetRow). known_on w from to text x.sid) (λ (x : AssetRow). present_on w p from to t x.sid)
-      (λ x. ap (λ m. known_on w from to m x.sid) (sym e) ∙ count-each _ _ (λ s. sym (present-is x.sid s)) (range_with_len from (suc to - from))) w.assets
+      sum-each (λ (x : AssetRow). known_on w figure from to text x.sid) (λ (x : AssetRow). present_on w p from to t x.sid)
+      (λ x. ap (λ m. known_on w figure from to m x.sid) (sym e) ∙ count-each _ _ (λ s. sym (present-is x.sid s)) (range_with_len from (suc to - from))) w.assets
       ∙ ap (λ b. if b then sum_by (λ (x : AssetRow). present_on w p from to t x.sid) w.assets else 0) (sym is.own)
 
 -- another term counts nothing
@@ -91,19 +92,19 @@ module _ (p : Pipeline) (t : ℕ) (n : code.Node) (at : slice_get p.graph t ≡ 
   unfolding node_of
   node-is used b e = ap₂ (λ (c : Bool) (o : Option Node). c && is_number_node o) used at ∙ e
 
-  pub name-some : is_used p t ≡ true → (o : Option ℕ) → IfSome o (λ name. kind_of n.kind ≡ Number name) → IfSome o (IsNumberUnder p t)
+  pub name-some : is_used p t ≡ true → (o : Option (Figure × ℕ)) → IfSome o (λ r. kind_of n.kind ≡ Number r.0 r.1) → IfSome o (λ r. IsNumberUnder p t r.0 r.1)
   unfolding node_of
   name-some used None h = tt
-  name-some used (Some name) h = record { node = node_of n; at = at; kind = h; own = node-is used true (ap is_number_kind h) }
+  name-some used (Some r) h = record { node = node_of n; at = at; kind = h; own = node-is used true (ap is_number_kind h) }
 
-  pub name-none : is_used p t ≡ true → (o : Option ℕ) → IfNone o (is_number_kind (kind_of n.kind) ≡ false) → IfNone o (is_number_term p t ≡ false)
+  pub name-none : is_used p t ≡ true → (o : Option (Figure × ℕ)) → IfNone o (is_number_kind (kind_of n.kind) ≡ false) → IfNone o (is_number_term p t ≡ false)
   name-none used None h = node-is used false h
   name-none used (Some name) h = tt
 
 pub unused : (p : Pipeline) (t : ℕ) → is_used p t ≡ false → is_number_term p t ≡ false
 unused p t e = ap (λ b. b && is_number_node (slice_get p.graph t)) e
 
-pub some-is : (p : Pipeline) (t : ℕ) (o : Option ℕ) → IfSome o (IsNumberUnder p t) → IfNone o (is_number_term p t ≡ false) → is_some o ≡ is_number_term p t
+pub some-is : (p : Pipeline) (t : ℕ) (o : Option (Figure × ℕ)) → IfSome o (λ r. IsNumberUnder p t r.0 r.1) → IfNone o (is_number_term p t ≡ false) → is_some o ≡ is_number_term p t
 some-is p t None some none = sym none
 some-is p t (Some name) some none = sym some.own
 

@@ -13,6 +13,7 @@ use Rattle.pl_pipeline.specs.Term as spec
 use Rattle.pl_pipeline.specs.Term.{term_at}
 use Rattle.pl_pipeline.specs.Value.{number_of as number_in, empty, sort_kind, name_at}
 use Rattle.pl_spec.specs.World.{label_at, known_number}
+use Rattle.pl_spec.specs.declared.Figure.{Figure}
 pub use Rattle.pl_pipeline.proofs.Unfolds.{stands as code-node}
 use Rattle.pl_terms.specs.declared.node.TermId.{TermId}
 use Rattle.pl_terms.specs.declared.node.Input.{Input}
@@ -144,13 +145,13 @@ module _ (w : World) (c : Parts) (ok : IsChecked (pipeline_of c)) (t : ℕ) (n :
       unfolding node_of
       label-given name e = held _ (label-cell (world_of w) (pipeline_of c) (a ∷ []) t (node_of n) 0 s own name e).1
 
-      pub number-named : (name : ℕ) → kind_of n.kind ≡ kinds.Number name → name < length (pipeline_of c).names
+      pub number-named : (f : Figure) (name : ℕ) → kind_of n.kind ≡ kinds.Number f name → name < length (pipeline_of c).names
       unfolding node_of
-      number-named name e = (number-cell (world_of w) (pipeline_of c) (a ∷ []) t (node_of n) 0 s own name e).0
+      number-named f name e = (number-cell (world_of w) (pipeline_of c) (a ∷ []) t (node_of n) 0 s own f name e).0
 
-      pub number-given : (name : ℕ) → kind_of n.kind ≡ kinds.Number name → known_number (world_of w) (name_at (pipeline_of c).names name) a (pos s) ≡ cell_in w c t a s
+      pub number-given : (f : Figure) (name : ℕ) → kind_of n.kind ≡ kinds.Number f name → known_number (world_of w) f (name_at (pipeline_of c).names name) a (pos s) ≡ cell_in w c t a s
       unfolding node_of
-      number-given name e = held _ (number-cell (world_of w) (pipeline_of c) (a ∷ []) t (node_of n) 0 s own name e).1
+      number-given f name e = held _ (number-cell (world_of w) (pipeline_of c) (a ∷ []) t (node_of n) 0 s own f name e).1
 
       pub label-test-given : HasTexts (world_of w) → is_label_test (kind_of n.kind) ≡ true → (x : ℤ) → x ≡ input_cell_in w c (slice_get n.inputs 0) a s
           → IsCode (world_of w).texts x × (code_flag (world_of w).texts (kind_of n.kind) x ≡ cell_in w c t a s)

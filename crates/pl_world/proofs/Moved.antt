@@ -94,6 +94,6 @@ records-in-any-order files others m days assets labels bars are =
             lifetimes = λ a s. refl;
             labels = order-changes-nothing.labels w v (labels_once days assets labels.rows labels.texts bars first adjustments adjustments_in in_order numbers) refl
                 (IsPermutation-map (label_of assets) labels.rows found.0.rows found.2);
-            numbers = λ name a day. refl;
+            numbers = λ f name a day. refl;
           }),
     )

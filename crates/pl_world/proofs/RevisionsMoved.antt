@@ -46,7 +46,7 @@ module _ (days : List ℤ) (assets : List AssetRow) (labels : LabelTable) (bars 
             ∙ sym (ap (effects_in c bar low high) (parts_events days assets labels.rows labels.texts bars ys numbers are.sids_up a));
         lifetimes = λ a s. refl;
         labels = λ name a s. refl;
-        numbers = λ name a day. refl;
+        numbers = λ f name a day. refl;
       }
 
   same : (xs ys : List ColumnAdjustment) → IsWorld (whole xs) → IsWorld (whole ys) → PickedAlike xs ys → HaveSameTables (whole xs) (whole ys)

@@ -8,10 +8,11 @@ use Rattle.pl_pipeline.specs.Table.{Pipeline, value_of}
 use Rattle.pl_pipeline.specs.Term.{Node}
 use Rattle.pl_pipeline.specs.Value.{number_of}
 use Rattle.pl_spec.specs.World.{World, exists, known_number}
+use Rattle.pl_spec.specs.declared.Figure.{Figure}
 use Rattle.pl_terms.specs.Uses.{is_used}
 
 abbrev pub is_number_kind : Kind → Bool
-is_number_kind (Number name) = true
+is_number_kind (Number figure name) = true
 is_number_kind k = false
 
 abbrev pub is_number_node : Option Node → Bool
@@ -22,11 +23,11 @@ is_number_node (Some n) = is_number_kind n.kind
 abbrev pub is_number_term : Pipeline → ℕ → Bool
 is_number_term p t = is_used p t && is_number_node (slice_get p.graph t)
 
--- so it is, and its name is the one with that number
-pub record IsNumberUnder (p : Pipeline) (t name : ℕ) : Type 0 where
+-- so it is, this is read of the number, and its name is the one with that number
+pub record IsNumberUnder (p : Pipeline) (t : ℕ) (figure : Figure) (name : ℕ) : Type 0 where
   pub node : Node
   pub at : slice_get p.graph t ≡ Some node
-  pub kind : node.kind ≡ Number name
+  pub kind : node.kind ≡ Number figure name
   pub own : is_number_term p t ≡ true
 
 -- on how many of the sessions from .. to the term has a number for asset a, which then exists
@@ -50,6 +51,6 @@ has_numbers p = list_any (is_number_term p) (range_with_len 0 (length p.graph))
 -- ---- how they are counted
 
 -- on how many of the sessions from .. to asset a exists and has a number under the name
-abbrev pub known_on : World → ℕ → ℕ → List ℕ → ℕ → ℕ
-known_on w from to name a =
-    count_by (λ s. exists w a (pos s) && is_present (known_number w name a (pos s))) (range_with_len from (suc to - from))
+abbrev pub known_on : World → Figure → ℕ → ℕ → List ℕ → ℕ → ℕ
+known_on w f from to name a =
+    count_by (λ s. exists w a (pos s) && is_present (known_number w f name a (pos s))) (range_with_len from (suc to - from))

@@ -23,6 +23,7 @@ use crate::laws::{assets_and_labels, parts_make_a_world};
 use crate::world::World;
 use pl_cross::Cross;
 use pl_fixed::Memory;
+use pl_numbers::Figure;
 use pl_terms::{Checked, Input, Node, TermId, TermKind};
 use pl_values::{label_value, section_values};
 use std::alloc::Global;
@@ -52,19 +53,33 @@ pub fn label_cell(world: &World, checked: &Checked, name: u32, col: usize, sessi
     label_value(world.labels, text, world.labels.name_of(text), col, day)
 }
 
-/// The number of the asset on a session, under the name of that number in the pipeline; `MISSING` where there
-/// is none.
-pub fn number_cell(world: &World, checked: &Checked, name: u32, col: usize, session: usize) -> i64
+/// The number of the asset on a session, or its age, under the name of that number in the pipeline; `MISSING`
+/// where there is none.
+pub fn number_cell(
+    world: &World,
+    checked: &Checked,
+    figure: Figure,
+    name: u32,
+    col: usize,
+    session: usize,
+) -> i64
     requires made { IsMade world.now }
     requires name { name < length checked.now.names }
     requires col { col < length world.now.assets.now }
     requires session { session < length world.now.sessions.now }
-    ensures value { result ≡ known_number (world_of world.now) (name_at (pipeline_of checked.now).names name)
-        (sid_at world.now.assets.now col) (pos session) }
+    ensures value { result ≡ known_number (world_of world.now) figure
+        (name_at (pipeline_of checked.now).names name) (sid_at world.now.assets.now col) (pos session) }
     ensures cell { IsCell result }
 {
     let text = checked.label_name(name);
-    number_of(world, text, world.numbers.name_of(text), col, session)
+    number_of(
+        world,
+        figure,
+        text,
+        world.numbers.name_of(text),
+        col,
+        session,
+    )
 }
 
 /// The day from which that number was known; `None` where there is no such record.
@@ -92,9 +107,10 @@ pub fn number_day(
         .known_under(text, world.numbers.name_of(text), col, day)
 }
 
-/// The number under a name; `number` is the name's number in the file, as `name_of` of the numbers gives it.
+/// The number under a name, or its age; `number` is the name's number in the file, as `name_of` of the numbers gives it.
 pub(crate) fn number_of(
     world: &World,
+    figure: Figure,
     name: &[u8],
     number: Option<u32>,
     col: usize,
@@ -104,13 +120,13 @@ pub(crate) fn number_of(
     requires name { number ≡ position (bytes_eq name.now) world.now.numbers.now.names }
     requires col { col < length world.now.assets.now }
     requires session { session < length world.now.sessions.now }
-    ensures value { result ≡ known_number (world_of world.now) name.now
+    ensures value { result ≡ known_number (world_of world.now) figure name.now
         (sid_at world.now.assets.now col) (pos session) }
     ensures cell { IsCell result }
 {
     parts_make_a_world(world);
     let day = world.sessions.day(session);
-    world.numbers.number_under(name, number, col, day)
+    world.numbers.number_under(figure, name, number, col, day)
 }
 
 /// The input of a cross-section, which is a term.

@@ -16,6 +16,7 @@ use crate::laws::parts_make_a_world;
 use crate::parts::number_of;
 use crate::world::World;
 use pl_fixed::MISSING;
+use pl_numbers::Figure;
 use pl_terms::{Checked, Node, TermId};
 use pl_values::{Family, family_of};
 
@@ -64,10 +65,10 @@ fn is_number(checked: &Checked, t: TermId) -> bool
     number_name(checked, t).is_some()
 }
 
-// The number of the name under which a used term is a number; `None` for another term.
-fn number_name(checked: &Checked, t: TermId) -> Option<u32>
+// What a used term reads of a number, and the number of the name; `None` for another term.
+fn number_name(checked: &Checked, t: TermId) -> Option<(Figure, u32)>
     requires { t.0 < length checked.now.graph }
-    ensures some { IfSome result (spec.IsNumberUnder (pipeline_of checked.now) t.0) }
+    ensures some { IfSome result (λ r. spec.IsNumberUnder (pipeline_of checked.now) t.0 r.0 r.1) }
     ensures none { IfNone result (spec.is_number_term (pipeline_of checked.now) t.0 ≡ false) }
     ensures checked { IsChecked (pipeline_of checked.now) }
 {
@@ -79,12 +80,12 @@ fn number_name(checked: &Checked, t: TermId) -> Option<u32>
     }
 }
 
-fn name_in(node: &Node) -> Option<u32>
-    ensures some { IfSome result (λ name. kind_of node.now.kind ≡ Number name) }
+fn name_in(node: &Node) -> Option<(Figure, u32)>
+    ensures some { IfSome result (λ r. kind_of node.now.kind ≡ Number r.0 r.1) }
     ensures none { IfNone result (spec.is_number_kind (kind_of node.now.kind) ≡ false) }
 {
     match family_of(&node.kind) {
-        Family::Number(name) => Some(name),
+        Family::Number(figure, name) => Some((figure, name)),
         _ => None,
     }
 }
@@ -100,43 +101,43 @@ fn present_in(world: &World, checked: &Checked, t: TermId, from: usize, to: usiz
     ensures few { result ≤ most_assets * most_sessions }
 {
     match number_name(checked, t) {
-        Some(name) => present_under(world, checked.label_name(name), from, to),
+        Some((figure, name)) => present_under(world, figure, checked.label_name(name), from, to),
         None => 0,
     }
 }
 
 // Those under a name.
-fn present_under(world: &World, name: &[u8], from: usize, to: usize) -> u64
+fn present_under(world: &World, figure: Figure, name: &[u8], from: usize, to: usize) -> u64
     requires made { IsMade world.now }
     requires order { from ≤ to }
     requires within { to < length world.now.sessions.now }
     requires few { to < most_sessions }
-    ensures count { result ≡ sum_by (λ x. spec.known_on (world_of world.now) from to name.now x.sid)
+    ensures count { result ≡ sum_by (λ x. spec.known_on (world_of world.now) figure from to name.now x.sid)
         world.now.assets.now }
     ensures few { result ≤ most_assets * most_sessions }
 {
     let mut count = 0;
     for col in 0..world.assets.len() {
-        count += present_of(world, name, col, from, to);
+        count += present_of(world, figure, name, col, from, to);
     }
     count
 }
 
 // Those of an asset.
-fn present_of(world: &World, name: &[u8], col: usize, from: usize, to: usize) -> u64
+fn present_of(world: &World, figure: Figure, name: &[u8], col: usize, from: usize, to: usize) -> u64
     requires made { IsMade world.now }
     requires col { col < length world.now.assets.now }
     requires order { from ≤ to }
     requires within { to < length world.now.sessions.now }
     requires few { to < most_sessions }
-    ensures count { result ≡ spec.known_on (world_of world.now) from to name.now
+    ensures count { result ≡ spec.known_on (world_of world.now) figure from to name.now
         (sid_at world.now.assets.now col) }
     ensures few { result ≤ most_sessions }
 {
     let number = world.numbers.name_of(name);
     let mut count = 0;
     for session in from..to + 1 {
-        if has_number(world, name, number, col, session) {
+        if has_number(world, figure, name, number, col, session) {
             count += 1;
         }
     }
@@ -144,28 +145,42 @@ fn present_of(world: &World, name: &[u8], col: usize, from: usize, to: usize) ->
 }
 
 // The asset exists on the session, and has a number under the name.
-fn has_number(world: &World, name: &[u8], number: Option<u32>, col: usize, session: usize) -> bool
+fn has_number(
+    world: &World,
+    figure: Figure,
+    name: &[u8],
+    number: Option<u32>,
+    col: usize,
+    session: usize,
+) -> bool
     requires made { IsMade world.now }
     requires name { number ≡ position (bytes_eq name.now) world.now.numbers.now.names }
     requires col { col < length world.now.assets.now }
     requires session { session < length world.now.sessions.now }
     ensures { result ≡ (exists (world_of world.now) (sid_at world.now.assets.now col) (pos session)
-        && is_present (known_number (world_of world.now) name.now
+        && is_present (known_number (world_of world.now) figure name.now
         (sid_at world.now.assets.now col) (pos session))) }
 {
-    exists(world, col, session) && has_cell(world, name, number, col, session)
+    exists(world, col, session) && has_cell(world, figure, name, number, col, session)
 }
 
 // There is a number, whether the asset exists or not.
-fn has_cell(world: &World, name: &[u8], number: Option<u32>, col: usize, session: usize) -> bool
+fn has_cell(
+    world: &World,
+    figure: Figure,
+    name: &[u8],
+    number: Option<u32>,
+    col: usize,
+    session: usize,
+) -> bool
     requires made { IsMade world.now }
     requires name { number ≡ position (bytes_eq name.now) world.now.numbers.now.names }
     requires col { col < length world.now.assets.now }
     requires session { session < length world.now.sessions.now }
-    ensures { result ≡ is_present (known_number (world_of world.now) name.now
+    ensures { result ≡ is_present (known_number (world_of world.now) figure name.now
         (sid_at world.now.assets.now col) (pos session)) }
 {
-    is_present(number_of(world, name, number, col, session))
+    is_present(number_of(world, figure, name, number, col, session))
 }
 
 fn is_present(cell: i64) -> bool

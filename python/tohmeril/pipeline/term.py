@@ -478,6 +478,16 @@ class Factor(Term):
         """-1, 0 or 1. Ours, as numpy's of the same name; a window can be over it. Exact."""
         return Factor(MEMBER, "sign", self)
 
+    def age(self, unit: str = "days") -> Factor:
+        """Days from the one on which the newest number became known, which counts, to the session's, which does not.
+
+        Of the `latest` of a `Column(float)`. With "business_days" Mondays to Fridays count alone. Missing where the
+        number is. Ours; a window can be over it. Exact.
+        """
+        if self.form != CALL or self.name != "number":
+            raise TypeError(f"age: {self!r} is no number of a DataSet: write Fundamentals.earnings.latest.age()")
+        return Factor(MEMBER, "age", self, *([] if unit == "days" else [unit]))
+
     def maximum(self, other: Value) -> Factor:
         """The greater of x and y, missing where one is. Ours, as numpy's of the same name. Exact."""
         return Factor(MEMBER, "maximum", self, as_factor(other))
@@ -802,7 +812,7 @@ class Bins(Classifier):
         return joined_by_or(lambda one: self.eq(one[0]), choices, 1)
 
 
-KEEPING = {"rank", "zscore", "peer_count", "sign", "scale", "notnull_count"}  # values that no adjustment changes
+KEEPING = {"rank", "zscore", "peer_count", "sign", "scale", "notnull_count", "age"}  # values that no adjustment changes
 
 
 def unsafe_part(term: Term) -> Optional[Term]:

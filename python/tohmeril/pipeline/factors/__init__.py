@@ -25,7 +25,7 @@ import numpy as np
 
 from ..custom import CustomFactor as CustomFactor
 from ..data import EquityPricing
-from ..term import CALL, Absent, BoundColumn, Classifier, DataColumn, Factor, Filter, Mask, Term
+from ..term import CALL, Absent, BoundColumn, Classifier, DataColumn, Factor, Filter, Mask, NumberColumn, Term
 
 _HIGH, _LOW, _CLOSE, _VOLUME = (getattr(EquityPricing, name) for name in ("high", "low", "close", "volume"))
 
@@ -594,6 +594,29 @@ def RollingLinearRegressionOfReturns(
     return returns.linear_regression(returns[target], regression_length, mask)
 
 
-BusinessDaysSincePreviousEvent, BusinessDaysUntilNextEvent = Absent.each(
-    "BusinessDaysSincePreviousEvent BusinessDaysUntilNextEvent", "a label that changes on the day of the event"
-)
+class BusinessDaysSincePreviousEvent:
+    """Mondays to Fridays from the day on which the newest number became known, which counts, to today, which does not.
+
+    The numbers are those of events, each known on the day of its event, as 1. In Zipline the column holds these days.
+    Missing before the first one. Exact.
+
+    >>> from tohmeril.pipeline.data import Column, DataSet
+    >>> class Earnings(DataSet):
+    ...     announced = Column(float)
+    >>> class DaysSinceEarnings(BusinessDaysSincePreviousEvent):
+    ...     inputs = [Earnings.announced]
+    >>> DaysSinceEarnings()
+    number("announced").age("business_days")
+    """
+
+    inputs: Inputs = ()
+
+    def __new__(cls, inputs: Optional[Inputs] = None, *, mask: Mask = None) -> Any:
+        given = cls.inputs if inputs is None else inputs
+        if len(given) != 1 or not isinstance(given[0], NumberColumn):
+            raise TypeError(f"{cls.__name__}: inputs has to be one column of numbers, as [Earnings.announced]")
+        age = given[0].latest.age("business_days")
+        return age if mask is None else age.where(mask)
+
+
+BusinessDaysUntilNextEvent = Absent("BusinessDaysUntilNextEvent", "a label that changes on the day of the event")

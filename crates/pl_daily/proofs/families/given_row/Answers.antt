@@ -23,7 +23,7 @@ label_name-requires-in-Number c =
     let v = c.requires.term_day.0 in
     let is = c.requires.term_day.1 in
     let kind = subst (IsOf (node_at c.args.term_day.now).kind) c.in-Number.is c.requires.family in
-    number-known _ _ _ (node_is c.args.term_day.now v is) c.in-Number.name kind
+    number-known _ _ _ (node_is c.args.term_day.now v is) c.in-Number.figure c.in-Number.name kind
 
 pub label_test_values-requires : goal.label_test_values-requires
 label_test_values-requires c =
@@ -87,7 +87,7 @@ returns-in-Number-clause-given c v is i h =
     let kind = subst (IsOf (node_at c.args.term_day.now).kind) c.in-Number.is c.requires.family in
     let day : FitsSigned w32 c.args.term_day.now.day = search rules in
     let made = simp to_z-of_z at c.known_row.ensures.each in
-    number_given c.args.term_day.now v is c.in-Number.name i c.label_name-in-Number.result.now _ kind c.label_name-in-Number.ensures h (made i (omega (arith, h, c.requires.long)))
+    number_given c.args.term_day.now v is c.in-Number.figure c.in-Number.name i c.label_name-in-Number.result.now _ kind c.label_name-in-Number.ensures h (made i (omega (arith, h, c.requires.long)))
     (c.known_row.ensures.cells i (omega (arith, h, c.requires.long)))
 
 pub returns-in-LabelTest-clause-given : goal.returns-in-LabelTest-clause-given

@@ -9,4 +9,4 @@ pub returns-in-None-clause-each : goal.returns-in-None-clause-each
 unfolding number_on
 returns-in-None-clause-each c i h =
     ap (λ (l : List ℤ). get_or l i (pos 0)) (c.fill.ensures.after (λ y same. same)) ∙ get_or-replicate (length c.args.out.now) i MISSING (pos 0) h
-    ∙ ap (λ o. number_on (rows_lent o) c.args.name.now i c.args.day) (sym c.in-None.is)
+    ∙ ap (λ o. number_on c.args.figure (rows_lent o) c.args.name.now i c.args.day) (sym c.in-None.is)

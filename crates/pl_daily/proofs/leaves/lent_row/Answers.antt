@@ -12,7 +12,7 @@ loop-i-preserved c =
     let value = simp to_z-of_z at c.number_under.ensures.value in
     let so_far = simp to_z-of_z at c.loop-i.invariant.each in
     rw (to_z-of_z w64 _ u, to_z-of_z w32 _ day) (record {
-      each = one_given (λ k x. x ≡ number_on c.args.numbers.now.rows c.args.name.now k c.args.day) c.loop-i.i c.loop-i.out c.number_under.result so_far (omega (arith, c.loop-i-test.true)) value;
+      each = one_given (λ k x. x ≡ number_on c.args.figure c.args.numbers.now.rows c.args.name.now k c.args.day) c.loop-i.i c.loop-i.out c.number_under.result so_far (omega (arith, c.loop-i-test.true)) value;
       cells = one_given (λ k x. IsCell x) c.loop-i.i c.loop-i.out c.number_under.result c.loop-i.invariant.cells (omega (arith, c.loop-i-test.true)) c.number_under.ensures.cell;
     })
 

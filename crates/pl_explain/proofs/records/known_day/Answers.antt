@@ -12,13 +12,13 @@ returns-then-not-exists-clause-exact c =
 
 pub number_day-requires-clause-name : goal.number_day-requires-clause-name
 number_day-requires-clause-name c =
-    known-named c.args.world.now c.args.checked.now c.args.t.0 c.node_in.result.now c.node_in.ensures (sid_at c.args.world.now.assets.now c.args.col) c.args.session c.requires.ready.checked c.in-Some.name c.in-Some.ensures.some
+    known-named c.args.world.now c.args.checked.now c.args.t.0 c.node_in.result.now c.node_in.ensures (sid_at c.args.world.now.assets.now c.args.col) c.args.session c.requires.ready.checked c.in-Some.field-0.0 c.in-Some.name c.in-Some.ensures.some
 
 pub returns-in-Some-clause-exact : goal.returns-in-Some-clause-exact
 returns-in-Some-clause-exact c =
     let there = sym c.exists.ensures.value ∙ c.if-not-exists.false in
     c.number_day.ensures.exact
-    ∙ number-known c.args.world.now c.args.checked.now c.args.t.0 c.node_in.result.now c.node_in.ensures (sid_at c.args.world.now.assets.now c.args.col) c.args.session there c.in-Some.name c.in-Some.ensures.some
+    ∙ number-known c.args.world.now c.args.checked.now c.args.t.0 c.node_in.result.now c.node_in.ensures (sid_at c.args.world.now.assets.now c.args.col) c.args.session there c.in-Some.field-0.0 c.in-Some.name c.in-Some.ensures.some
 
 pub returns-in-None-clause-exact : goal.returns-in-None-clause-exact
 returns-in-None-clause-exact c =

@@ -22,8 +22,8 @@ pub number_cell-requires-clause-name : goal.number_cell-requires-clause-name
 number_cell-requires-clause-name c =
     let b = c.args.basis.now in
     let n = c.node_in-node.result.now in
-    let kind : IsOf (kind_of n.kind) (family.Number c.in-Number.name) = subst (IsOf (kind_of n.kind)) c.in-Number.is c.family_of.ensures in
-    number-named b.world b.checked.now c.requires.kept.at.on.ready.checked c.args.t.0 n c.node_in-node.ensures (sid_in b c.args.col) c.args.session c.requires.kept.kept c.in-Number.name kind
+    let kind : IsOf (kind_of n.kind) (family.Number c.in-Number.figure c.in-Number.name) = subst (IsOf (kind_of n.kind)) c.in-Number.is c.family_of.ensures in
+    number-named b.world b.checked.now c.requires.kept.at.on.ready.checked c.args.t.0 n c.node_in-node.ensures (sid_in b c.args.col) c.args.session c.requires.kept.kept c.in-Number.figure c.in-Number.name kind
 
 pub returns-in-Constant-clause-given : goal.returns-in-Constant-clause-given
 returns-in-Constant-clause-given c =
@@ -43,10 +43,10 @@ returns-in-Label-clause-given c =
 pub returns-in-Number-clause-given : goal.returns-in-Number-clause-given
 returns-in-Number-clause-given c =
     let n = c.node_in-node.result.now in
-    let kind : IsOf (kind_of n.kind) (family.Number c.in-Number.name) = subst (IsOf (kind_of n.kind)) c.in-Number.is c.family_of.ensures in
+    let kind : IsOf (kind_of n.kind) (family.Number c.in-Number.figure c.in-Number.name) = subst (IsOf (kind_of n.kind)) c.in-Number.is c.family_of.ensures in
     let fits : FitsSigned w64 c.number_cell.result = search rules in
     let same = to_z-of_z w64 _ fits in
-    kept-seen c.requires.kept n c.node_in-node.ensures c.args.view (ap keeps_kind kind) _ (number-stated c.requires.kept n c.node_in-node.ensures c.in-Number.name kind _ (same ∙ c.number_cell.ensures.value) (subst IsCell (sym same) c.number_cell.ensures.cell))
+    kept-seen c.requires.kept n c.node_in-node.ensures c.args.view (ap keeps_kind kind) _ (number-stated c.requires.kept n c.node_in-node.ensures c.in-Number.figure c.in-Number.name kind _ (same ∙ c.number_cell.ensures.value) (subst IsCell (sym same) c.number_cell.ensures.cell))
 
 pub returns-in-Sids-clause-given : goal.returns-in-Sids-clause-given
 returns-in-Sids-clause-given c =

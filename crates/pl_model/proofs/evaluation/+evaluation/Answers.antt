@@ -82,7 +82,7 @@ given-number_cell-requires-clause-name g t c =
     let r = c.args.ask in
     let n = c.args.node.now in
     let kind = subst (IsOf (kind_of n.kind)) c.in-Number.is c.family_of.ensures in
-    number-named r.world.now r.checked.now c.requires.asked.request.checked r.term.0 n c.requires.asked.node (asset_of r) r.session c.requires.kept c.in-Number.name kind
+    number-named r.world.now r.checked.now c.requires.asked.request.checked r.term.0 n c.requires.asked.node (asset_of r) r.session c.requires.kept c.in-Number.figure c.in-Number.name kind
 
 pub given-returns-in-Constant : goal.given-returns-in-Constant
 given-returns-in-Constant g t c =
@@ -100,7 +100,7 @@ pub given-returns-in-Number : goal.given-returns-in-Number
 given-returns-in-Number g t c =
     let kind = subst (IsOf (kind_of c.args.node.now.kind)) c.in-Number.is c.family_of.ensures in
     let fits : FitsSigned w64 c.number_cell.result = search rules in
-    held _ _ _ _ _ fits (number-read c.args.ask c.args.node.now c.requires.asked c.requires.kept c.in-Number.name c.number_cell.result c.args.steps.now kind c.number_cell.ensures.value c.number_cell.ensures.cell)
+    held _ _ _ _ _ fits (number-read c.args.ask c.args.node.now c.requires.asked c.requires.kept c.in-Number.figure c.in-Number.name c.number_cell.result c.args.steps.now kind c.number_cell.ensures.value c.number_cell.ensures.cell)
 
 pub given-returns-in-Sids : goal.given-returns-in-Sids
 given-returns-in-Sids g t c =

@@ -25,22 +25,22 @@ loop-k-preserved c =
     let rows = c.args.rows.now in
     let sessions = c.args.sessions.now in
     let today = c.args.first + c.loop-k.k in
-    let fits : FitsSigned w32 c.day.result = fits_day c.day.result c.day.ensures.date in
-    let its_key : c.key-in-loop-k.result ≡ key c.args.name c.args.col c.day.result = simp to_z-of_z at c.key-in-loop-k.ensures in
-    let point : KeyPoint rows.places.items (key c.args.name c.args.col c.day.result) c.point_onward-at.result = rw (c.deref-in-loop-k.ensures.value, its_key) at c.point_onward-at.ensures.point in
-    let value : c.value_before.result ≡ number_on (shown_rows rows) (get_or rows.names c.args.name []) c.args.col (get_or sessions today (pos 0)) =
-    c.value_before.ensures.value c.day.result fits point
-    ∙ ap (number_on (shown_rows rows) (get_or rows.names c.args.name []) c.args.col) (sym (get_or_from_slice_get sessions today c.day.result (pos 0) c.day.ensures.exact)) in
+    let fits : FitsSigned w32 c.day-day.result = fits_day c.day-day.result c.day-day.ensures.date in
+    let its_key : c.key-in-loop-k.result ≡ key c.args.name c.args.col c.day-day.result = simp to_z-of_z at c.key-in-loop-k.ensures in
+    let point : KeyPoint rows.places.items (key c.args.name c.args.col c.day-day.result) c.point_onward-at.result = rw (c.deref-in-loop-k.ensures.value, its_key) at c.point_onward-at.ensures.point in
+    let value : c.value_before.result ≡ number_on c.args.figure (shown_rows rows) (get_or rows.names c.args.name []) c.args.col (get_or sessions today (pos 0)) =
+    simp to_z-of_z at c.value_before.ensures.value
+    ∙ ap (number_on c.args.figure (shown_rows rows) (get_or rows.names c.args.name []) c.args.col) (sym (get_or_from_slice_get sessions today c.day-day.result (pos 0) c.day-day.ensures.exact)) in
     let cell : FitsSigned w64 c.value_before.result = search rules in
     let same : to_z w64 (of_z w64 c.value_before.result) ≡ c.value_before.result = to_z-of_z w64 c.value_before.result cell in
     let is_cell : IsCell (to_z w64 (of_z w64 c.value_before.result)) = rw same c.value_before.ensures.cell in
     let inside : c.loop-k.k < length c.loop-k.into = omega (arith, c.loop-k-test.true, c.loop-k.auto.into) in
     record {
       within = rw c.deref-in-loop-k.ensures.value at c.point_onward-at.ensures.within;
-      low = λ j day later at. low_later rows.places.items c.args.name c.args.col c.day.result day c.point_onward-at.result fits
+      low = λ j day later at. low_later rows.places.items c.args.name c.args.col c.day-day.result day c.point_onward-at.result fits
           (day_fits sessions c.len-count.ensures.days (c.args.first + j) day at)
-          (days_stand sessions c.len-count.ensures.days today (c.args.first + j) c.day.result day (omega arith) c.day.ensures.exact at) point;
-      values = written_each (λ j v. v ≡ number_on (shown_rows rows) (get_or rows.names c.args.name []) c.args.col (get_or sessions (c.args.first + j) (pos 0))) c.loop-k.into c.loop-k.k _ inside
+          (days_stand sessions c.len-count.ensures.days today (c.args.first + j) c.day-day.result day (omega arith) c.day-day.ensures.exact at) point;
+      values = written_each (λ j v. v ≡ number_on c.args.figure (shown_rows rows) (get_or rows.names c.args.name []) c.args.col (get_or sessions (c.args.first + j) (pos 0))) c.loop-k.into c.loop-k.k _ inside
           c.loop-k.invariant.values (same ∙ value);
       cells = written_each (λ j v. IsCell v) c.loop-k.into c.loop-k.k _ inside c.loop-k.invariant.cells is_cell;
     }

@@ -9,6 +9,6 @@ abbrev pub invariant-loop-k : goal.invariant-loop-k
 invariant-loop-k l = record {
   within : l.at ≤ length l.rows.places.items;
   low : (j : ℕ) (day : ℤ) → l.k ≤ j → slice_get l.sessions (l.first + j) ≡ Some day → AllLow l.rows.places.items (key l.name l.col day) l.at;
-  values : (j : ℕ) → j < l.k → get_or l.into j (pos 0) ≡ number_on (shown_rows l.rows) (get_or l.rows.names l.name []) l.col (get_or l.sessions (l.first + j) (pos 0));
+  values : (j : ℕ) → j < l.k → get_or l.into j (pos 0) ≡ number_on l.figure (shown_rows l.rows) (get_or l.rows.names l.name []) l.col (get_or l.sessions (l.first + j) (pos 0));
   cells : (j : ℕ) → j < l.k → IsCell (get_or l.into j (pos 0));
 }

@@ -1,5 +1,5 @@
 use Rattle.std.proofs.Common.{◌<◌, ◌^◌, sym, arith}
-use Rattle.pl_numbers.proofs.NumberSearch.{no_newest, none_before, newest_found, other_before}
+use Rattle.pl_numbers.proofs.NumberSearch.{known_by_then, no_newest, none_before, newest_found, other_before}
 use Rattle.pl_numbers.proofs.search.newest_before.Goals as goal
 use Rattle.pl_numbers.proofs.search.newest_before.Goals.{else-place-name-via-then-place-name+else-place-col, else-place-name-via-else-place-name}
 
@@ -26,3 +26,10 @@ returns-else-place-name-clause-newest c = λ day fits point.
       | else-place-name-via-then-place-name+else-place-col w ↦ w.if-place-col.false same_col
       | else-place-name-via-else-place-name w ↦ w.if-place-name.false same_name
     ]))
+
+pub returns-then-place-col-clause-by_then : goal.returns-then-place-col-clause-by_then
+returns-then-place-col-clause-by_then c = λ day fits point.
+    let small : c.args.col < 2 ^ 64 = c.ranges.col.fits in
+    let some : 0 < c.args.end = grind (arith, c.if-end-eq0.false) in
+    known_by_then c.args.rows.now c.requires.table c.args.name c.args.col day c.requires.name small fits c.args.end c.requires.within point
+    c.index-place.result.now some (sym c.index-place.ensures) c.if-place-name.true c.if-place-col.true

@@ -15,7 +15,7 @@ windowed : (c : goal.After-number-in_default) (k : TermKind) → c.args.kind.now
 unfolding kind_of
 windowed c (kind.Const x) e w = c.in_default.not-Const x e
 windowed c (kind.Label x) e w = c.in_default.not-Label x e
-windowed c (kind.Number x) e w = c.in_default.not-Number x e
+windowed c (kind.Number x y) e w = c.in_default.not-Number x y e
 windowed c (kind.StaticSids x) e w = c.in_default.not-StaticSids x e
 windowed c kind.Add e w = c.in_default.not-Add e
 windowed c kind.Sub e w = c.in_default.not-Sub e

@@ -11,4 +11,4 @@ returns-clause-value c =
     let fits : FitsSigned w64 c.number_of.result = search rules in
     let w = c.args.world.now in
     let name : name_at c.args.checked.now.names c.args.name ≡ c.label_name-text.result.now = ap (λ (o : Option (List ℕ)). unwrap_or o []) c.label_name-text.ensures in
-    to_z-of_z w64 _ fits ∙ c.number_of.ensures.value ∙ sym (ap (λ m. known_number (world_of w) m (sid_at w.assets.now c.args.col) (pos c.args.session)) name)
+    to_z-of_z w64 _ fits ∙ c.number_of.ensures.value ∙ sym (ap (λ m. known_number (world_of w) c.args.figure m (sid_at w.assets.now c.args.col) (pos c.args.session)) name)

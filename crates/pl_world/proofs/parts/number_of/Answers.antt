@@ -13,6 +13,6 @@ returns-clause-value c =
     let day : FitsSigned w32 c.day-day.result = search rules in
     let w = c.args.world.now in
     let sid = sid_at w.assets.now c.args.col in
-    let those = numbers_those w.assets.now w.numbers.now.rows c.parts_make_a_world.ensures.sound.assets.ascend c.requires.made.numbers_in c.args.name.now c.args.col c.day-day.result c.requires.col in
+    let those = numbers_those w.assets.now w.numbers.now.rows c.parts_make_a_world.ensures.sound.assets.ascend c.requires.made.numbers_in c.args.figure c.args.name.now c.args.col c.day-day.result c.requires.col in
     to_z-of_z w64 _ fits ∙ simp to_z-of_z at c.number_under.ensures.value
-    ∙ sym (ap (λ (o : Option ℤ). unwrap_or (option_map (number_at (world_of w).numbers c.args.name.now sid) o) MISSING) c.day-day.ensures.exact ∙ those)
+    ∙ sym (ap (λ (o : Option ℤ). unwrap_or (option_map (number_at c.args.figure (world_of w).numbers c.args.name.now sid) o) MISSING) c.day-day.ensures.exact ∙ those)

@@ -18,14 +18,14 @@ loop-session-preserved c =
           rw b.count-is record {
             from = omega arith;
             count = ap (λ n. n + 1) c.loop-session.invariant.count
-                ∙ sym (count-with (λ s. exists w a (pos s) && is_present (known_number w c.args.name.now a (pos s))) c.args.from c.loop-session.session from (sym c.has_number.ensures ∙ b.if-has_number.true));
+                ∙ sym (count-with (λ s. exists w a (pos s) && is_present (known_number w c.args.figure c.args.name.now a (pos s))) c.args.from c.loop-session.session from (sym c.has_number.ensures ∙ b.if-has_number.true));
             few = omega arith;
           }
       | else-has_number b ↦
           rw b.count-is record {
             from = omega arith;
             count = c.loop-session.invariant.count
-                ∙ sym (count-without (λ s. exists w a (pos s) && is_present (known_number w c.args.name.now a (pos s))) c.args.from c.loop-session.session from (sym c.has_number.ensures ∙ b.if-has_number.false));
+                ∙ sym (count-without (λ s. exists w a (pos s) && is_present (known_number w c.args.figure c.args.name.now a (pos s))) c.args.from c.loop-session.session from (sym c.has_number.ensures ∙ b.if-has_number.false));
             few = omega arith;
           }
     ]
@@ -36,4 +36,4 @@ returns-clause-count c =
     let a = sid_at c.args.world.now.assets.now c.args.col in
     let end : c.loop-session.session - c.args.from ≡ suc c.args.to - c.args.from = omega arith in
     c.loop-session.invariant.count
-    ∙ ap (λ n. count_by (λ s. exists w a (pos s) && is_present (known_number w c.args.name.now a (pos s))) (range_with_len c.args.from n)) end
+    ∙ ap (λ n. count_by (λ s. exists w a (pos s) && is_present (known_number w c.args.figure c.args.name.now a (pos s))) (range_with_len c.args.from n)) end

@@ -12,6 +12,6 @@ invariant-loop-session l =
     let a = sid_at l.world.assets.now l.col in
     record {
       from : l.from ≤ l.session;
-      count : l.count ≡ count_by (λ s. exists w a (pos s) && is_present (known_number w l.name a (pos s))) (range_with_len l.from (l.session - l.from));
+      count : l.count ≡ count_by (λ s. exists w a (pos s) && is_present (known_number w l.figure l.name a (pos s))) (range_with_len l.from (l.session - l.from));
       few : l.count ≤ l.session - l.from;
     }

@@ -13,9 +13,9 @@ loop-col-preserved c =
     let assets = c.args.world.now.assets.now in
     let col = c.loop-col.col in
     let inside : col < length assets = omega arith in
-    let own = c.present_of-count.ensures.count ∙ ap (known_on w c.args.from c.args.to c.args.name.now) (sid_at-row assets col no_asset inside) in
+    let own = c.present_of-count.ensures.count ∙ ap (known_on w c.args.figure c.args.from c.args.to c.args.name.now) (sid_at-row assets col no_asset inside) in
     record {
-      count = ap₂ (λ (a b : ℕ). a + b) c.loop-col.invariant.count own ∙ sym (sum_by_more (λ (x : AssetRow). known_on w c.args.from c.args.to c.args.name.now x.sid) assets col no_asset inside);
+      count = ap₂ (λ (a b : ℕ). a + b) c.loop-col.invariant.count own ∙ sym (sum_by_more (λ (x : AssetRow). known_on w c.args.figure c.args.from c.args.to c.args.name.now x.sid) assets col no_asset inside);
       few = omega arith;
     }
 
@@ -23,5 +23,5 @@ pub returns-clause-count : goal.returns-clause-count
 returns-clause-count c =
     let assets = c.args.world.now.assets.now in
     c.loop-col.invariant.count
-    ∙ ap (sum_by (λ (x : AssetRow). known_on (world_of c.args.world.now) c.args.from c.args.to c.args.name.now x.sid))
+    ∙ ap (sum_by (λ (x : AssetRow). known_on (world_of c.args.world.now) c.args.figure c.args.from c.args.to c.args.name.now x.sid))
     (take_all c.loop-col.col assets (omega arith))
