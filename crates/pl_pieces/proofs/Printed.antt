@@ -17,7 +17,7 @@ use Rattle.pl_lookahead.specs.Laws.{AskSame}
 use Rattle.pl_lookahead.proofs.Held.{held-once}
 use Rattle.pl_lookahead.proofs.Readable.{AreRead}
 use Rattle.pl_lookahead.proofs.Texts.{IsJudged, asked-text, judged, later-data-change-no-byte}
-use Rattle.pl_pieces.specs.Laws.{CutFilesHaveTheRows, CutsCanBeHeld, IsPieceOf, LaterDataChangeNoPiece, PartsReadBack, first_of, last_of, span_of}
+use Rattle.pl_pieces.specs.Laws.{CutFilesHaveTheRows, CutsCanBeHeld, IsPieceOf, LaterDataChangeNoPiece, PartsReadBack, first_of, last_of, piece_run, piece_world, span_of}
 use Rattle.pl_pieces.proofs.Acting.{acting}
 use Rattle.pl_pieces.proofs.Assets.{assets-back}
 use Rattle.pl_pieces.proofs.Bars.{bars-back}
@@ -66,7 +66,7 @@ same-asked held q r same =
     ∙ ap (λ (d : ℤ). shown (world_held held r.world) (pipeline_held held) r.options.format (index_of (days_held held) r.from.day) (index_of (days_held held) d)) same.to)
 
 module _ (held piece : Contents) (q : RunRequest) (whole : q.options.as_of ≡ None) (checked : IsChecked (pipeline_held held)) (is : IsPieceOf held piece q) (judged_whole : IsJudged held q)
-    (read' : AreRead piece q.world) where
+    (read' : AreRead piece (piece_world q.world)) where
   abbrev w : World
   w = world_held held q.world
 
@@ -79,9 +79,9 @@ module _ (held piece : Contents) (q : RunRequest) (whole : q.options.as_of ≡ N
   one : HaveOneTable w (cut w (span_of held q)) p (first_of held q) (last_of held q)
   one = cuts_have_the_rows w (span_of held q) ok p checked (first_of held q) (last_of held q) (covered held q judged_whole)
 
-  pub printed : run_text piece q ≡ run_text held q
+  pub printed : run_text piece (piece_run q) ≡ run_text held q
   printed =
-      let v = world_held piece q.world in
+      let v = world_held piece (piece_world q.world) in
       let f = q.options.format in
       ap (λ (x : Pipeline). shown v x f (index_of (days_held piece) q.from.day) (index_of (days_held piece) q.to.day)) is.pipeline
       ∙ ap (λ (ds : List ℤ). shown v p f (index_of ds q.from.day) (index_of ds q.to.day)) (piece-days held piece q judged_whole.read read' is whole ok)
@@ -90,9 +90,9 @@ module _ (held piece : Contents) (q : RunRequest) (whole : q.options.as_of ≡ N
 
 pub cut-files-have-the-rows : CutFilesHaveTheRows
 cut-files-have-the-rows held piece a b q r asks asks' same whole checked is none none' =
-    let read' : AreRead piece q.world = rw same.world (judged piece b r asks' none').read in
+    let read' : AreRead piece (piece_world q.world) = rw same.world (judged piece b r asks' none').read in
     asked-text piece b r asks'
-    ∙ same-asked piece q r same
+    ∙ same-asked piece (piece_run q) r same
     ∙ printed held piece q whole checked is (judged held a q asks none) read'
     ∙ sym (asked-text held a q asks)
 
@@ -102,6 +102,6 @@ itself q = record { pipeline = refl; world = refl; from = refl; to = refl; forma
 pub later-data-change-no-piece : LaterDataChangeNoPiece
 later-data-change-no-piece one other piece piece' a b x y q r d day asks asks' cut_asks cut_asks' alike whole whole' checked agree is is' none none' cut_none cut_none' =
     let checked' : IsChecked (pipeline_held other) = subst IsChecked agree.pipelines checked in
-    cut-files-have-the-rows one piece a x q q asks cut_asks (itself q) whole checked is none cut_none
+    cut-files-have-the-rows one piece a x q (piece_run q) asks cut_asks (itself (piece_run q)) whole checked is none cut_none
     ∙ later-data-change-no-byte.texts one other a b q r d day asks asks' alike agree none none'
-    ∙ sym (cut-files-have-the-rows other piece' b y r r asks' cut_asks' (itself r) whole' checked' is' none' cut_none')
+    ∙ sym (cut-files-have-the-rows other piece' b y r (piece_run r) asks' cut_asks' (itself (piece_run r)) whole' checked' is' none' cut_none')
