@@ -1,5 +1,6 @@
 -- A run over the files of a cut prints the rows of the whole.
-use Rattle.std.proofs.Common.{◌≡◌, ℕ, ℤ, List, None, refl, sym, subst, ◌∙◌, ap}
+use Rattle.std.proofs.Common.{◌≡◌, ℕ, ℤ, List, Option, Some, None, refl, sym, subst, ◌∙◌, ap, ap₂}
+use Rattle.std.specs.Option.{option_or}
 use Rattle.pl_spec.specs.declared.Format.{Format}
 use Rattle.pl_spec.specs.World.{World, IsWorld}
 use Rattle.pl_pipeline.specs.Table.{Pipeline, table}
@@ -8,7 +9,7 @@ use Rattle.pl_terms.specs.Checked.{IsChecked}
 use Rattle.pl_cut.specs.Cuts.{cut}
 use Rattle.pl_cut.specs.Laws.{HaveOneTable}
 use Rattle.pl_cut.proofs.Cuts.{cuts_have_the_rows}
-use Rattle.pl_words.specs.Request.{RunRequest, WorldNames}
+use Rattle.pl_words.specs.Request.{RunRequest, WorldNames, numbers_named}
 use Rattle.pl_load.specs.Contents.{Contents}
 use Rattle.pl_load.specs.Held.{days_held, pipeline_held, world_held}
 use Rattle.pl_load.specs.Range.{index_of}
@@ -17,7 +18,7 @@ use Rattle.pl_lookahead.specs.Laws.{AskSame}
 use Rattle.pl_lookahead.proofs.Held.{held-once}
 use Rattle.pl_lookahead.proofs.Readable.{AreRead}
 use Rattle.pl_lookahead.proofs.Texts.{IsJudged, asked-text, judged, later-data-change-no-byte}
-use Rattle.pl_pieces.specs.Laws.{CutFilesHaveTheRows, CutsCanBeHeld, IsPieceOf, LaterDataChangeNoPiece, PartsReadBack, first_of, last_of, piece_run, piece_world, span_of}
+use Rattle.pl_pieces.specs.Laws.{CutFilesHaveTheRows, CutsCanBeHeld, IsPieceOf, LaterDataChangeNoPiece, PartsReadBack, RunsWithoutResultsStay, first_of, last_of, piece_run, piece_world, span_of}
 use Rattle.pl_pieces.proofs.Acting.{acting}
 use Rattle.pl_pieces.proofs.Assets.{assets-back}
 use Rattle.pl_pieces.proofs.Bars.{bars-back}
@@ -95,6 +96,15 @@ cut-files-have-the-rows held piece a b q r asks asks' same whole checked is none
     ∙ same-asked piece (piece_run q) r same
     ∙ printed held piece q whole checked is (judged held a q asks none) read'
     ∙ sym (asked-text held a q asks)
+
+or-none : (o : Option (List ℕ)) → option_or o None ≡ o
+or-none None = refl
+or-none (Some n) = refl
+
+pub runs-without-results-stay : RunsWithoutResultsStay
+runs-without-results-stay q none =
+    let numbers : numbers_named q.world ≡ q.world.numbers = ap (option_or q.world.numbers) none ∙ or-none q.world.numbers in
+    ap₂ (λ (n m : Option (List ℕ)). record q { world = record q.world { numbers = n; results = m } }) numbers (sym none)
 
 itself : (q : RunRequest) → AskSame q q
 itself q = record { pipeline = refl; world = refl; from = refl; to = refl; format = refl }

@@ -94,12 +94,17 @@ CommandsCoverTheRange = (held : Contents) (q : RunRequest) (part : WorldPart)
 abbrev pub part_of : Contents → RunRequest → WorldPart → List ℕ
 part_of held q part = text_of held (Some (Cut (record { table = q; part = part })))
 
--- The run over a piece asks for the numbers of both files as those of one, since the command cut writes them as one part.
+-- The run over a piece asks for the numbers of both files as those of one, since the command cut writes them
+-- as one part.
 abbrev pub piece_world : WorldNames → WorldNames
 piece_world w = record w { numbers = numbers_named w; results = None }
 
 abbrev pub piece_run : RunRequest → RunRequest
 piece_run q = record q { world = piece_world q.world }
+
+-- A run that names no results is its own run over a piece.
+abbrev pub RunsWithoutResultsStay : Type 0
+RunsWithoutResultsStay = (q : RunRequest) → q.world.results ≡ None → piece_run q ≡ q
 
 -- A piece: contents whose files are what the command cut writes of each part that the run asks for, whose
 -- tables have the rows of the texts, and whose pipeline is the same.
@@ -125,8 +130,8 @@ pub record IsPieceOf (held piece : Contents) (q : RunRequest) : Type 0 where
 -- the range, by `run` and by `daily`, in both formats and for all sizes of chunks, where neither has a fault.
 abbrev pub CutFilesHaveTheRows : Type 0
 CutFilesHaveTheRows = (held piece : Contents) (a b : Request) (q r : RunRequest)
-    → AsksTable a q → AsksTable b r → AskSame (piece_run q) r → q.options.as_of ≡ None → IsChecked (pipeline_held held)
-    → IsPieceOf held piece q → HasNoFault held a → HasNoFault piece b
+    → AsksTable a q → AsksTable b r → AskSame (piece_run q) r → q.options.as_of ≡ None
+    → IsChecked (pipeline_held held) → IsPieceOf held piece q → HasNoFault held a → HasNoFault piece b
     → text_of piece (Some b) ≡ text_of held (Some a)
 
 -- What comes later changes no byte of a run over the files of a cut either: where the contents that are cut
