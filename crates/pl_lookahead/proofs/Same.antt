@@ -159,6 +159,7 @@ module _ (files : Files) (lists : Lists) (told other_told : Option Files) (liste
       bars = file-same Bars q.world.bars refl;
       labels = file-same Labels;
       numbers = file-same Numbers;
+      results = file-same Results;
       tables = rows-same;
       revisions = file-same Revisions;
     };
