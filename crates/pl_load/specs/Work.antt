@@ -126,8 +126,8 @@ syntax_step file = read_step PipelineFile syntax_rule file
 abbrev pub pipeline_steps : Option (List ℕ) → List WorkStep
 pipeline_steps file = syntax_step file ∷ rule (script_rule (script_in file)) ∷ []
 
--- A pipeline that mentions a number is not computed where no file of numbers is named; the fault stands at the
--- first mention.
+-- A pipeline that mentions a number is not computed where no file of numbers is named; the fault stands at
+-- the first mention.
 abbrev pub no_numbers_at : Place → Fault
 no_numbers_at place = Rule place NoNumbers
 

@@ -212,8 +212,8 @@ pub fn read_results<S: Shelf>(
     }
 }
 
-/// The bars of the bars file of that name, for these sessions and assets. They are judged as they are read, and the
-/// file is not held.
+/// The bars of the bars file of that name, for these sessions and assets. They are judged as they are read,
+/// and the file is not held.
 pub fn read_bars<S: Shelf>(
     alloc: Global,
     shelf: &mut S,

@@ -66,8 +66,8 @@ pub(crate) struct WorldRows {
 
 /// Reads and judges all that a run asks for, each file whole before the next one: the pipeline file, the
 /// sessions, assets, labels, numbers, results, bars, adjustments and revisions, and then the range. Labels,
-/// numbers, results, adjustments and revisions are read only where they are asked for. The fault is the first one in this
-/// order, or want of memory.
+/// numbers, results, adjustments and revisions are read only where they are asked for. The fault is the first
+/// one in this order, or want of memory.
 pub fn load<S: Shelf, K: AdjustKeeper>(
     alloc: Global,
     request: &RunRequest<'_>,
