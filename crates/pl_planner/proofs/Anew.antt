@@ -6,7 +6,6 @@ use Rattle.pl_pipeline.specs.Cones.{Follows, Borders, HasDepth, border_terms, re
 use Rattle.std.specs.List.{list_any}
 use Rattle.std.proofs.lemmas.Bool.{and_from, or_right}
 use Rattle.std.proofs.lemmas.Bool.Decides.{nat_tests}
-use Rattle.pl_pipeline.specs.Term.{Graph, IsGraph}
 use Rattle.pl_pipeline.specs.Graph.{contains, mentions_at, used_terms, Used}
 use Rattle.pl_pipeline.proofs.Contained.{in-back}
 use Rattle.pl_pipeline.specs.Lows.{Needs}
@@ -22,6 +21,7 @@ use Rattle.pl_planner.specs.Holds.{is_live_by}
 use Rattle.pl_planner.proofs.Live.{contains-filter, some_holds}
 use Rattle.pl_planner.proofs.Mentions.{needs-used}
 use Rattle.pl_planner.proofs.Pipelines.{IsPipeline, is-pipeline, used-inside}
+use Rattle.pl_planner.proofs.ReadTerms.{border-lower}
 
 pub cones-covered : ConesAreCovered
 cones-covered days rise p checked plan is k u m c s asked low has =
@@ -47,16 +47,6 @@ cones-covered days rise p checked plan is k u m c s asked low has =
 
 -- ---- beside the cone
 
-border-lower : (g : Graph) (ok : IsGraph g) (k b m : ℕ) → Borders g k b m → b < k
-border-lower g ok k b m (Borders.input v j n i f e at h) =
-    let low : v < k = cone-lower g ok k v j f in
-    let own : b < v = (ok.lower v n e).inputs i b at in
-    omega arith
-border-lower g ok k b m (Borders.mask v j n f e at) =
-    let low : v < k = cone-lower g ok k v j f in
-    let own : b < v = (ok.lower v n e).mask b at in
-    omega arith
-
 pub borders-covered : BordersAreCovered
 borders-covered days rise p checked plan is k b m c s asked low border =
     let ok : IsPipeline p.graph (outputs p) = is-pipeline p checked in
@@ -77,6 +67,6 @@ borders-covered days rise p checked plan is k b m c s asked low border =
     record {
       used = used;
       lower = below;
-      kept = contains-filter (is_live_by (reads_of p.graph) p.graph (outputs p) k) (used_terms p.graph (outputs p)) b ∙ and_from _ _ listed_b live;
+      live = contains-filter (is_live_by (reads_of p.graph) p.graph (outputs p) k) (used_terms p.graph (outputs p)) b ∙ and_from _ _ listed_b live;
       computed = omega (arith, ints, first, low);
     }

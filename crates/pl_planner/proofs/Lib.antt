@@ -12,6 +12,7 @@ pub mod Mentions
 pub mod Moved
 pub mod Passes
 pub mod Pipelines
+pub mod ReadTerms
 pub mod Tables
 pub mod Slotted
 pub mod Steadied

@@ -2,14 +2,11 @@
 use Rattle.std.specs.Prelude.{◌≡◌, ℕ, ◌<◌, ◌≤◌, true, ℤ, pos, ◌≤ℤ◌, ◌<ℤ◌, List, AllPairs, Some, slice_get}
 use Rattle.pl_spec.specs.Limits.{most_extra_rows}
 use Rattle.pl_spec.specs.Window.{before}
-use Rattle.pl_pipeline.specs.Cones.{Borders, HasDepth, reads_of}
-use Rattle.pl_pipeline.specs.Graph.{contains}
+use Rattle.pl_pipeline.specs.Cones.{Borders, HasDepth}
 use Rattle.pl_pipeline.specs.Term.{Node}
 use Rattle.pl_pipeline.specs.Lows.{Reads}
 use Rattle.pl_pipeline.specs.Table.{Pipeline}
 use Rattle.pl_terms.specs.Checked.{IsChecked}
-use Rattle.pl_terms.specs.Uses.{outputs}
-use Rattle.pl_planner.specs.Holds.{live_terms_by}
 use Rattle.pl_planner.specs.Plans.{Planned, IsAsked, IsPlanOf, is_used, low_at, cone, IsLive}
 
 -- What a used term k reads of a term t, for a session that it is computed on: t is used, has a lower number,
@@ -41,11 +38,11 @@ ConesAreCovered = (days : List ℤ) → AllPairs (λ a b. a <ℤ b) days
     → HasDepth u m (cone plan k) → IsCoveredAnew plan k u m c s
 
 -- What the cone of a term k reads of a term b beside the cone, on up to m sessions before session s: b is used,
--- has a lower number, is kept until k is computed, and is computed from the first of these on.
+-- has a lower number, is live with k, and is computed from the first of these on.
 pub record IsCoveredBeside (p : Pipeline) (plan : Planned) (k b m c : ℕ) (s : ℤ) : Type 0 where
   pub used : is_used plan b ≡ true
   pub lower : b < k
-  pub kept : contains (live_terms_by (reads_of p.graph) p.graph (outputs p) k) b ≡ true
+  pub live : IsLive p k b
   pub computed : pos (low_at plan b c) ≤ℤ before s m
 
 abbrev pub BordersAreCovered : Type 0
