@@ -2,11 +2,14 @@
 use Rattle.std.specs.Prelude.{◌≡◌, ℕ, ◌<◌, ◌≤◌, true, ℤ, pos, ◌≤ℤ◌, ◌<ℤ◌, List, AllPairs, Some, slice_get}
 use Rattle.pl_spec.specs.Limits.{most_extra_rows}
 use Rattle.pl_spec.specs.Window.{before}
-use Rattle.pl_pipeline.specs.Cones.{Borders, HasDepth}
-use Rattle.pl_pipeline.specs.Term.{Node}
+use Rattle.pl_pipeline.specs.Cones.{Borders, HasDepth, reads_of}
+use Rattle.pl_pipeline.specs.Graph.{mentions_at, bound}
+use Rattle.pl_pipeline.specs.NodeValue.{AllReadSteady}
+use Rattle.pl_pipeline.specs.Term.{Graph, Node}
 use Rattle.pl_pipeline.specs.Lows.{Reads}
 use Rattle.pl_pipeline.specs.Table.{Pipeline}
 use Rattle.pl_terms.specs.Checked.{IsChecked}
+use Rattle.pl_planner.specs.Columns.{most_held}
 use Rattle.pl_planner.specs.Plans.{Planned, IsAsked, IsPlanOf, is_used, low_at, cone, IsLive}
 
 -- What a used term k reads of a term t, for a session that it is computed on: t is used, has a lower number,
@@ -50,3 +53,7 @@ BordersAreCovered = (days : List ℤ) → AllPairs (λ a b. a <ℤ b) days
     → (p : Pipeline) → IsChecked p → (plan : Planned) → IsPlanOf days p plan
     → (k b m c : ℕ) (s : ℤ) → IsAsked plan k c → pos (low_at plan k c) ≤ℤ s
     → Borders p.graph k b m → IsCoveredBeside p plan k b m c s
+
+abbrev pub SteadyPlansHoldMentions : Type 0
+SteadyPlansHoldMentions = (g : Graph) → AllReadSteady g
+    → ((t : ℕ) → reads_of g t ≡ mentions_at g t) × ((outs : List ℕ) → most_held g outs ≡ bound g outs)
