@@ -21,6 +21,7 @@ use Rattle.pl_planner.specs.Holds.{is_live_by}
 use Rattle.pl_planner.proofs.Live.{contains-filter, some_holds}
 use Rattle.pl_planner.proofs.Mentions.{needs-used}
 use Rattle.pl_planner.proofs.Pipelines.{IsPipeline, is-pipeline, used-inside}
+use Rattle.pl_planner.proofs.Covers.{cone-of}
 use Rattle.pl_planner.proofs.ReadTerms.{border-lower}
 
 pub cones-covered : ConesAreCovered
@@ -29,7 +30,7 @@ cones-covered days rise p checked plan is k u m c s asked low has =
     let listed : contains (used_terms p.graph (outputs p)) k ≡ true = sym (is.used k) ∙ asked.0 in
     let used_k : Used p.graph (outputs p) k = used_terms-sound p.graph (outputs p) ok.graph k listed in
     let inside : k < length p.graph = used-inside p.graph (outputs p) ok k used_k in
-    let follows : Follows p.graph k u m = depths-sound p.graph ok.graph k u m (subst (HasDepth u m) (is.cones k inside) has) in
+    let follows : Follows p.graph k u m = depths-sound p.graph ok.graph k u m (subst (HasDepth u m) (cone-of days p plan is k inside) has) in
     let own = is.lows.exact k c asked in
     let need : Needs days p.graph (outputs p) (pos c) u (before (pos (low_at plan k c)) m) = cone-needed days p.graph (outputs p) (pos c) ok.graph k (pos (low_at plan k c)) own.needed follows in
     let used_u : Used p.graph (outputs p) u = needs-used days p.graph (outputs p) (pos c) u (before (pos (low_at plan k c)) m) need in

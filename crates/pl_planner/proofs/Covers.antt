@@ -67,6 +67,12 @@ reads-covered days rise p checked plan is k t c n s r asked e low reads =
       computed = lows-cover days rise p.graph (outputs p) (pos c) k t n (pos (low_at plan k c)) (pos (low_at plan t c)) s r (is.lows.exact k c asked) (is.lows.exact t c (used, asked.1)) e low reads;
     }
 
+-- the cone of a term
+pub cone-of : (days : List ℤ) (p : Pipeline) (plan : Planned) → IsPlanOf days p plan → (t : ℕ) → t < length p.graph → cone plan t ≡ cone_depths p.graph t
+unfolding cone
+cone-of days p plan is t h =
+    ap (λ cs. get_or cs t []) is.cones ∙ get_or-map-range_with_len (cone_depths p.graph) 0 (length p.graph) t t [] h (let z : 0 + t ≡ t = omega arith in z)
+
 -- ---- the extra sessions of a range
 
 module _ (days : List ℤ) (p : Pipeline) (checked : IsChecked p) (from to : ℕ) (order : from ≤ to) (extras : List ℕ) (rows : AreRows days p.graph (outputs p) from (to + 1 - from) extras) where
@@ -382,10 +388,6 @@ module _ (days : List ℤ) (rise : AllPairs (λ a b. a <ℤ b) days) (p : Pipeli
     used-of : (t : ℕ) → is_used plan t ≡ true → (use_at uses t).used ≡ true
     used-of t h = sym (used-here t) ∙ h
 
-    cone-is : (t : ℕ) → t < length g → cone plan t ≡ cone_depths g t
-    unfolding cone
-    cone-is t h = ap (λ cs. get_or cs t []) listed ∙ get_or-map-range_with_len (cone_depths g) 0 (length g) t t [] h (let z : 0 + t ≡ t = omega arith in z)
-
     pub is-plan : IsPlanOf days p plan
     is-plan = record {
       order = order;
@@ -404,7 +406,7 @@ module _ (days : List ℤ) (rise : AllPairs (λ a b. a <ℤ b) days) (p : Pipeli
         room = λ k h. own-room k (used-of k h);
         columns_room = λ k i h l. column-room k (used-of k h) i (let f = held-few g k in omega arith) l;
       };
-      cones = λ t h. cone-is t h;
+      cones = listed;
     }
 
     pub limits : length p.graph ≤ most_terms → held ≤ most_terms + 5 → KeepsLimits plan

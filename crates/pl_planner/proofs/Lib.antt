@@ -3,6 +3,7 @@ pub mod Asking
 pub mod Coned
 pub mod Counting
 pub mod Covers
+pub mod Followers
 pub mod Gathers
 pub mod Held
 pub mod Live

@@ -1,5 +1,5 @@
 -- What a plan is good for.
-use Rattle.std.specs.Prelude.{◌≡◌, ℕ, ◌<◌, ◌≤◌, true, ℤ, pos, ◌≤ℤ◌, ◌<ℤ◌, List, AllPairs, Some, slice_get}
+use Rattle.std.specs.Prelude.{◌≡◌, ℕ, ◌<◌, ◌≤◌, ◌↔◌, true, false, ℤ, pos, ◌≤ℤ◌, ◌<ℤ◌, List, AllPairs, Some, slice_get}
 use Rattle.pl_spec.specs.Limits.{most_extra_rows}
 use Rattle.pl_spec.specs.Window.{before}
 use Rattle.pl_pipeline.specs.Cones.{Borders, HasDepth, reads_of}
@@ -10,7 +10,7 @@ use Rattle.pl_pipeline.specs.Lows.{Reads}
 use Rattle.pl_pipeline.specs.Table.{Pipeline}
 use Rattle.pl_terms.specs.Checked.{IsChecked}
 use Rattle.pl_planner.specs.Columns.{most_held}
-use Rattle.pl_planner.specs.Plans.{Planned, IsAsked, IsPlanOf, is_used, low_at, cone, IsLive}
+use Rattle.pl_planner.specs.Plans.{Planned, IsAsked, IsPlanOf, has_cones, is_used, low_at, cone, IsLive}
 
 -- What a used term k reads of a term t, for a session that it is computed on: t is used, has a lower number,
 -- is live with k and is computed from that session on.
@@ -54,6 +54,13 @@ BordersAreCovered = (days : List ℤ) → AllPairs (λ a b. a <ℤ b) days
     → (k b m c : ℕ) (s : ℤ) → IsAsked plan k c → pos (low_at plan k c) ≤ℤ s
     → Borders p.graph k b m → IsCoveredBeside p plan k b m c s
 
+-- a plan has cones exactly where a window is over what moves
+abbrev pub ConesTellFollowers : Type 0
+ConesTellFollowers = (days : List ℤ) (p : Pipeline) → IsChecked p → (plan : Planned) → IsPlanOf days p plan
+    → (has_cones plan ≡ false) ↔ AllReadSteady p.graph
+
+-- Where no window is over what moves, a term reads what it mentions alone, and at once is held what is
+-- mentioned later.
 abbrev pub SteadyPlansHoldMentions : Type 0
 SteadyPlansHoldMentions = (g : Graph) → AllReadSteady g
     → ((t : ℕ) → reads_of g t ≡ mentions_at g t) × ((outs : List ℕ) → most_held g outs ≡ bound g outs)

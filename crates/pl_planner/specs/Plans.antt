@@ -1,5 +1,6 @@
 -- The plan of a run, and why there is none.
-use Rattle.std.specs.Prelude.{◌≡◌, ℕ, ◌<◌, ◌≤◌, ◌+◌, ◌-◌, ◌*◌, ◌⊎◌, Bool, true, false, ◌&&◌, if◌then◌else◌, nat_le, nat_lt, ℤ, pos, ◌-ℤ◌, ◌<ℤ◌, ◌≤ℤ◌, List, [], length, get_or, slice_get, Option, Some, None}
+use Rattle.std.specs.Prelude.{◌≡◌, ℕ, ◌<◌, ◌≤◌, ◌+◌, ◌-◌, ◌*◌, ◌⊎◌, Bool, true, false, ◌&&◌, if◌then◌else◌, nat_le, nat_lt, ℤ, pos, ◌-ℤ◌, ◌<ℤ◌, ◌≤ℤ◌, List, [], length, map, get_or, slice_get, Option, Some, None}
+use Rattle.std.specs.List.{list_any, range_with_len}
 use Rattle.pl_spec.specs.Limits.{most_extra_rows, most_terms}
 use Rattle.pl_spec.specs.Window.{before}
 use Rattle.pl_pipeline.specs.Term.{Graph, Node}
@@ -72,6 +73,10 @@ column_slot plan t i = get_or (slots_at plan.slots t).columns i 0
 unfoldable pub cone : Planned → ℕ → List (ℕ × ℕ)
 cone plan t = get_or plan.cones t []
 
+-- a window is over terms that move with the bars
+abbrev pub has_cones : Planned → Bool
+has_cones plan = list_any (λ c. nat_lt 0 (length c)) plan.cones
+
 -- ---- the plan of a pipeline
 
 -- term t is used, and session s is one of the range
@@ -141,7 +146,7 @@ pub record IsPlanOf (days : List ℤ) (p : Pipeline) (plan : Planned) : Type 0 w
   pub last : (t : ℕ) → is_used plan t ≡ true → AreLastUsers p.graph (outputs p) t (last_user plan t)
   pub live : (k t : ℕ) → k < length p.graph → is_live plan k t ≡ contains (live_terms p k) t
   pub slots : AreSlots p plan
-  pub cones : (t : ℕ) → t < length p.graph → cone plan t ≡ cone_depths p.graph t
+  pub cones : plan.cones ≡ map (cone_depths p.graph) (range_with_len 0 (length p.graph))
 
 -- ---- why there is none
 

@@ -159,6 +159,18 @@ impl Plan {
         self.slots[t.0 as usize].columns[i]
     }
 
+    /// Is a window over terms that move with the bars, so that their values are computed anew?
+    pub fn has_cones(&self) -> bool
+        ensures { result ≡ spec.has_cones self.now }
+    {
+        for cone in &self.cones {
+            if !cone.terms.is_empty() {
+                return true;
+            }
+        }
+        false
+    }
+
     /// The cone of a used term: the terms that its windows are over and that move with the bars, ascending,
     /// each with the number of sessions before the term's own on which it is computed anew. Most terms have
     /// none.
