@@ -1,16 +1,14 @@
 -- A plan without cones is that of a pipeline whose windows hold bars and what is steady.
-use Rattle.std.proofs.Common.{◌≡◌, ℕ, zero, suc, ◌-◌, ◌<◌, Bool, true, false, not, nat_lt, ℤ, List, [], ◌∷◌, length, map, get_or, Some, slice_get, refl, sym, ◌∙◌, ap, subst, arith, All}
+use Rattle.std.proofs.Common.{◌≡◌, ℕ, suc, ◌+◌, ◌-◌, ◌<◌, ◌↔◌, Bool, true, false, not, nat_lt, ℤ, List, [], ◌∷◌, length, map, get_or, refl, sym, ◌∙◌, ap, subst, arith, All}
 use Rattle.std.specs.List.{list_any, range_with_len}
 use Rattle.std.proofs.lemmas.Bool.{true≢false}
 use Rattle.std.proofs.lemmas.Bool.Decides.{nat_tests}
 use Rattle.std.proofs.lemmas.List.Folds.{list_any_at, list_any_none}
 use Rattle.std.proofs.lemmas.List.FromFn.{get_or-map-range_with_len, length-map-range_with_len}
 use Rattle.std.proofs.lemmas.Option.{slice_get_within}
-use Rattle.pl_pipeline.specs.Kind.Kind.{Window}
-use Rattle.pl_pipeline.specs.Term.{Node, Graph, term_at}
-use Rattle.pl_pipeline.specs.Term.Input.{TermInput}
+use Rattle.pl_pipeline.specs.Term.{Graph, term_at}
 use Rattle.pl_pipeline.specs.Value.{is_steady}
-use Rattle.pl_pipeline.specs.NodeValue.{AllReadSteady, ReadsSteady}
+use Rattle.pl_pipeline.specs.NodeValue.{AllReadSteady}
 use Rattle.pl_pipeline.specs.Cones.{moves_at, is_windowed, Follows, HasDepth, cone_depths}
 use Rattle.pl_pipeline.specs.Table.{Pipeline}
 use Rattle.pl_laws.proofs.ConeDepths.{depths-greatest}

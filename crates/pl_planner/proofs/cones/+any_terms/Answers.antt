@@ -1,4 +1,4 @@
-use Rattle.std.proofs.Common.{rules, ◌∙◌, sym, ap, ◌||◌, nat_lt, length, List, Bool, ◌≡◌, ℕ}
+use Rattle.std.proofs.Common.{rules}
 use Rattle.pl_planner.proofs.Coned.{any-first}
 use Rattle.pl_planner.proofs.cones.+any_terms.Goals as goal
 
