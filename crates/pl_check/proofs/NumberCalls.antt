@@ -89,20 +89,20 @@ constant-speaks g n (Some i) r p h =
     let same : i.graph ≡ r.1 = (let q : Some (Factor i.number true, i.graph) ≡ Some r = h in cc) in
     ap speaks (sym same) ∙ put-speaks g (constant n) i p ∙ sym (or-none (speaks g))
 
-factor-speaks : (g : Graph) (v : Value) (r : Value × Graph) → factor_value g v ≡ Some r → speaks r.1 ≡ speaks g
+factor-speaks : (g : Graph) (v : Value) (r : Value × Graph) → factor_value interned g v ≡ Some r → speaks r.1 ≡ speaks g
 unfolding factor_value
 factor-speaks g (Number n) r h = constant-speaks g n (interned g (constant n)) r refl h
 factor-speaks g v r h = let same : g ≡ r.1 = (let q : Some (v, g) ≡ Some r = h in cc) in ap speaks (sym same)
 
-place-speaks : (g : Graph) (v : Value) (a : Bool) (r : Value × Graph) → cond a (factor_value g v) (Some (v, g)) ≡ Some r → speaks r.1 ≡ speaks g
+place-speaks : (g : Graph) (v : Value) (a : Bool) (r : Value × Graph) → cond a (factor_value interned g v) (Some (v, g)) ≡ Some r → speaks r.1 ≡ speaks g
 place-speaks g v true r h = factor-speaks g v r h
 place-speaks g v false r h = let same : g ≡ r.1 = (let q : Some (v, g) ≡ Some r = h in cc) in ap speaks (sym same)
 
-constants-speak : (done : List Bound) (g : Graph) (bs : List Bound) (r : List Bound × Graph) → with_constants done g bs ≡ Some r → speaks r.1 ≡ speaks g
+constants-speak : (done : List Bound) (g : Graph) (bs : List Bound) (r : List Bound × Graph) → with_constants interned done g bs ≡ Some r → speaks r.1 ≡ speaks g
 unfolding with_constants
 constants-speak done g [] r h = let same : g ≡ r.1 = (let q : Some (done, g) ≡ Some r = h in cc) in ap speaks (sym same)
 constants-speak done g (b ∷ bs) r h =
-    let w = bind-some (place_value g b) (λ q. with_constants (done ++ bound b.parameter q.0 ∷ []) q.1 bs) r h in
+    let w = bind-some (place_value interned g b) (λ q. with_constants interned (done ++ bound b.parameter q.0 ∷ []) q.1 bs) r h in
     constants-speak (done ++ bound b.parameter w.0.0 ∷ []) w.0.1 bs r w.2 ∙ place-speaks g b.value (asks_factor b.parameter) w.0 w.1
 
 -- ---- operations
@@ -130,17 +130,17 @@ node-adds o bs s (Some i) r p h =
     let is : found (result_for o bs i.number) (terms i.graph (names_after o bs s.names)) ≡ r = (let q : Some (found (result_for o bs i.number) (terms i.graph (names_after o bs s.names))) ≡ Some r = h in cc) in
     ap (λ (x : Found Value). speaks x.terms.graph) (sym is) ∙ put-speaks s.graph (node_for o bs s.names) i p ∙ ap (λ b. speaks s.graph || b) (kind-makes o bs s.names)
 
-made-adds : (o : Operation) (bs : List Bound) (s : Terms) (r : Found Value) → made o bs s ≡ Some r → Adds (makes o) s r
+made-adds : (o : Operation) (bs : List Bound) (s : Terms) (r : Found Value) → made interned o bs s ≡ Some r → Adds (makes o) s r
 unfolding made node_made
 made-adds o bs s r h =
-    let w = bind-some (with_constants [] s.graph bs) (λ q. node_made o q.0 (terms q.1 s.names)) r h in
+    let w = bind-some (with_constants interned [] s.graph bs) (λ q. node_made interned o q.0 (terms q.1 s.names)) r h in
     node-adds o w.0.0 (terms w.0.1 s.names) (interned w.0.1 (node_for o w.0.0 s.names)) r refl w.2 ∙ ap (λ b. b || makes o) (constants-speak [] s.graph bs w.0 w.1)
 
-applied-adds : (p : Place) (o : Operation) (bs : List Bound) (s : Terms) → IfOk (applied p o bs s) (Adds (makes o) s)
+applied-adds : (p : Place) (o : Operation) (bs : List Bound) (s : Terms) → IfOk (applied interned p o bs s) (Adds (makes o) s)
 unfolding applied
-applied-adds p o bs s = unless-ok _ (broken bs) p _ (λ b. some-ok _ _ p (made o bs s) (λ r h. made-adds o bs s r h))
+applied-adds p o bs s = unless-ok _ (broken bs) p _ (λ b. some-ok _ _ p (made interned o bs s) (λ r h. made-adds o bs s r h))
 
-called-adds : (p : Place) (o : Operation) (bs : List Bound) (ws : List Written) (s : Terms) → IfOk (called p o bs ws s) (Adds (makes o) s)
+called-adds : (p : Place) (o : Operation) (bs : List Bound) (ws : List Written) (s : Terms) → IfOk (called interned p o bs ws s) (Adds (makes o) s)
 unfolding called
 called-adds p o bs ws s = found-ok _ _ p (form o false bs ws) _ (λ cs e. applied-adds p o cs s)
 
@@ -172,35 +172,35 @@ operator-makes s v = refl
 nothing-added : (s : Terms) → speaks s.graph ≡ (speaks s.graph || false)
 nothing-added s = or-none (speaks s.graph)
 
-prefixed-adds : (p : Place) (sign : PrefixSign) (v : Value) (s : Terms) → IfOk (prefixed p sign v s) (Adds false s)
+prefixed-adds : (p : Place) (sign : PrefixSign) (v : Value) (s : Terms) → IfOk (prefixed interned p sign v s) (Adds false s)
 unfolding prefixed
 prefixed-adds p Minus (Number n) s = nothing-added s
 prefixed-adds p sign v s = alike _ _ s _ (prefix-makes sign) (applied-adds p (prefix_operator sign) (object_of (prefix_operator sign) v) s)
 
-combined-adds : (p : Place) (sign : BinarySign) (v w : Value) (s : Terms) → IfOk (combined p sign v w s) (Adds false s)
+combined-adds : (p : Place) (sign : BinarySign) (v w : Value) (s : Terms) → IfOk (combined interned p sign v w s) (Adds false s)
 unfolding combined
 combined-adds p sign v w s = alike _ _ s _ (operator-makes sign v) (applied-adds p (operator sign v) (operands_of (operator sign v) v w) s)
 
-member-adds : (p : Place) (v : Value) (s : Terms) (o : Operation) → makes o ≡ false → IfOk (member_of p v s o) (Adds false s)
+member-adds : (p : Place) (v : Value) (s : Terms) (o : Operation) → makes o ≡ false → IfOk (member_of interned p v s o) (Adds false s)
 member-adds p v s o e = either-ok _ (without_parentheses o) _ _ (λ q. alike _ _ s _ e (applied-adds p o (object_of o v) s)) (λ q. tt)
 
-method-adds : (p : Place) (v : Value) (ws : List Written) (s : Terms) (o : Operation) → makes o ≡ false → IfOk (method_of p v ws s o) (Adds false s)
+method-adds : (p : Place) (v : Value) (ws : List Written) (s : Terms) (o : Operation) → makes o ≡ false → IfOk (method_of interned p v ws s o) (Adds false s)
 method-adds p v ws s o e = either-ok _ (without_parentheses o) _ _ (λ q. tt) (λ q. alike _ _ s _ e (called-adds p o (object_of o v) ws s))
 
-told-of-adds : (m : Option Value) (p : Place) (v : Value) (ws : List Written) (s : Terms) (o : Operation) → makes o ≡ false → IfOk (told_of m p v ws s o) (Adds false s)
+told-of-adds : (m : Option Value) (p : Place) (v : Value) (ws : List Written) (s : Terms) (o : Operation) → makes o ≡ false → IfOk (told_of interned m p v ws s o) (Adds false s)
 told-of-adds None p v ws s o e = method-adds p v ws s o e
 told-of-adds (Some f) p v ws s o e =
-    then-adds false false s (kept_where p v f s) _ (method-adds p v (written None f ∷ []) s op.Where refl) (λ r. method-adds p r.value (without_mask ws) r.terms o e)
+    then-adds false false s (kept_where interned p v f s) _ (method-adds p v (written None f ∷ []) s op.Where refl) (λ r. method-adds p r.value (without_mask ws) r.terms o e)
 
-told-adds : (p : Place) (v : Value) (ws : List Written) (s : Terms) (o : Operation) → makes o ≡ false → IfOk (told_method p v ws s o) (Adds false s)
+told-adds : (p : Place) (v : Value) (ws : List Written) (s : Terms) (o : Operation) → makes o ≡ false → IfOk (told_method interned p v ws s o) (Adds false s)
 told-adds p v ws s (op.Summarize t) e = told-of-adds (mask_in ws) p v ws s (op.Summarize t) e
 told-adds p v ws s o e = method-adds p v ws s o e
 
-asset-adds : (p : Place) (v : Value) (ws : List Written) (s : Terms) → IfOk (one_asset p v ws s) (Adds false s)
+asset-adds : (p : Place) (v : Value) (ws : List Written) (s : Terms) → IfOk (one_asset interned p v ws s) (Adds false s)
 asset-adds p v [] s = tt
 asset-adds p v (w ∷ []) s =
-    then-adds false false s (called p op.StaticSids [] (w ∷ []) s) _ (called-adds p op.StaticSids [] (w ∷ []) s) (λ x.
-    then-adds false false x.terms (kept_where p v x.value x.terms) _ (method-adds p v (written None x.value ∷ []) x.terms op.Where refl) (λ r.
+    then-adds false false s (called interned p op.StaticSids [] (w ∷ []) s) _ (called-adds p op.StaticSids [] (w ∷ []) s) (λ x.
+    then-adds false false x.terms (kept_where interned p v x.value x.terms) _ (method-adds p v (written None x.value ∷ []) x.terms op.Where refl) (λ r.
     method-adds p r.value [] r.terms (op.Summarize summary.Greatest) refl))
 asset-adds p v (w ∷ (x ∷ ws)) s = tt
 
@@ -294,7 +294,7 @@ form-refused o n bs (w ∷ ws) r h e =
     let q = bind-some (parameter_of o n bs w.name) (λ p. form o (n || is_some w.name) (bs ++ bound p w.value ∷ []) ws) r h in
     form-refused o (n || is_some w.name) (bs ++ bound q.0 w.value ∷ []) ws r q.2 (each-more bs (bound q.0 w.value) e)
 
-called-refused : (P : Found Value → Type 0) (p : Place) (o : Operation) (bs : List Bound) (ws : List Written) (s : Terms) → each takes bs ≡ false → IfOk (called p o bs ws s) P
+called-refused : (P : Found Value → Type 0) (p : Place) (o : Operation) (bs : List Bound) (ws : List Written) (s : Terms) → each takes bs ≡ false → IfOk (called interned p o bs ws s) P
 unfolding called applied broken
 called-refused P p o bs ws s e = found-ok _ _ p (form o false bs ws) _ (λ cs h. unless-ok _ (broken cs) p _ (λ b. absurd (let no : Some WrongKind ≡ None = rw (form-refused o false bs ws cs h e) at b in cc)))
 
@@ -303,7 +303,7 @@ spoken s (Err e) t h = tt
 spoken s (Ok x) t h = h ∙ (let same : (speaks s.graph || true) ≡ (speaks s.graph || false) = rw t refl in same)
 
 aged-of : (p : Place) (o : Option (List ℕ)) (ws : List Written) (s : Terms) → ((n : List ℕ) → o ≡ Some n → speaks s.graph ≡ true)
-    → IfOk (called p op.Age (bound parameter.Name (name_or_none o) ∷ []) ws s) (Adds false s)
+    → IfOk (called interned p op.Age (bound parameter.Name (name_or_none o) ∷ []) ws s) (Adds false s)
 unfolding takes
 aged-of p (Some n) ws s h = spoken s _ (h n refl) (called-adds p op.Age (bound parameter.Name (Text n) ∷ []) ws s)
 aged-of p None ws s h = called-refused (Adds false s) p op.Age (bound parameter.Name (Number (pos 0)) ∷ []) ws s refl
@@ -312,13 +312,13 @@ name-beside : (names : List (List ℕ)) (k : Kind) (n : List ℕ) → name_of_ki
 name-beside names (kind.Number f k) n h = refl
 name-beside names k n h = absurd (let no : None ≡ Some n = h in cc)
 
-aged-adds : (p : Place) (v : Value) (ws : List Written) (s : Terms) → IfOk (aged p v ws s) (Adds false s)
+aged-adds : (p : Place) (v : Value) (ws : List Written) (s : Terms) → IfOk (aged interned p v ws s) (Adds false s)
 aged-adds p (Factor t safe) ws s =
     aged-of p (option_and_then (λ n. name_of_kind s.names n.kind) (slice_get s.graph t)) ws s
     (λ n e. (let w = bind-some (slice_get s.graph t) (λ m. name_of_kind s.names m.kind) n e in any-at s.graph t w.0 w.1 (name-beside s.names w.0.kind n w.2)))
 aged-adds p v ws s = aged-of p None ws s (λ n e. absurd (let no : None ≡ Some n = e in cc))
 
-named-adds : (v : ℕ) (p : Place) (x : Value) (m : List ℕ) (ws : List Written) (s : Terms) → IfOk (method_named_of v p x m ws s) (Adds false s)
+named-adds : (v : ℕ) (p : Place) (x : Value) (m : List ℕ) (ws : List Written) (s : Terms) → IfOk (method_named_of interned v p x m ws s) (Adds false s)
 named-adds v p x m ws s =
     either-ok _ (names_one_asset v m) _ _ (λ e. asset-adds p x ws s)
     (λ e. either-ok _ (names_age v m) _ _ (λ a. aged-adds p x ws s) (λ a. found-ok _ _ p (member_named v m) _ (λ o h. told-adds p x ws s o (member-makes v m o h))))
@@ -329,38 +329,38 @@ asks-both cs ds = sym (list_any-append is_number cs ds)
 mutual
   unfolding worth args_worth calls calls_among
 
-  worth-adds : (v : ℕ) (ds : List Definition) (e : Tree) (s : Terms) → IfOk (worth v ds e s) (Adds (asks (calls e)) s)
+  worth-adds : (v : ℕ) (ds : List Definition) (e : Tree) (s : Terms) → IfOk (worth interned v ds e s) (Adds (asks (calls e)) s)
   worth-adds v ds (number p n) s = nothing-added s
   worth-adds v ds (text p x) s = nothing-added s
   worth-adds v ds (name p n) s = found-ok _ _ p (value_named ds n) (λ x. Ok (found x s)) (λ x e. nothing-added s)
   worth-adds v ds (call p f ps) s =
-      alike _ _ s _ (or-turned (asks (calls_among ps)) (bytes_eq f number_name)) (then-adds (asks (calls_among ps)) (bytes_eq f number_name) s (args_worth v ds [] ps s) _ (args-add v ds [] ps s)
+      alike _ _ s _ (or-turned (asks (calls_among ps)) (bytes_eq f number_name)) (then-adds (asks (calls_among ps)) (bytes_eq f number_name) s (args_worth interned v ds [] ps s) _ (args-add v ds [] ps s)
       (λ r. found-ok _ _ p (function_named v f) _ (λ o e. alike _ _ r.terms _ (function-makes v f o e) (called-adds p o [] r.value r.terms))))
   worth-adds v ds (prefix p sign e) s =
-      alike _ _ s _ (sym (or-none _)) (then-adds (asks (calls e)) false s (worth v ds e s) _ (worth-adds v ds e s) (λ r. prefixed-adds p sign r.value r.terms))
+      alike _ _ s _ (sym (or-none _)) (then-adds (asks (calls e)) false s (worth interned v ds e s) _ (worth-adds v ds e s) (λ r. prefixed-adds p sign r.value r.terms))
   worth-adds v ds (binary p sign a b) s =
       alike _ _ s _ (ap (λ c. asks (calls a) || c) (sym (or-none (asks (calls b)))) ∙ asks-both (calls a) (calls b))
-      (then-adds (asks (calls a)) (asks (calls b) || false) s (worth v ds a s) _ (worth-adds v ds a s) (λ l.
-      then-adds (asks (calls b)) false l.terms (worth v ds b l.terms) _ (worth-adds v ds b l.terms) (λ r. combined-adds p sign l.value r.value r.terms)))
+      (then-adds (asks (calls a)) (asks (calls b) || false) s (worth interned v ds a s) _ (worth-adds v ds a s) (λ l.
+      then-adds (asks (calls b)) false l.terms (worth interned v ds b l.terms) _ (worth-adds v ds b l.terms) (λ r. combined-adds p sign l.value r.value r.terms)))
   worth-adds v ds (member p e m) s =
-      alike _ _ s _ (sym (or-none _)) (then-adds (asks (calls e)) false s (worth v ds e s) _ (worth-adds v ds e s)
+      alike _ _ s _ (sym (or-none _)) (then-adds (asks (calls e)) false s (worth interned v ds e s) _ (worth-adds v ds e s)
       (λ r. found-ok _ _ p (member_named v m) _ (λ o h. member-adds p r.value r.terms o (member-makes v m o h))))
   worth-adds v ds (method p e m ps) s =
       alike _ _ s _ (ap (λ c. asks (calls e) || c) (sym (or-none (asks (calls_among ps)))) ∙ asks-both (calls e) (calls_among ps))
-      (then-adds (asks (calls e)) (asks (calls_among ps) || false) s (worth v ds e s) _ (worth-adds v ds e s) (λ r.
-      then-adds (asks (calls_among ps)) false r.terms (args_worth v ds [] ps r.terms) _ (args-add v ds [] ps r.terms) (λ q. named-adds v p r.value m q.value q.terms)))
+      (then-adds (asks (calls e)) (asks (calls_among ps) || false) s (worth interned v ds e s) _ (worth-adds v ds e s) (λ r.
+      then-adds (asks (calls_among ps)) false r.terms (args_worth interned v ds [] ps r.terms) _ (args-add v ds [] ps r.terms) (λ q. named-adds v p r.value m q.value q.terms)))
 
-  args-add : (v : ℕ) (ds : List Definition) (ws : List Written) (ps : Args) (s : Terms) → IfOk (args_worth v ds ws ps s) (Adds (asks (calls_among ps)) s)
+  args-add : (v : ℕ) (ds : List Definition) (ws : List Written) (ps : Args) (s : Terms) → IfOk (args_worth interned v ds ws ps s) (Adds (asks (calls_among ps)) s)
   args-add v ds ws no_args s = nothing-added s
   args-add v ds ws (arg n e ps) s =
       alike _ _ s _ (asks-both (calls e) (calls_among ps))
-      (then-adds (asks (calls e)) (asks (calls_among ps)) s (worth v ds e s) _ (worth-adds v ds e s) (λ r. args-add v ds (ws ++ written n r.value ∷ []) ps r.terms))
+      (then-adds (asks (calls e)) (asks (calls_among ps)) s (worth interned v ds e s) _ (worth-adds v ds e s) (λ r. args-add v ds (ws ++ written n r.value ∷ []) ps r.terms))
 
 -- ---- statements
 
-stored-adds : (p : Place) (r : Found Value) → IfOk (stored p r) (λ q. speaks q.terms.graph ≡ speaks r.terms.graph)
+stored-adds : (p : Place) (r : Found Value) → IfOk (stored interned p r) (λ q. speaks q.terms.graph ≡ speaks r.terms.graph)
 unfolding stored
-stored-adds p r = require-ok _ (is_storable r.value) _ p _ (λ a. found-ok _ _ p (factor_value r.terms.graph r.value) _ (λ q e. factor-speaks r.terms.graph r.value q e))
+stored-adds p r = require-ok _ (is_storable r.value) _ p _ (λ a. found-ok _ _ p (factor_value interned r.terms.graph r.value) _ (λ q e. factor-speaks r.terms.graph r.value q e))
 
 -- what is judged after a statement
 abbrev Says : Graph → Judged → Type 0
@@ -382,28 +382,28 @@ said : (g h : Graph) (r : Result Judged Broken) → speaks h ≡ speaks g → If
 said g h (Err e) q k = tt
 said g h (Ok j) q k = k ∙ q
 
-head-says : (v : ℕ) (j : Judged) (h : Head) (r : Found Value) → IfOk (head_judged v j h r) (Says r.terms.graph)
-head-says v j (LetHead p n) r = then-ok _ (Says r.terms.graph) (stored p r) _ (stored-adds p r) (λ q s. said r.terms.graph q.terms.graph _ s (let-says v j p n q))
-head-says v j (ColumnHead p n) r = then-ok _ (Says r.terms.graph) (stored p r) _ (stored-adds p r) (λ q s. said r.terms.graph q.terms.graph _ s (column-says j p n q))
+head-says : (v : ℕ) (j : Judged) (h : Head) (r : Found Value) → IfOk (head_judged interned v j h r) (Says r.terms.graph)
+head-says v j (LetHead p n) r = then-ok _ (Says r.terms.graph) (stored interned p r) _ (stored-adds p r) (λ q s. said r.terms.graph q.terms.graph _ s (let-says v j p n q))
+head-says v j (ColumnHead p n) r = then-ok _ (Says r.terms.graph) (stored interned p r) _ (stored-adds p r) (λ q s. said r.terms.graph q.terms.graph _ s (column-says j p n q))
 head-says v j (ScreenHead p) r = screen-says j p r
 
 -- after statements
 abbrev After : Judged → Bool → Judged → Type 0
 After j b k = speaks k.terms.graph ≡ (speaks j.terms.graph || b)
 
-statement-adds : (v : ℕ) (j : Judged) (s : Statement) → IfOk (statement_judged v j s) (After j (asks (calls s.tree)))
+statement-adds : (v : ℕ) (j : Judged) (s : Statement) → IfOk (statement_judged interned v j s) (After j (asks (calls s.tree)))
 unfolding statement_judged
-statement-adds v j s = then-ok _ (After j (asks (calls s.tree))) (worth v j.definitions s.tree j.terms) _ (worth-adds v j.definitions s.tree j.terms) (λ r e. here r e (head_judged v j s.head r) (head-says v j s.head r))
+statement-adds v j s = then-ok _ (After j (asks (calls s.tree))) (worth interned v j.definitions s.tree j.terms) _ (worth-adds v j.definitions s.tree j.terms) (λ r e. here r e (head_judged interned v j s.head r) (head-says v j s.head r))
   where
     here : (r : Found Value) → Adds (asks (calls s.tree)) j.terms r → (q : Result Judged Broken) → IfOk q (Says r.terms.graph) → IfOk q (After j (asks (calls s.tree)))
     here r e (Err b) k = tt
     here r e (Ok x) k = k ∙ e
 
-statements-add : (v : ℕ) (j : Judged) (ss : List Statement) → IfOk (statements_judged v j ss) (After j (asks (statement_calls ss)))
+statements-add : (v : ℕ) (j : Judged) (ss : List Statement) → IfOk (statements_judged interned v j ss) (After j (asks (statement_calls ss)))
 unfolding statements_judged statement_calls
 statements-add v j [] = or-none (speaks j.terms.graph)
 statements-add v j (s ∷ ss) =
-    then-ok _ (After j (asks (statement_calls (s ∷ ss)))) (statement_judged v j s) _ (statement-adds v j s) (λ k e. here k e (statements_judged v k ss) (statements-add v k ss))
+    then-ok _ (After j (asks (statement_calls (s ∷ ss)))) (statement_judged interned v j s) _ (statement-adds v j s) (λ k e. here k e (statements_judged interned v k ss) (statements-add v k ss))
   where
     here : (k : Judged) → After j (asks (calls s.tree)) k → (q : Result Judged Broken) → IfOk q (After k (asks (statement_calls ss))) → IfOk q (After j (asks (statement_calls (s ∷ ss))))
     here k e (Err b) w = tt
@@ -412,7 +412,7 @@ statements-add v j (s ∷ ss) =
 typed-speaks : (s : Parsed) → IfOk (typed s) (λ p. speaks p.graph ≡ asks (statement_calls s.statements))
 unfolding typed
 typed-speaks s =
-    then-ok (After nothing (asks (statement_calls s.statements))) (λ p. speaks p.graph ≡ asks (statement_calls s.statements)) (statements_judged s.version nothing s.statements) _ (statements-add s.version nothing s.statements)
+    then-ok (After nothing (asks (statement_calls s.statements))) (λ p. speaks p.graph ≡ asks (statement_calls s.statements)) (statements_judged interned s.version nothing s.statements) _ (statements-add s.version nothing s.statements)
     (λ j e. require-ok (λ (p : Pipeline). speaks p.graph ≡ asks (statement_calls s.statements)) (nat_le 1 (length j.columns)) _ s.end _ (λ a. e))
 
 -- ---- the law
