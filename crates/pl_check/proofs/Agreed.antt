@@ -303,6 +303,6 @@ typed-unless-many s t h = here (typed s) (typed_by added s) refl h (script-agree
     here : (r q : Result Pipeline Broken) → typed s ≡ r → without_numbers q ≡ Ok t → Agrees of_pipeline Numbered r q
         → ((p : Pipeline) × (typed s ≡ Ok p)) ⊎ ((b : Broken) × (typed s ≡ Err b) × (b.fault ≡ TooManyTerms) × HasMany t.trees)
     here (Ok p) q e k a = inl (p, e)
-    here (Err b) (Ok z) e k (inl x) = inr (b, e, x.0, subst (λ (y : ScriptTrees). HasMany y.trees) (let i : Ok (trees_of z) ≡ Ok t = k in cc) x.1)
+    here (Err b) (Ok z) e k (inl x) = let i : trees_of z ≡ t = (let n : Ok (trees_of z) ≡ Ok t = k in cc) in inr (b, e, x.0, subst (λ (y : ScriptTrees). HasMany y.trees) i x.1)
     here (Err b) (Ok z) e k (inr x) = absurd (let no : Ok z ≡ Err b = x in cc)
     here (Err b) (Err c) e k a = absurd (let no : Err c ≡ Ok t = k in cc)

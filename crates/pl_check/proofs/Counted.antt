@@ -26,7 +26,7 @@ use Rattle.pl_check.specs.Numbering.{AreFirsts, HasMany}
 use Rattle.pl_check.proofs.Extended.{IsOver, over-later, trees-more, constants-grow, node-grows}
 use Rattle.pl_check.proofs.Few.{few-inputs}
 use Rattle.pl_check.proofs.Renumbered.{renumbered, moved, names-moved, result-moved}
-use Rattle.pl_check.proofs.Rooted.{IsIn, AllIn, values, moved_node, node-moved, tree-moved, mentions-moved, node-mentions}
+use Rattle.pl_check.proofs.Rooted.{IsIn, AllIn, values, moved_input, moved_node, node-moved, tree-moved, mentions-moved, node-mentions}
 use Rattle.pl_check.proofs.Growing.{terms, interned-grows}
 use Rattle.pl_check.proofs.Sorted.{result-term}
 
@@ -115,7 +115,7 @@ pub record Fits (f : Graph) (n : Node) : Type 0 where
 
 module _ (s f : Terms) (to : ℕ → ℕ) (n : Node) (w : Same s f to) (x : Fits f.graph n) where
   few : length (moved_node to n).inputs ≤ 3
-  few = let l : length n.inputs ≤ 3 = x.few in omega (arith, length-map n.inputs)
+  few = let l : length n.inputs ≤ 3 = x.few in omega (arith, length-map n.inputs (moved_input to))
 
   low : MentionsBelow (moved_node to n) (length s.graph)
   low = mentions-moved to (length f.graph) (length s.graph) n x.low (there s f to w)
@@ -267,22 +267,28 @@ constants-put : (s f : Terms) (to : ℕ → ℕ) (done bs : List Bound) → Same
     → Puts (MeansBounds f.graph to) (named s.names (with_constants interned (map (moved to) done) s.graph (map (moved to) bs))) (named f.names (with_constants added done f.graph bs))
 unfolding with_constants
 constants-put s f to done [] w i k = record { to_after = to; further = further-same f.graph to; inside = i; is = refl; same = w }
-constants-put s f to done (b ∷ bs) w i k = here (place_value interned s.graph (moved to b)) (place_value added f.graph b) (place-puts s f to b w k.0)
+constants-put s f to done (b ∷ bs) w i k = here (λ t g more done. constants-put t g more done bs) (place_value interned s.graph (moved to b)) (place_value added f.graph b) (place-puts s f to b w k.0)
   where
     rest : List Bound → List Bound → Value × Graph → Option (List Bound × Graph)
     rest done bs r = with_constants interned (done ++ bound b.parameter r.0 ∷ []) r.1 bs
 
-    here : (o q : Option (Value × Graph)) → Puts (MeansValue f.graph to) (named s.names o) (named f.names q)
+    -- what is given after it
+    Rest : Type 0
+    Rest =
+        (t g : Terms) (more : ℕ → ℕ) (done : List Bound) → Same t g more → AllIn g.graph (values done) → AllIn g.graph (values bs)
+        → Puts (MeansBounds g.graph more) (named t.names (with_constants interned (map (moved more) done) t.graph (map (moved more) bs))) (named g.names (with_constants added done g.graph bs))
+
+    here : Rest → (o q : Option (Value × Graph)) → Puts (MeansValue f.graph to) (named s.names o) (named f.names q)
         → Puts (MeansBounds f.graph to) (named s.names (option_and_then (rest (map (moved to) done) (map (moved to) bs)) o))
         (named f.names (option_and_then (λ r. with_constants added (done ++ bound b.parameter r.0 ∷ []) r.1 bs) q))
-    here o None h = absurd h
-    here None (Some y) h =
+    here again o None h = absurd h
+    here again None (Some y) h =
         let z = constants-grow (done ++ bound b.parameter y.0 ∷ []) y.1 bs in
         subst (λ (r : Option (List Bound × Graph)). Puts (MeansBounds f.graph to) None (named f.names r)) (sym z.1) (over-later y.1 z.0.1 z.2 h)
-    here (Some x) (Some y) h =
+    here again (Some x) (Some y) h =
         let c = bound b.parameter y.0 in
         let split : values (done ++ c ∷ []) ≡ values done ++ y.0 ∷ [] = map-append (λ (z : Bound). z.value) done (c ∷ []) in
-        let m = constants-put (terms x.1 s.names) (terms y.1 f.names) h.to_after (done ++ c ∷ []) bs h.same
+        let m = again (terms x.1 s.names) (terms y.1 f.names) h.to_after (done ++ c ∷ []) h.same
         (subst (AllIn y.1) (sym split) (each_both (IsIn y.1) (values done) (y.0 ∷ []) (all-later f.graph y.1 to h.to_after (values done) h.further i) (h.inside, tt)))
         (all-later f.graph y.1 to h.to_after (values bs) h.further k.1) in
         let front : map (moved h.to_after) (done ++ c ∷ []) ≡ map (moved to) done ++ bound b.parameter x.0 ∷ [] =

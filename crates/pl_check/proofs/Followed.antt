@@ -216,10 +216,10 @@ unmasked-in g (w ∷ ws) k = here (names_mask w.name) (unmasked-in g ws k.1)
     here false r = (k.0, r)
 
 -- a member of what was found, with arguments
-after-agrees : (p : Place) (as ws : List Written) (f : Graph) (to : ℕ → ℕ) (r m : Found Value) (o : Operation) (j : MeansValue f to r m) → as ≡ map (moved_written j.to_after) ws → AllIn m.terms.graph (worths ws)
-    → AgreesValue f to (method_of interned p r.value as r.terms o) (method_of added p m.value ws m.terms o)
-after-agrees p as ws f to r m o j e k =
-    subst (λ z. AgreesValue f to (method_of interned p z as r.terms o) (method_of added p m.value ws m.terms o)) (sym j.is)
+after-agrees : (p : Place) (xs ws : List Written) (f : Graph) (to : ℕ → ℕ) (r m : Found Value) (o : Operation) (j : MeansValue f to r m) → xs ≡ map (moved_written j.to_after) ws → AllIn m.terms.graph (worths ws)
+    → AgreesValue f to (method_of interned p r.value xs r.terms o) (method_of added p m.value ws m.terms o)
+after-agrees p xs ws f to r m o j e k =
+    subst (λ z. AgreesValue f to (method_of interned p z xs r.terms o) (method_of added p m.value ws m.terms o)) (sym j.is)
     (subst (λ z. AgreesValue f to (method_of interned p (renumbered j.to_after m.value) z r.terms o) (method_of added p m.value ws m.terms o)) (sym e)
     (behind f m.terms.graph to j.to_after _ _ j.further (method-agrees p m.value ws r.terms m.terms j.to_after o j.same j.inside k)))
 

@@ -35,7 +35,7 @@ term-moved to v = refl
 
 -- ---- the node
 
-abbrev moved_input : (ℕ → ℕ) → Input → Input
+abbrev pub moved_input : (ℕ → ℕ) → Input → Input
 moved_input to (BarColumn c) = BarColumn c
 moved_input to (TermInput k) = TermInput (to k)
 
@@ -78,7 +78,7 @@ inputs-moved to o bs =
     ∙ sym (map-append (moved_input to) (map BarColumn (columns_of o)) (filter_map (input_for bs) (parameters o)))
 
 same-node : {k k' : Kind} {i i' : List Input} {m m' g g' : Option ℕ} {w w' : ℕ} → k ≡ k' → i ≡ i' → m ≡ m' → g ≡ g' → w ≡ w'
-    → record { kind = k; inputs = i; mask = m; group = g; window = w } ≡ record { kind = k'; inputs = i'; mask = m'; group = g'; window = w' }
+    → ◌≡◌ {A = Node} (record { kind = k; inputs = i; mask = m; group = g; window = w }) (record { kind = k'; inputs = i'; mask = m'; group = g'; window = w' })
 same-node a b c d e = cc
 
 pub node-moved : (to : ℕ → ℕ) (o : Operation) (bs : List Bound) (names : List (List ℕ)) → node_for o (map (moved to) bs) names ≡ moved_node to (node_for o bs names)
