@@ -25,7 +25,7 @@ use Rattle.pl_check.proofs.Growing.{terms}
 use Rattle.pl_check.proofs.Stated.{columns-kept}
 use Rattle.pl_check.proofs.Renumbered.{renumbered, storable-moved, filter-moved}
 use Rattle.pl_check.proofs.Rooted.{IsIn}
-use Rattle.pl_check.proofs.Extended.{of_value, of_judged, of_pipeline, let-grows, column-grows, head-grows, statements-grow, ended-grows}
+use Rattle.pl_check.proofs.Extended.{of_value, of_judged, of_pipeline, let-adds, column-adds, head-adds, statements-add, ended-adds}
 use Rattle.pl_check.proofs.Counted.{Same, Further, MeansValue, means-behind, Puts, named, factor-puts}
 use Rattle.pl_check.proofs.Followed.{Agrees, then-agrees, weaker, moved_definition, DefinedIn, defined-later, defined-moved, worth-agrees}
 
@@ -205,9 +205,9 @@ screen-agrees j k p r m w h =
 
 head-agrees : (v : ℕ) (j k : Judged) (h : Head) (r m : Found Value) (w : SameJudged j k) → MeansValue k.terms.graph w.to r m → Agrees of_judged SameJudged (head_judged interned v j h r) (head_judged added v k h m)
 head-agrees version j k (LetHead p n) r m w v =
-    then-agrees of_value of_judged (Stored k.terms.graph w.to) SameJudged (stored interned p r) (stored added p m) _ _ (stored-after k.terms.graph w.to r m p v) (λ q x y. let-agrees version j k p n q x w y.0) (λ x. let-grows version k p n x)
+    then-agrees of_value of_judged (Stored k.terms.graph w.to) SameJudged (stored interned p r) (stored added p m) _ _ (stored-after k.terms.graph w.to r m p v) (λ q x y. let-agrees version j k p n q x w y.0) (λ x. (_, let-adds version k p n x))
 head-agrees version j k (ColumnHead p n) r m w v =
-    then-agrees of_value of_judged (Stored k.terms.graph w.to) SameJudged (stored interned p r) (stored added p m) _ _ (stored-after k.terms.graph w.to r m p v) (λ q x y. column-agrees j k p n q x w y) (λ x. column-grows k p n x)
+    then-agrees of_value of_judged (Stored k.terms.graph w.to) SameJudged (stored interned p r) (stored added p m) _ _ (stored-after k.terms.graph w.to r m p v) (λ q x y. column-agrees j k p n q x w y) (λ x. (_, column-adds k p n x))
 head-agrees version j k (ScreenHead p) r m w v = screen-agrees j k p r m w v
 
 -- ---- all statements
@@ -217,13 +217,13 @@ unfolding statement_judged
 statement-agrees v j k s w =
     then-agrees of_value of_judged (MeansValue k.terms.graph w.to) SameJudged (worth interned v j.definitions s.tree j.terms) (worth added v k.definitions s.tree k.terms) _ _
     (worth-agrees v k.definitions j.definitions s.tree j.terms k.terms w.to w.same w.defined_in w.definitions)
-    (λ r m h. head-agrees v j k s.head r m w h) (λ m. head-grows v k s.head m)
+    (λ r m h. head-agrees v j k s.head r m w h) (λ m. (_, head-adds v k s.head m))
 
 statements-agree : (v : ℕ) (j k : Judged) (ss : List Statement) → SameJudged j k → Agrees of_judged SameJudged (statements_judged interned v j ss) (statements_judged added v k ss)
 unfolding statements_judged
 statements-agree v j k [] w = (k, refl, w)
 statements-agree v j k (s ∷ ss) w =
-    then-agrees of_judged of_judged SameJudged SameJudged (statement_judged interned v j s) (statement_judged added v k s) _ _ (statement-agrees v j k s w) (λ x y h. statements-agree v x y ss h) (λ y. statements-grow v y ss)
+    then-agrees of_judged of_judged SameJudged SameJudged (statement_judged interned v j s) (statement_judged added v k s) _ _ (statement-agrees v j k s w) (λ x y h. statements-agree v x y ss h) (λ y. (_, statements-add v y ss))
 
 nothing-same : SameJudged nothing nothing
 nothing-same = record {
@@ -250,7 +250,7 @@ nothing-same = record {
 
 -- ---- the script
 
-abbrev Numbered : Pipeline → Pipeline → Type 0
+abbrev pub Numbered : Pipeline → Pipeline → Type 0
 Numbered p q = AreNumbered (trees_of q) p
 
 numbered : (j k : Judged) → SameJudged j k → Numbered (pipeline_of j) (pipeline_of k)
@@ -279,9 +279,9 @@ script-agrees : (s : Parsed) → Agrees of_pipeline Numbered (typed s) (typed_by
 unfolding typed
 script-agrees s =
     then-agrees of_judged of_pipeline SameJudged Numbered (statements_judged interned s.version nothing s.statements) (statements_judged added s.version nothing s.statements) _ _
-    (statements-agree s.version nothing nothing s.statements nothing-same) (λ j k w. ended-agrees s.end j k w) (λ k. ended-grows s.end k)
+    (statements-agree s.version nothing nothing s.statements nothing-same) (λ j k w. ended-agrees s.end j k w) (λ k. (_, ended-adds s.end k))
 
-agrees-where : (s : Parsed) (r : Result Pipeline Broken) → typed s ≡ r → Agrees of_pipeline Numbered r (typed_by added s)
+pub agrees-where : (s : Parsed) (r : Result Pipeline Broken) → typed s ≡ r → Agrees of_pipeline Numbered r (typed_by added s)
 agrees-where s r e = subst (λ r. Agrees of_pipeline Numbered r (typed_by added s)) e (script-agrees s)
 
 -- the trees of a pipeline, or its fault

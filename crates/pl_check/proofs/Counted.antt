@@ -23,7 +23,7 @@ use Rattle.pl_check.specs.Results.{term_in, constant, node_for, result_for, name
 use Rattle.pl_check.specs.Typed.{Terms, Found, found, constant_value, factor_value, asks_factor, place_value, with_constants, with_node, node_made, made}
 use Rattle.pl_check.specs.Trees.{added}
 use Rattle.pl_check.specs.Numbering.{AreFirsts, HasMany}
-use Rattle.pl_check.proofs.Extended.{IsOver, over-later, trees-more, constants-grow, node-grows}
+use Rattle.pl_check.proofs.Extended.{IsOver, over-later, trees-more, constants-add, node-adds}
 use Rattle.pl_check.proofs.Few.{few-inputs}
 use Rattle.pl_check.proofs.Renumbered.{renumbered, moved, names-moved, result-moved}
 use Rattle.pl_check.proofs.Rooted.{IsIn, AllIn, values, moved_input, moved_node, node-moved, tree-moved, mentions-moved, node-mentions}
@@ -283,8 +283,8 @@ constants-put s f to done (b ∷ bs) w i k = here (λ t g more done. constants-p
         (named f.names (option_and_then (λ r. with_constants added (done ++ bound b.parameter r.0 ∷ []) r.1 bs) q))
     here again o None h = absurd h
     here again None (Some y) h =
-        let z = constants-grow (done ++ bound b.parameter y.0 ∷ []) y.1 bs in
-        subst (λ (r : Option (List Bound × Graph)). Puts (MeansBounds f.graph to) None (named f.names r)) (sym z.1) (over-later y.1 z.0.1 z.2 h)
+        let z = constants-add (done ++ bound b.parameter y.0 ∷ []) y.1 bs in
+        subst (λ (r : Option (List Bound × Graph)). Puts (MeansBounds f.graph to) None (named f.names r)) (sym z.1) (over-later _ y.1 z.0.1 z.2 h)
     here again (Some x) (Some y) h =
         let c = bound b.parameter y.0 in
         let split : values (done ++ c ∷ []) ≡ values done ++ y.0 ∷ [] = map-append (λ (z : Bound). z.value) done (c ∷ []) in
@@ -345,8 +345,8 @@ made-puts s f to o bs w i = here (with_constants interned [] s.graph (map (moved
         → Puts (MeansValue f.graph to) (option_and_then (λ r. node_made interned o r.0 (terms r.1 s.names)) a) (option_and_then (λ r. node_made added o r.0 (terms r.1 f.names)) b)
     here a None h = absurd h
     here None (Some y) h =
-        let z = node-grows o y.0 (terms y.1 f.names) in
-        subst (λ r. Puts (MeansValue f.graph to) None r) (sym z.1) (over-later y.1 z.0.terms.graph z.2 h)
+        let z = node-adds o y.0 (terms y.1 f.names) in
+        subst (λ r. Puts (MeansValue f.graph to) None r) (sym z.1) (over-later _ y.1 z.0.terms.graph z.2 h)
     here (Some x) (Some y) h =
         behind (node_made interned o x.0 (terms x.1 s.names)) (node_made added o y.0 (terms y.1 f.names))
         (subst (λ bs. Puts (MeansValue y.1 h.to_after) (node_made interned o bs (terms x.1 s.names)) (node_made added o y.0 (terms y.1 f.names))) (sym h.is)

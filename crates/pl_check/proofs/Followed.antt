@@ -33,7 +33,7 @@ use Rattle.pl_check.specs.Trees.{added}
 use Rattle.pl_check.proofs.Renumbered.{renumbered, moved, moved_written, broken-moved, form-moved, object-moved, operands-moved, operator-moved}
 use Rattle.pl_check.proofs.Rooted.{IsIn, AllIn, values}
 use Rattle.pl_check.proofs.Chained.{then-ok}
-use Rattle.pl_check.proofs.Extended.{IsOver, over-later, of_value, of_written, Grows, function-grows, prefixed-grows, combined-grows, member-grows, method-grows, member-method-grows, rest-grows, then-grows, worth-grows, args-grow}
+use Rattle.pl_check.proofs.Extended.{IsOver, over-later, of_value, of_written, Adding, then-adds, method-adds, greatest-adds, function-adds, prefixed-adds, combined-adds, member-adds, named-adds, worth-adds, args-add}
 use Rattle.pl_check.proofs.Counted.{Same, Further, further-same, further-still, in-later, all-later, value-later, Means, MeansValue, means-behind, Puts, made-puts}
 
 -- Where there is a value, the other has one that is the same but for its numbers; a fault is the same, unless
@@ -43,9 +43,9 @@ Agrees {A} {B} F R (Ok x) q = (y : B) × (q ≡ Ok y) × R x y
 Agrees {A} {B} F R (Err e) q = ((e.fault ≡ TooManyTerms) × IfOk q (λ y. IsOver (F y))) ⊎ (q ≡ Err e)
 
 pub then-agrees : {A B C D : Type 0} (F : B → Graph) (G : D → Graph) (R : A → B → Type 0) (S : C → D → Type 0) (r : Result A Broken) (q : Result B Broken) (f : A → Result C Broken) (g : B → Result D Broken)
-    → Agrees F R r q → ((x : A) (y : B) → R x y → Agrees G S (f x) (g y)) → ((y : B) → Grows G (F y) (g y)) → Agrees G S (r >>= f) (q >>= g)
+    → Agrees F R r q → ((x : A) (y : B) → R x y → Agrees G S (f x) (g y)) → ((y : B) → (b : Bool) × Adding G b (F y) (g y)) → Agrees G S (r >>= f) (q >>= g)
 then-agrees F G R S (Ok x) q f g h k l = subst (λ z. Agrees G S (f x) (z >>= g)) (sym h.1) (k x h.0 h.2)
-then-agrees F G R S (Err e) q f g (inl t) k l = inl (t.0, then-ok _ _ q g t.1 (λ y o. IfOk-weaker (g y) _ _ (λ z e. over-later (F y) (G z) e o) (l y)))
+then-agrees F G R S (Err e) q f g (inl t) k l = inl (t.0, then-ok _ _ q g t.1 (λ y o. IfOk-weaker (g y) _ _ (λ z e. over-later (l y).0 (F y) (G z) e o) (l y).1))
 then-agrees F G R S (Err e) q f g (inr s) k l = inr (ap (λ z. z >>= g) s)
 
 -- the same thing is looked up
@@ -232,7 +232,7 @@ told-of-agrees (Some y) p v ws s f to o h w i k =
     (λ r m j. after-agrees p (without_mask (map (moved_written to) ws)) (without_mask ws) f.graph to r m o j
     (unmasked to ws ∙ sym (written-later f.graph m.terms.graph to j.to_after (without_mask ws) j.further (unmasked-in f.graph ws k)))
     (all-later f.graph m.terms.graph to j.to_after (worths (without_mask ws)) j.further (unmasked-in f.graph ws k)))
-    (λ m. member-method-grows p m.value (without_mask ws) m.terms o)
+    (λ m. (_, method-adds p m.value (without_mask ws) m.terms o))
 
 told-agrees : (p : Place) (v : Value) (ws : List Written) (s f : Terms) (to : ℕ → ℕ) (o : Operation) → Same s f to → IsIn f.graph v → AllIn f.graph (worths ws)
     → AgreesValue f.graph to (told_method interned p (renumbered to v) (map (moved_written to) ws) s o) (told_method added p v ws f o)
@@ -254,8 +254,8 @@ asset-agrees p v (x ∷ []) s f to w i k =
     (then-agrees of_value of_value (MeansValue m.terms.graph j.to_after) (MeansValue m.terms.graph j.to_after) (kept_where interned p (renumbered j.to_after v) (renumbered j.to_after m.value) q.terms) (kept_where added p v m.value m.terms) _ _
     (method-agrees p v (written None m.value ∷ []) q.terms m.terms j.to_after op.Where j.same (in-later f.graph m.terms.graph to j.to_after v j.further i) (j.inside, tt))
     (λ r b t. after-agrees p [] [] m.terms.graph j.to_after r b (op.Summarize summary.Greatest) t refl tt)
-    (λ b. member-method-grows p b.value [] b.terms (op.Summarize summary.Greatest))))))
-    (λ m. rest-grows p v m)
+    (λ b. (_, method-adds p b.value [] b.terms (op.Summarize summary.Greatest)))))))
+    (λ m. (_, greatest-adds p v m))
 
 -- ---- ages of numbers
 
@@ -393,12 +393,12 @@ mutual
       (args-agree v ds es [] [] ps s f to w a d tt refl)
       (λ r m k. subst (λ x. AgreesValue f.graph to (function_called interned v p n x r.terms) (function_called added v p n m.value m.terms)) (sym k.is)
       (looked-agrees of_value (MeansValue f.graph to) UnknownName p (function_named v n) _ _ (λ o. behind f.graph m.terms.graph to k.to_after _ _ k.further (called-agrees p o [] m.value r.terms m.terms k.to_after k.same tt k.inside))))
-      (λ m. function-grows v p n m.value m.terms)
+      (λ m. (_, function-adds v p n m.value m.terms))
   worth-agrees v ds es (prefix p sign e) s f to w a d =
       then-agrees of_value of_value (MeansValue f.graph to) (MeansValue f.graph to) (worth interned v es e s) (worth added v ds e f) _ _ (worth-agrees v ds es e s f to w a d)
       (λ r m k. subst (λ x. AgreesValue f.graph to (prefixed interned p sign x r.terms) (prefixed added p sign m.value m.terms)) (sym k.is)
       (behind f.graph m.terms.graph to k.to_after _ _ k.further (prefixed-agrees p sign m.value r.terms m.terms k.to_after k.same k.inside)))
-      (λ m. prefixed-grows p sign m.value m.terms)
+      (λ m. (_, prefixed-adds p sign m.value m.terms))
   worth-agrees v ds es (binary p sign x y) s f to w a d =
       then-agrees of_value of_value (MeansValue f.graph to) (MeansValue f.graph to) (worth interned v es x s) (worth added v ds x f) _ _ (worth-agrees v ds es x s f to w a d)
       (λ l m k.
@@ -406,13 +406,13 @@ mutual
       then-agrees of_value of_value (MeansValue m.terms.graph k.to_after) (MeansValue f.graph to) (worth interned v es y l.terms) (worth added v ds y m.terms) _ _
       (worth-agrees v ds es y l.terms m.terms k.to_after k.same b.0 (d ∙ sym b.1))
       (λ r q j. both-agree p sign f.graph to l m r q k j)
-      (λ q. combined-grows p sign m.value q.value q.terms))
-      (λ m. then-grows of_value of_value m.terms.graph (worth added v ds y m.terms) _ (worth-grows v ds y m.terms) (λ q. combined-grows p sign m.value q.value q.terms))
+      (λ q. (_, combined-adds p sign m.value q.value q.terms)))
+      (λ m. (_, then-adds of_value of_value _ _ m.terms.graph (worth added v ds y m.terms) _ (worth-adds v ds y m.terms) (λ q. combined-adds p sign m.value q.value q.terms)))
   worth-agrees v ds es (member p e n) s f to w a d =
       then-agrees of_value of_value (MeansValue f.graph to) (MeansValue f.graph to) (worth interned v es e s) (worth added v ds e f) _ _ (worth-agrees v ds es e s f to w a d)
       (λ r m k. subst (λ x. AgreesValue f.graph to (member_named_of interned v p x n r.terms) (member_named_of added v p m.value n m.terms)) (sym k.is)
       (looked-agrees of_value (MeansValue f.graph to) UnknownName p (member_named v n) _ _ (λ o. behind f.graph m.terms.graph to k.to_after _ _ k.further (member-agrees p m.value r.terms m.terms k.to_after o k.same k.inside))))
-      (λ m. member-grows v p m.value n m.terms)
+      (λ m. (_, member-adds v p m.value n m.terms))
   worth-agrees v ds es (method p e n ps) s f to w a d =
       then-agrees of_value of_value (MeansValue f.graph to) (MeansValue f.graph to) (worth interned v es e s) (worth added v ds e f) _ _ (worth-agrees v ds es e s f to w a d)
       (λ r m k.
@@ -420,8 +420,8 @@ mutual
       then-agrees of_written of_value (MeansWritten m.terms.graph k.to_after) (MeansValue f.graph to) (args_worth interned v es [] ps r.terms) (args_worth added v ds [] ps m.terms) _ _
       (args-agree v ds es [] [] ps r.terms m.terms k.to_after k.same b.0 (d ∙ sym b.1) tt refl)
       (λ q c j. object-and-arguments v p n f.graph to r m q c k j)
-      (λ c. method-grows v p m.value n c.value c.terms))
-      (λ m. then-grows of_written of_value m.terms.graph (args_worth added v ds [] ps m.terms) _ (args-grow v ds [] ps m.terms) (λ c. method-grows v p m.value n c.value c.terms))
+      (λ c. (_, named-adds v p m.value n c.value c.terms)))
+      (λ m. (_, then-adds of_written of_value _ _ m.terms.graph (args_worth added v ds [] ps m.terms) _ (args-add v ds [] ps m.terms) (λ c. named-adds v p m.value n c.value c.terms)))
 
   pub args-agree : (v : ℕ) (ds es : List Definition) (ws xs : List Written) (ps : Args) (s f : Terms) (to : ℕ → ℕ) → Same s f to → DefinedIn f.graph ds → es ≡ map (moved_definition to) ds → AllIn f.graph (worths ws) → xs ≡ map (moved_written to) ws
       → Agrees of_written (MeansWritten f.graph to) (args_worth interned v es xs ps s) (args_worth added v ds ws ps f)
@@ -434,4 +434,4 @@ mutual
       (args-agree v ds es (ws ++ written n m.value ∷ []) (xs ++ written n r.value ∷ []) ps r.terms m.terms k.to_after k.same b.0 (d ∙ sym b.1)
       (argument-in f.graph m.terms.graph to k.to_after ws n m.value k.further i k.inside)
       (ap (λ z. z ++ written n r.value ∷ []) h ∙ sym (argument-is f.graph m.terms.graph to k.to_after ws n m.value r.value k.further i k.is))))
-      (λ m. args-grow v ds (ws ++ written n m.value ∷ []) ps m.terms)
+      (λ m. (_, args-add v ds (ws ++ written n m.value ∷ []) ps m.terms))
