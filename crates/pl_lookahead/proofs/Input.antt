@@ -1,6 +1,6 @@
 -- The same input gives the same text.
-use Rattle.std.proofs.Common.{◌≡◌, inl, inr, ℕ, ℤ, Bool, true, false, List, [], ◌∷◌, ◌++◌, map, flat_map, option_to_list, Option, Some, None, option_map, unwrap_or, refl, sym, ◌∙◌, ap, ap₂, subst, arith, append_assoc}
-use Rattle.std.specs.Option.{ForSome, option_or}
+use Rattle.std.proofs.Common.{◌≡◌, inl, inr, ℕ, ℤ, Bool, true, false, List, [], ◌∷◌, ◌++◌, map, option_to_list, Option, Some, None, option_map, unwrap_or, refl, sym, ◌∙◌, ap, ap₂, subst, arith, append_assoc}
+use Rattle.std.specs.Option.{ForSome}
 use Rattle.std.proofs.Math.Path.{fun_ext}
 use Rattle.std.proofs.lemmas.Bool.{true≢false}
 use Rattle.pl_spec.specs.declared.AssetRow.{AssetRow}
@@ -28,7 +28,7 @@ use Rattle.pl_load.specs.Cells.{cell_steps, lines_step}
 use Rattle.pl_load.specs.Steps.{Reading, Source, WorkStep, first_fault, reads_in}
 use Rattle.pl_load.specs.Steps.Reading.{Bytes, Rows}
 use Rattle.pl_load.specs.Steps.Source.{Input, Load}
-use Rattle.pl_load.specs.Work.{adjustments_steps, data_steps, evaluated_steps, figures_steps, labels_steps, numbers_steps, results_steps, revisions_steps, derivation_step, work}
+use Rattle.pl_load.specs.Work.{adjustments_steps, data_steps, figures_steps, labels_steps, numbers_steps, results_steps, revisions_steps, derivation_step, work}
 use Rattle.pl_load.proofs.KnownWorlds.{run-asks, explain-asks, verify-asks, windows-asks}
 use Rattle.pl_cli.proofs.Asked.{logged-by}
 use Rattle.pl_cli.specs.Texts.{check_text, derivation_text, part_text, planned_text, text_of, verdict_text}

@@ -1,5 +1,5 @@
 -- The world of contents that were read: files can hold it.
-use Rattle.std.proofs.Common.{◌≡◌, ◌≢◌, ℕ, ◌+◌, ◌<◌, ◌≤◌, ◌==◌, false, IsTrue, ℤ, List, [], ◌++◌, map, filter, length, All, AllPairs, Option, Some, None, Ok, refl, ◌∙◌, ap, arith, inl, inr, length-append}
+use Rattle.std.proofs.Common.{◌≡◌, ◌≢◌, ℕ, ◌+◌, ◌<◌, ◌≤◌, ◌==◌, false, IsTrue, ℤ, List, [], ◌++◌, map, filter, length, All, Option, Some, None, Ok, refl, ◌∙◌, ap, arith, inl, inr, length-append}
 use Rattle.std.specs.Option.{ForSome}
 use Rattle.std.proofs.lemmas.List.{length-map}
 use Rattle.std.proofs.lemmas.List.Elements.{All-append, All-filter, All-map}

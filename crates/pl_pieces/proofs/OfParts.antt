@@ -1,5 +1,5 @@
 -- The world of parts that were read: files can hold it.
-use Rattle.std.proofs.Common.{◌≡◌, ◌⊎◌, ℕ, ◌<◌, ◌==◌, IsTrue, true, false, ℤ, pos, List, [], ◌∷◌, map, length, get_or, All, AllPairs, IsPermutation, Some, option_map, Ok, refl, sym, subst, ◌∙◌, ap, arith, inl, inr, eqb-true, nat_lt}
+use Rattle.std.proofs.Common.{◌≡◌, ◌⊎◌, ℕ, ◌<◌, ◌==◌, IsTrue, true, false, ℤ, pos, List, [], ◌∷◌, map, length, get_or, All, AllPairs, Some, option_map, refl, sym, subst, ◌∙◌, ap, arith, inl, inr, eqb-true, nat_lt}
 use Rattle.std.specs.List.{slice_index_or}
 use Rattle.std.proofs.lemmas.Bool.{and_parts, cases_lt, or_cases, true≢false}
 use Rattle.std.proofs.lemmas.Bool.Decides.{nat_tests}
