@@ -1,5 +1,5 @@
 -- Putting terms into the graph, and after the same terms where none is shared.
-use Rattle.std.proofs.Common.{◌≡◌, ℕ, ◌+◌, ◌<◌, ◌≤◌, nat_lt, Bool, true, false, cond, ◌⊎◌, List, [], ◌∷◌, ◌++◌, length, map, Option, Some, None, slice_get, refl, sym, ap, subst, ◌∙◌, arith, inl, inr, append_assoc, length-append}
+use Rattle.std.proofs.Common.{◌≡◌, ℕ, ◌<◌, ◌≤◌, nat_lt, Bool, true, false, cond, ◌⊎◌, List, [], ◌∷◌, ◌++◌, length, map, Option, Some, None, slice_get, refl, sym, ap, subst, ◌∙◌, arith, inl, inr, append_assoc, length-append}
 use Rattle.std.specs.Prelude.{option_and_then}
 use Rattle.std.specs.List.{Contains}
 use Rattle.std.proofs.Math.Seq.{get_or-append_seam}
@@ -18,8 +18,7 @@ use Rattle.pl_terms.proofs.Shared.{shared, parts}
 use Rattle.pl_terms.proofs.Interning.{later-more, length-trees, IsPut, put, IsFull, refused}
 use Rattle.pl_check.specs.declared.operation.Operation.{Operation}
 use Rattle.pl_check.specs.Values.{Value, Factor, Filter, Labels, Numbers, Number, Bound, bound}
-use Rattle.pl_check.specs.Rules.{Written}
-use Rattle.pl_check.specs.Results.{term_in, constant, node_for, result_for, names_after}
+use Rattle.pl_check.specs.Results.{constant, node_for, result_for, names_after}
 use Rattle.pl_check.specs.Typed.{Terms, Found, found, constant_value, factor_value, asks_factor, place_value, with_constants, with_node, node_made, made}
 use Rattle.pl_check.specs.Trees.{added}
 use Rattle.pl_check.specs.Numbering.{AreFirsts, HasMany}

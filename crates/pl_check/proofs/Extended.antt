@@ -1,6 +1,6 @@
 -- The script where no term is shared: what is judged later comes last, and a call of `number` alone adds a term
 -- that is a number beside bars.
-use Rattle.std.proofs.Common.{◌≡◌, ℕ, zero, suc, Bool, true, false, cond, ◌||◌, nat_le, nat_lt, length, not, List, [], ◌∷◌, ◌++◌, Option, Some, None, slice_get, Result, Ok, Err, codes, refl, sym, ap, subst, ◌∙◌, append_assoc, append-nil}
+use Rattle.std.proofs.Common.{◌≡◌, ℕ, zero, suc, Bool, true, false, cond, ◌||◌, nat_le, nat_lt, length, not, List, [], ◌∷◌, ◌++◌, Option, Some, None, slice_get, Result, Ok, codes, refl, sym, ap, subst, ◌∙◌, append_assoc, append-nil}
 use Rattle.std.specs.Prelude.{◌&&◌, is_some, option_and_then, if◌then◌else◌, pos, bytes_eq, find}
 use Rattle.std.specs.List.{list_all, list_any}
 use Rattle.std.specs.Result.{IfOk}
@@ -36,7 +36,7 @@ use Rattle.pl_check.specs.Numbered.{Call, calls, calls_among, statement_calls, i
 use Rattle.pl_check.specs.Operations.{Named, function_table, member_table, is_word, operation_in, first_function, function_named, member_named, operator, prefix_operator, without_parentheses}
 use Rattle.pl_check.specs.Rules.{Written, form, broken, each, takes, has_all, parameter_of}
 use Rattle.pl_check.specs.Results.{constant, kind_for, node_for}
-use Rattle.pl_check.specs.Typed.{Terms, Found, found, Definition, factor_value, place_value, asks_factor, with_constants, node_made, made, applied, called, object_of, operands_of, prefixed, combined, member_of, method_of, written, kept_where, mask_of, without_mask, told_of, greatest_where, one_asset, names_one_asset, name_or_none, name_of_kind, names_age, aged, member_named_of, method_named_of, function_called, value_named, worth, args_worth, stored, Judged, let_judged, column_judged, screen_judged, head_judged, statement_judged, statements_judged, ended, typed_by, is_storable, is_term_filter, is_taken, has_column, nothing}
+use Rattle.pl_check.specs.Typed.{Terms, Found, found, Definition, factor_value, place_value, asks_factor, with_constants, node_made, made, applied, called, object_of, operands_of, prefixed, combined, method_of, written, kept_where, mask_of, without_mask, told_of, greatest_where, one_asset, names_one_asset, name_or_none, name_of_kind, names_age, aged, member_named_of, method_named_of, function_called, value_named, worth, args_worth, stored, Judged, let_judged, column_judged, screen_judged, head_judged, statement_judged, statements_judged, ended, typed_by, is_storable, is_term_filter, is_taken, has_column, nothing}
 use Rattle.pl_check.specs.Trees.{added}
 use Rattle.pl_check.specs.Numbering.{HasMany}
 use Rattle.pl_check.proofs.Chained.{then-ok, found-ok, unless-ok, require-ok, either-ok}

@@ -1,12 +1,12 @@
 -- A script and the same where no term is shared, expression by expression.
-use Rattle.std.proofs.Common.{◌≡◌, ℕ, Bool, true, false, ◌&&◌, ◌||◌, not, cond, ◌⊎◌, List, [], ◌∷◌, ◌++◌, map, Option, Some, None, option_map, slice_get, length, ◌<◌, Result, Ok, Err, refl, sym, ap, subst, ◌∙◌, inl, inr, append_assoc, append-nil, bytes_eq}
+use Rattle.std.proofs.Common.{◌≡◌, ℕ, Bool, true, false, ◌&&◌, ◌||◌, not, cond, ◌⊎◌, List, [], ◌∷◌, ◌++◌, map, Option, Some, None, option_map, slice_get, Result, Ok, Err, refl, sym, ap, subst, ◌∙◌, inl, inr, append_assoc, append-nil, bytes_eq}
 use Rattle.std.specs.Prelude.{is_some, option_and_then}
 use Rattle.std.specs.Result.{IfOk}
 use Rattle.std.proofs.lemmas.List.{map-append}
 use Rattle.std.proofs.lemmas.Result.{IfOk-weaker}
 use Rattle.pl_spec.specs.declared.Column.{Column}
 use Rattle.pl_spec.proofs.Each.{Each, each_both, each_more, each_of_map, map_each}
-use Rattle.pl_pipeline.specs.Term.{Graph, Node}
+use Rattle.pl_pipeline.specs.Term.{Graph}
 use Rattle.pl_pipeline.specs.declared.Summary.TheVariants as summary
 use Rattle.pl_pipeline.specs.declared.WindowKind.TheVariants as window
 use Rattle.pl_pipeline.proofs.Unfolds.{stands}

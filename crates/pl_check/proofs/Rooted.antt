@@ -1,10 +1,10 @@
 -- The node of an operation over terms of other numbers: the same node, and the same tree.
-use Rattle.std.proofs.Common.{◌≡◌, ℕ, zero, suc, ◌<◌, ◌≤◌, Bool, true, false, cond, List, [], ◌∷◌, ◌++◌, length, map, Option, Some, None, option_map, slice_get, refl, sym, ap, ◌∙◌, arith}
+use Rattle.std.proofs.Common.{◌≡◌, ℕ, zero, suc, ◌<◌, Bool, true, false, cond, List, [], ◌∷◌, ◌++◌, length, map, Option, Some, None, option_map, slice_get, refl, sym, ap, ◌∙◌, arith}
 use Rattle.std.specs.Prelude.{filter_map, option_and_then}
 use Rattle.std.specs.List.{cons_option}
 use Rattle.std.proofs.lemmas.List.{map-append}
 use Rattle.pl_spec.specs.declared.Column.{Column}
-use Rattle.pl_spec.proofs.Each.{Each, each_of_map, each_more, map_each}
+use Rattle.pl_spec.proofs.Each.{Each, each_of_map}
 use Rattle.pl_pipeline.specs.Kind.{Kind}
 use Rattle.pl_pipeline.specs.Term.{Term, node, Input, BarColumn, TermInput, Node, Graph, MentionsBelow, tree_at, input_tree, number_tree, tree_over}
 use Rattle.pl_check.specs.declared.operation.Operation.{Operation}

@@ -1,6 +1,6 @@
 -- What a script means without numbers: the trees of all its terms in the order of judging, equal ones too, and
 -- those of its columns and its screen. Kinds, windows and rules are those of the typed script.
-use Rattle.std.specs.Prelude.{ℕ, List, [], ◌∷◌, ◌++◌, length, map, Option, Some, option_map, Result, Ok, Err}
+use Rattle.std.specs.Prelude.{ℕ, List, [], ◌∷◌, ◌++◌, length, map, Option, Some, option_map, Result, Ok}
 use Rattle.pl_pipeline.specs.Term.{Term, Node, Graph, trees, term_at}
 use Rattle.pl_pipeline.specs.Table.{NamedColumn, Pipeline}
 use Rattle.pl_terms.specs.Nodes.{Interned}

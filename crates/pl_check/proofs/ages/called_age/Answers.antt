@@ -10,7 +10,7 @@ use Rattle.pl_check.specs.Parameters.{number_of}
 use Rattle.pl_check.specs.Rules.{each}
 use Rattle.pl_check.specs.Seen.{value_of, bounds_of, all_written}
 use Rattle.pl_check.specs.Standing.{AreInGraph, has, is_few}
-use Rattle.pl_check.specs.Typed.{found, called}
+use Rattle.pl_check.specs.Typed.{called}
 use Rattle.pl_check.specs.Values.{Bound, bound}
 use Rattle.pl_check.proofs.Aged.{age-is-factor}
 use Rattle.pl_check.proofs.ages.called_age.Goals as goal
