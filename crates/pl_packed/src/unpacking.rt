@@ -1,0 +1,143 @@
+//! Bytes to bars.
+
+ghost use Rattle.std.specs.Prelude.{◌≡◌, ◌+◌, ◌*◌, ◌≤◌, ¬, ℕ, take, drop, length, flat_map, IfOk, IfErr, IfSome, IfNone};
+ghost use Rattle.pl_spec.specs.Limits.{most_bars};
+ghost use Rattle.pl_packed.specs.Fit.{AreKept};
+ghost use Rattle.pl_packed.specs.Packed.{known, four_bytes, words_of, words_bytes};
+ghost use Rattle.pl_packed.specs.Reading.{AreRead, IsStop};
+ghost use Rattle.pl_packed.specs.Says.{Begins, IsFault, Says};
+
+use crate::bar::bar_of;
+use crate::error::UnpackError;
+use crate::head::{mark, put_days, put_sids};
+use crate::order::is_next;
+use crate::seal::is_seal;
+use crate::sums::Sums;
+use crate::words::{four_at, four_bytes, six_at};
+use crate::{BAR, SEAL};
+use pl_bars::{Bars, MOST_BARS};
+use pl_calendar::Sessions;
+use pl_lifetimes::Assets;
+use pl_spec::BarRow;
+use std::alloc::Global;
+
+/// The bars of bytes that were packed for these sessions and assets. The error is the first fault in the
+/// order of the bytes, or want of memory.
+pub fn unpack(
+    alloc: Global,
+    bytes: &[u8],
+    sessions: &Sessions,
+    assets: &Assets,
+) -> Result<Bars, UnpackError>
+    ensures { Says sessions.now assets.now bytes.now result }
+{
+    let head = known_head(alloc, bytes, sessions, assets)?;
+    unpack_after(alloc, bytes, head, sessions, assets)
+}
+
+// The head up to the count, with which the bytes begin.
+fn known_head(
+    alloc: Global,
+    bytes: &[u8],
+    sessions: &Sessions,
+    assets: &Assets,
+) -> Result<Vec<u8>, UnpackError>
+    ensures known { IfOk result (λ head. head.items ≡ known sessions.now assets.now) }
+    ensures begins { IfOk result (λ head. Begins head.items bytes.now) }
+    ensures fault { IfErr result (IsFault sessions.now assets.now bytes.now) }
+{
+    let mut head = Vec::from_slice(alloc, mark())?;
+    if !bytes.starts_with(&head) {
+        return Err(UnpackError::NotPacked);
+    }
+    put_days(&mut head, sessions)?;
+    if !bytes.starts_with(&head) {
+        return Err(UnpackError::OtherSessions);
+    }
+    put_sids(&mut head, assets)?;
+    if !bytes.starts_with(&head) {
+        return Err(UnpackError::OtherAssets);
+    }
+    Ok(head)
+}
+
+// The bars behind that head.
+fn unpack_after(
+    alloc: Global,
+    bytes: &[u8],
+    mut head: Vec<u8>,
+    sessions: &Sessions,
+    assets: &Assets,
+) -> Result<Bars, UnpackError>
+    requires known { head.items ≡ known sessions.now assets.now }
+    requires begins { Begins head.items bytes.now }
+    ensures { Says sessions.now assets.now bytes.now result }
+{
+    let Some(count) = count_at(bytes, head.len()) else {
+        return Err(UnpackError::BadLength);
+    };
+    head.extend_from_slice(&four_bytes(count as u32))?;
+    let after = &bytes[head.len()..];
+    let read = read_bars(alloc, after, count, assets.len(), sessions.len())?;
+    if !is_seal(&after[BAR * count..], &head, &read.sums) {
+        return Err(UnpackError::Damaged);
+    }
+    Ok(Bars::from_rows(read.bars))
+}
+
+// The count of the bars, which stands there, if there are as many bytes after it as it asks for.
+fn count_at(bytes: &[u8], at: usize) -> Option<usize>
+    requires { at ≤ length bytes.now }
+    ensures few { IfSome result (λ count. count ≤ most_bars) }
+    ensures there { IfSome result (λ count. four_bytes count ≡ take 4 (drop at bytes.now)) }
+    ensures room { IfSome result (λ count. length bytes.now ≡ at + (4 + (48 * count + 48))) }
+    ensures none { IfNone result ((count : ℕ) → count ≤ most_bars
+        → four_bytes count ≡ take 4 (drop at bytes.now)
+        → ¬ (length bytes.now ≡ at + (4 + (48 * count + 48)))) }
+{
+    let rest = bytes.len() - at;
+    if rest < 4 {
+        return None;
+    }
+    let count = four_at(bytes, at) as usize;
+    if count <= MOST_BARS && rest == 4 + BAR * count + SEAL {
+        Some(count)
+    } else {
+        None
+    }
+}
+
+// Bars that were read, and the sums of their words.
+#[derive(Drop)]
+struct Read {
+    bars: Vec<BarRow>,
+    sums: Sums,
+}
+
+// Reads so many bars.
+fn read_bars(
+    alloc: Global,
+    after: &[u8],
+    count: usize,
+    cols: usize,
+    sessions: usize,
+) -> Result<Read, UnpackError>
+    requires few { count ≤ most_bars }
+    requires room { 48 * count ≤ length after.now }
+    ensures read { IfOk result (λ read. AreRead cols sessions read.bars.items read.sums after.now) }
+    ensures count { IfOk result (λ read. length read.bars.items ≡ count) }
+    ensures fault { IfErr result (IsStop cols sessions count after.now) }
+{
+    let mut bars = Vec::with_capacity(alloc, count)?;
+    let mut sums = Sums::none();
+    'bars: for i in 0..count {
+        let words = six_at(after, BAR * i);
+        let bar = bar_of(words);
+        if !is_next(&bars, &bar, cols, sessions) {
+            return Err(UnpackError::BadBar { bar: i as u32 + 1 });
+        }
+        sums = sums.and_six(&words);
+        bars.push(bar)?;
+    }
+    Ok(Read { bars, sums })
+}
