@@ -1,9 +1,12 @@
 //! A bar as six words.
 
-ghost use Rattle.std.specs.Prelude.{◌≡◌};
+ghost use Rattle.std.specs.Prelude.{◌≡◌, ◌+◌, ◌≤◌, length, take, drop};
 ghost use Rattle.pl_bars.specs.Bars.{key_of};
-ghost use Rattle.pl_packed.specs.Packed.{words_of};
+ghost use Rattle.pl_packed.specs.Fit.{IsSmall};
+ghost use Rattle.pl_packed.specs.Packed.{words_of, words_bytes};
 
+use crate::WORD;
+use crate::words::eight_at;
 use pl_spec::BarRow;
 
 // A number that rises by column, and then by session.
@@ -14,6 +17,7 @@ pub(crate) fn key(bar: &BarRow) -> u64
 }
 
 pub(crate) fn words_of(bar: &BarRow) -> [u64; 6]
+    requires { IsSmall bar.now }
     ensures { result ≡ words_of bar.now }
 {
     let [open, high, low, close, volume] = bar.cells;
@@ -27,20 +31,22 @@ pub(crate) fn words_of(bar: &BarRow) -> [u64; 6]
     ]
 }
 
-// The bar that has these words.
-pub(crate) fn bar_of(words: [u64; 6]) -> BarRow
-    ensures { words_of result ≡ words }
+// The bar whose bytes stand at a place.
+pub(crate) fn bar_at(bytes: &[u8], at: usize) -> BarRow
+    requires { at + 48 ≤ length bytes.now }
+    ensures bytes { words_bytes (words_of result) ≡ take 48 (drop at bytes.now) }
+    ensures small { IsSmall result }
 {
-    let [key, open, high, low, close, volume] = words;
+    let key = eight_at(bytes, at);
     BarRow {
         col: (key >> 32) as u32,
-        session: (key & 0xffff_ffff) as u32,
+        session: (key % (1 << 32)) as u32,
         cells: [
-            open.cast_signed(),
-            high.cast_signed(),
-            low.cast_signed(),
-            close.cast_signed(),
-            volume.cast_signed(),
+            eight_at(bytes, at + WORD).cast_signed(),
+            eight_at(bytes, at + 2 * WORD).cast_signed(),
+            eight_at(bytes, at + 3 * WORD).cast_signed(),
+            eight_at(bytes, at + 4 * WORD).cast_signed(),
+            eight_at(bytes, at + 5 * WORD).cast_signed(),
         ],
     }
 }

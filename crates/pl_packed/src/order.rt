@@ -1,6 +1,6 @@
 //! Whether a bar may stand after the bars before it.
 
-ghost use Rattle.std.specs.Prelude.{◌≡◌, ◌↔◌, IsTrue};
+ghost use Rattle.std.specs.Prelude.{◌≡◌, ◌↔◌, IsTrue, length};
 ghost use Rattle.std.specs.List.{list_all};
 ghost use Rattle.pl_bars.specs.Bars.{is_bar_cell};
 ghost use Rattle.pl_bars.specs.BarPoint.{IsAfter};
@@ -11,6 +11,7 @@ use pl_fixed::{LIM, MISSING};
 use pl_spec::BarRow;
 
 pub(crate) fn is_next(before: &[BarRow], bar: &BarRow, cols: usize, sessions: usize) -> bool
+    requires { length bar.now.cells ≡ 5 }
     ensures { IsTrue result ↔ IsNext cols sessions before.now bar.now }
 {
     is_after(before, bar) && is_bar(bar, cols, sessions)
@@ -24,9 +25,16 @@ fn is_after(before: &[BarRow], bar: &BarRow) -> bool
 }
 
 fn is_bar(bar: &BarRow, cols: usize, sessions: usize) -> bool
+    requires { length bar.now.cells ≡ 5 }
     ensures { IsTrue result ↔ IsBar cols sessions bar.now }
 {
-    (bar.col as usize) < cols && (bar.session as usize) < sessions && are_cells(&bar.cells)
+    if bar.col as usize >= cols {
+        return false;
+    }
+    if bar.session as usize >= sessions {
+        return false;
+    }
+    are_cells(&bar.cells)
 }
 
 fn are_cells(cells: &[i64]) -> bool

@@ -8,7 +8,7 @@ ghost use Rattle.pl_packed.specs.Summed.{bytes_of};
 
 use crate::sums::Sums;
 use crate::words::eight_bytes;
-use crate::{SEAL, WORD};
+use crate::WORD;
 use pl_outside::{Failed, Sink, write_bytes};
 use sha2::{Digest, Sha256};
 
@@ -29,9 +29,19 @@ pub(crate) fn is_seal(bytes: &[u8], head: &[u8], sums: &Sums) -> bool
 {
     let (front, end) = bytes.split_at(2 * WORD);
     let (plain, weighed) = front.split_at(WORD);
-    plain == eight_bytes(sums.plain).as_slice()
-        && weighed == eight_bytes(sums.weighed).as_slice()
-        && end == digest(head, sums).as_slice()
+    if !are_same(plain, &eight_bytes(sums.plain)) {
+        return false;
+    }
+    if !are_same(weighed, &eight_bytes(sums.weighed)) {
+        return false;
+    }
+    are_same(end, &digest(head, sums))
+}
+
+fn are_same(a: &[u8], b: &[u8]) -> bool
+    ensures { IsTrue result ↔ (a.now ≡ b.now) }
+{
+    a == b
 }
 
 // Writes that end.

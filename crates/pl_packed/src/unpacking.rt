@@ -1,19 +1,20 @@
 //! Bytes to bars.
 
-ghost use Rattle.std.specs.Prelude.{◌≡◌, ◌+◌, ◌*◌, ◌≤◌, ¬, ℕ, take, drop, length, flat_map, IfOk, IfErr, IfSome, IfNone};
-ghost use Rattle.pl_spec.specs.Limits.{most_bars};
+ghost use Rattle.std.specs.Prelude.{◌≡◌, ◌⊎◌, ◌+◌, ◌*◌, ◌≤◌, ℕ, List, take, drop, length, Ok, Err, IfOk, IfErr, IfSome, IfNone};
+ghost use Rattle.pl_spec.specs.Limits.{most_assets, most_bars, most_sessions};
+ghost use Rattle.pl_spec.specs.declared.BarRow.{BarRow};
 ghost use Rattle.pl_packed.specs.Fit.{AreKept};
-ghost use Rattle.pl_packed.specs.Packed.{known, four_bytes, words_of, words_bytes};
+ghost use Rattle.pl_packed.specs.Packed.{known, four_bytes, packed};
 ghost use Rattle.pl_packed.specs.Reading.{AreRead, IsStop};
 ghost use Rattle.pl_packed.specs.Says.{Begins, IsFault, Says};
 
-use crate::bar::bar_of;
+use crate::bar::{bar_at, words_of};
 use crate::error::UnpackError;
 use crate::head::{mark, put_days, put_sids};
 use crate::order::is_next;
 use crate::seal::is_seal;
 use crate::sums::Sums;
-use crate::words::{four_at, four_bytes, six_at};
+use crate::words::{four_at, four_bytes};
 use crate::{BAR, SEAL};
 use pl_bars::{Bars, MOST_BARS};
 use pl_calendar::Sessions;
@@ -29,7 +30,12 @@ pub fn unpack(
     sessions: &Sessions,
     assets: &Assets,
 ) -> Result<Bars, UnpackError>
-    ensures { Says sessions.now assets.now bytes.now result }
+    // Whatever the bytes are: the bars that they say, or the first fault.
+    ensures exact { Says sessions.now assets.now bytes.now result }
+    // Packed bars are read as those bars. Only want of memory may come beside.
+    ensures packed { (bars : List BarRow) → AreKept (length assets.now) (length sessions.now) bars
+        → bytes.now ≡ packed sessions.now assets.now bars
+        → (result ≡ Ok bars) ⊎ (result ≡ Err UnpackError.Memory) }
 {
     let head = known_head(alloc, bytes, sessions, assets)?;
     unpack_after(alloc, bytes, head, sessions, assets)
@@ -78,7 +84,8 @@ fn unpack_after(
     };
     head.extend_from_slice(&four_bytes(count as u32))?;
     let after = &bytes[head.len()..];
-    let read = read_bars(alloc, after, count, assets.len(), sessions.len())?;
+    let cols = assets.len();
+    let read = read_bars(alloc, after, count, cols, sessions.len())?;
     if !is_seal(&after[BAR * count..], &head, &read.sums) {
         return Err(UnpackError::Damaged);
     }
@@ -100,11 +107,13 @@ fn count_at(bytes: &[u8], at: usize) -> Option<usize>
         return None;
     }
     let count = four_at(bytes, at) as usize;
-    if count <= MOST_BARS && rest == 4 + BAR * count + SEAL {
-        Some(count)
-    } else {
-        None
+    if count > MOST_BARS {
+        return None;
     }
+    if rest != 4 + BAR * count + SEAL {
+        return None;
+    }
+    Some(count)
 }
 
 // Bars that were read, and the sums of their words.
@@ -122,6 +131,8 @@ fn read_bars(
     cols: usize,
     sessions: usize,
 ) -> Result<Read, UnpackError>
+    requires cols { cols ≤ most_assets }
+    requires sessions { sessions ≤ most_sessions }
     requires few { count ≤ most_bars }
     requires room { 48 * count ≤ length after.now }
     ensures read { IfOk result (λ read. AreRead cols sessions read.bars.items read.sums after.now) }
@@ -131,12 +142,11 @@ fn read_bars(
     let mut bars = Vec::with_capacity(alloc, count)?;
     let mut sums = Sums::none();
     'bars: for i in 0..count {
-        let words = six_at(after, BAR * i);
-        let bar = bar_of(words);
+        let bar = bar_at(after, BAR * i);
         if !is_next(&bars, &bar, cols, sessions) {
             return Err(UnpackError::BadBar { bar: i as u32 + 1 });
         }
-        sums = sums.and_six(&words);
+        sums = sums.and_six(&words_of(&bar));
         bars.push(bar)?;
     }
     Ok(Read { bars, sums })

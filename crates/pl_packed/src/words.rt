@@ -1,9 +1,7 @@
 //! Numbers as bytes, the lowest first.
 
 ghost use Rattle.std.specs.Prelude.{◌≡◌, ◌+◌, ◌≤◌, length, take, drop};
-ghost use Rattle.pl_packed.specs.Packed.{four_bytes, eight_bytes, words_bytes};
-
-use crate::WORD;
+ghost use Rattle.pl_packed.specs.Packed.{four_bytes, eight_bytes};
 
 #[tactic(auto, unfolding(crate::specs::Packed::four_bytes))]
 pub(crate) fn four_bytes(number: u32) -> [u8; 4]
@@ -41,19 +39,4 @@ pub(crate) fn eight_at(bytes: &[u8], at: usize) -> u64
         bytes[at + 6],
         bytes[at + 7],
     ])
-}
-
-// The six words whose bytes stand at a place.
-pub(crate) fn six_at(bytes: &[u8], at: usize) -> [u64; 6]
-    requires { at + 48 ≤ length bytes.now }
-    ensures { words_bytes result ≡ take 48 (drop at bytes.now) }
-{
-    [
-        eight_at(bytes, at),
-        eight_at(bytes, at + WORD),
-        eight_at(bytes, at + 2 * WORD),
-        eight_at(bytes, at + 3 * WORD),
-        eight_at(bytes, at + 4 * WORD),
-        eight_at(bytes, at + 5 * WORD),
-    ]
 }
