@@ -1,7 +1,7 @@
 -- Bars that are read one by one, and where they stop.
-use Rattle.std.proofs.Common.{◌≡◌, ◌≢◌, ℕ, ◌+◌, ◌*◌, ◌<◌, ◌≤◌, ℤ, List, [], ◌∷◌, ◌++◌, length, take, drop, flat_map, sum, All, ◌%◌, ◌^◌, get_or, Ok, refl, sym, ap, ◌∙◌, take-add, arith, append_assoc, length-append, subst}
+use Rattle.std.proofs.Common.{◌≡◌, ◌≢◌, ℕ, ◌+◌, ◌-◌, ◌*◌, ◌<◌, ◌≤◌, ℤ, List, [], ◌∷◌, ◌++◌, length, take, drop, flat_map, sum, All, ◌%◌, ◌^◌, get_or, Ok, refl, sym, ap, ◌∙◌, take-add, arith, append_assoc, length-append, subst}
 use Rattle.std.proofs.Math.Seq.{take-append_seam, drop-append_seam, get_or-append_seam}
-use Rattle.std.proofs.lemmas.List.{append-nil, take-append-drop, length-drop, length-take}
+use Rattle.std.proofs.lemmas.List.{append-nil, take-append-drop, length-drop, take_all, at_drop_more}
 use Rattle.std.proofs.lemmas.Grind.{flat_map-append}
 use Rattle.pl_spec.specs.declared.AssetRow.{AssetRow}
 use Rattle.pl_spec.specs.declared.BarRow.{BarRow}
@@ -53,14 +53,14 @@ no-bar cols sessions bars bar more less few small bytes none other kept begins =
     let next = kept-last cols sessions bars other few kept in
     let five = next.1.five in
     let all = kept-small cols sessions (bars ++ other ∷ []) less few kept in
-    let fits : IsSmall other = last-small all in
+    let fits : IsSmall other = last-small bars other all in
     let front : take 48 more ≡ words_bytes (words_of other) =
         ap (λ s. take 48 s) begins.1 ∙ ap (λ n. take n (words_bytes (words_of other) ++ begins.0)) (sym (length-bar other five)) ∙ take-append_seam (words_bytes (words_of other)) begins.0 in
     let words = words-same (words_of bar) (words_of other) (six bar small.five ∙ sym (six other five)) (words-fit bar small) (words-fit other fits) (bytes ∙ front) in
     none (rw (bar-same bar other small fits words) next)
   where
-    last-small : {xs : List BarRow} {x : BarRow} → All IsSmall (xs ++ x ∷ []) → IsSmall x
-    last-small {xs} {x} h = rw (get_or-append_seam xs x [] x) at (h (length xs) x (omega (arith, length-append xs (x ∷ []))))
+    last-small : (xs : List BarRow) (x : BarRow) → All IsSmall (xs ++ x ∷ []) → IsSmall x
+    last-small xs x h = rw (get_or-append_seam xs x [] x) at (h (length xs) x (omega (arith, length-append xs (x ∷ []))))
 
 -- the bar after those that were read is none
 pub stops-at : (cols sessions count : ℕ) (bars : List BarRow) (sums : Sums) (after : List ℕ) (bar : BarRow) (i place : ℕ) → cols ≤ most_assets → sessions ≤ most_sessions
@@ -132,3 +132,25 @@ module _ (days : List ℤ) (assets : List AssetRow) (bytes after : List ℕ) (co
       let on = goes-on _ _ bars sums after count long h in
       (h.kept, own-room.0 ∙ ap (λ s. head days assets (length bars) ++ s) (on.1 ∙ ap (λ s. words_bytes (flat_map words_of bars) ++ s) (e ∙ same-seal))
         ∙ sym (sealed-is (head days assets (length bars)) bars))
+
+-- the words of the first bars, and of one more
+pub words-more : (bars : List BarRow) (i : ℕ) (bar : BarRow) → i < length bars → get_or bars i bar ≡ bar
+    → flat_map words_of (take i bars) ++ words_of bar ≡ flat_map words_of (take (i + 1) bars)
+words-more bars i bar within is =
+    let one : take 1 (drop i bars) ≡ bar ∷ [] = at_drop_more (λ (s : List BarRow). take 1 s) bars i bar within ∙ ap (λ b. b ∷ []) is in
+    sym (ap (λ s. flat_map words_of s) (take-add i 1 bars ∙ ap (λ s. take i bars ++ s) one)
+      ∙ flat_map-append words_of (take i bars) (bar ∷ []) ∙ ap (λ s. flat_map words_of (take i bars) ++ s) (append-nil (words_of bar)))
+
+-- the bytes of the bars that are left, from the next one on
+pub left-is : (bars : List BarRow) (i : ℕ) (bar : BarRow) → i < length bars → get_or bars i bar ≡ bar
+    → words_bytes (flat_map words_of (drop i bars)) ≡ words_bytes (words_of bar) ++ words_bytes (flat_map words_of (drop (i + 1) bars))
+left-is bars i bar within is =
+    at_drop_more (λ (s : List BarRow). words_bytes (flat_map words_of s)) bars i bar within
+    ∙ ap (λ b. words_bytes (flat_map words_of (b ∷ drop (i + 1) bars))) is ∙ bars-cons bar (drop (i + 1) bars)
+
+pub begins-length : (front bytes : List ℕ) → Begins front bytes → length front ≤ length bytes
+begins-length front bytes h = let long = ap (λ (s : List ℕ). length s) h.1 in omega (arith, long, length-append front h.0)
+
+-- all that is behind a place
+pub rest-whole : (n : ℕ) (bytes : List ℕ) → take (length bytes - n) (drop n bytes) ≡ drop n bytes
+rest-whole n bytes = take_all (length bytes - n) (drop n bytes) (omega (arith, length-drop n bytes))

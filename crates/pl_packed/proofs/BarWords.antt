@@ -167,6 +167,12 @@ bar-there bytes at key a b c d e va vb vc vd ve fa fb fc fd fe sa sb sc sd se hk
     six-there bytes at _ _ _ _ _ _ (ap eight_bytes (key-word key) ∙ hk) (ap eight_bytes (cell-word a va fa sa) ∙ ha) (ap eight_bytes (cell-word b vb fb sb) ∙ hb)
     (ap eight_bytes (cell-word c vc fc sc) ∙ hc) (ap eight_bytes (cell-word d vd fd sd) ∙ hd) (ap eight_bytes (cell-word e ve fe se) ∙ he)
 
+all-five : (a b c d e : ℤ) → FitsSigned w64 a → FitsSigned w64 b → FitsSigned w64 c → FitsSigned w64 d → FitsSigned w64 e
+    → All (λ v. FitsSigned w64 v) (a ∷ b ∷ c ∷ d ∷ e ∷ [])
+all-five a b c d e ha hb hc hd he =
+    let fits = λ (v : ℤ). FitsSigned w64 v in
+    All-cons fits a (b ∷ c ∷ d ∷ e ∷ []) ha (All-cons fits b (c ∷ d ∷ e ∷ []) hb (All-cons fits c (d ∷ e ∷ []) hc (All-cons fits d (e ∷ []) hd (All-cons fits e [] he (All-nil fits)))))
+
 pub bar-small : (key a b c d e : ℕ) (va vb vc vd ve : ℤ) → key < 2 ^ 64
     → a < 2 ^ 64 → b < 2 ^ 64 → c < 2 ^ 64 → d < 2 ^ 64 → e < 2 ^ 64
     → va ≡ cast_signed w64 a → vb ≡ cast_signed w64 b → vc ≡ cast_signed w64 c → vd ≡ cast_signed w64 d → ve ≡ cast_signed w64 e
@@ -174,12 +180,9 @@ pub bar-small : (key a b c d e : ℕ) (va vb vc vd ve : ℤ) → key < 2 ^ 64
 bar-small key a b c d e va vb vc vd ve fk fa fb fc fd fe sa sb sc sd se = record {
   col = omega arith;
   session = omega arith;
-  cells = cons (cell-in a va fa sa) (cons (cell-in b vb fb sb) (cons (cell-in c vc fc sc) (cons (cell-in d vd fd sd) (cons (cell-in e ve fe se) (All-nil fits)))));
+  cells = all-five _ _ _ _ _ (cell-in a va fa sa) (cell-in b vb fb sb) (cell-in c vc fc sc) (cell-in d vd fd sd) (cell-in e ve fe se);
   five = refl;
 }
-  where
-    cons : {x : ℤ} {xs : List ℤ} → FitsSigned w64 x → All (λ v. FitsSigned w64 v) xs → All (λ v. FitsSigned w64 v) (x ∷ xs)
-    cons {x} {xs} h t = All-cons (λ v. FitsSigned w64 v) x xs h t
 
 -- ---- the words of five cells
 

@@ -1,5 +1,5 @@
 -- Whether bytes begin with a front.
-use Rattle.std.proofs.Common.{◌≡◌, ℕ, Bool, true, false, List, ◌++◌, length, drop, sym, ◌∙◌, ◌==◌}
+use Rattle.std.proofs.Common.{◌≡◌, ℕ, Bool, true, false, List, ◌++◌, length, drop, sym, subst, ◌∙◌, ◌==◌}
 use Rattle.std.specs.List.{starts_with}
 use Rattle.std.proofs.lemmas.Bool.Decides.{Decides-eqb}
 use Rattle.std.proofs.lemmas.Slice.Eq.{starts_is}
@@ -13,3 +13,6 @@ begins-no bytes front r e f h =
     let t = (starts_is Decides-eqb bytes front r e).1 h.0 h.1 in
     let bad : false ≡ true = sym f ∙ t in
     cc
+
+pub begins-is : (bytes : List ℕ) {front other : List ℕ} → front ≡ other → Begins front bytes → Begins other bytes
+begins-is bytes {front} {other} e h = subst (λ s. Begins s bytes) e h

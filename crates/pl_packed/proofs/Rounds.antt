@@ -1,11 +1,11 @@
 -- What is read of packed bars.
-use Rattle.std.proofs.Common.{◌≡◌, ◌≢◌, ◌⊎◌, inl, inr, ℕ, ◌+◌, ◌*◌, ◌^◌, ◌<◌, ◌≤◌, ℤ, List, [], ◌∷◌, ◌++◌, length, flat_map, All, Result, Ok, Err, refl, sym, ap, ◌∙◌, arith, append_assoc, length-append}
+use Rattle.std.proofs.Common.{◌≡◌, ◌≢◌, ◌⊎◌, inl, inr, ℕ, ◌+◌, ◌*◌, ◌%◌, ◌^◌, ◌<◌, ◌≤◌, ℤ, List, [], ◌∷◌, ◌++◌, length, flat_map, sum, All, Result, Ok, Err, refl, sym, ap, ◌∙◌, arith, append_assoc, length-append}
 use Rattle.std.proofs.lemmas.List.{append_cancel_left}
 use Rattle.pl_spec.specs.declared.AssetRow.{AssetRow}
 use Rattle.pl_spec.specs.declared.BarRow.{BarRow}
 use Rattle.pl_spec.specs.Limits.{most_bars, most_assets, most_sessions}
 use Rattle.pl_packed.specs.Fit.{AreKept}
-use Rattle.pl_packed.specs.Packed.{mark, days_bytes, sids_bytes, known, head, four_bytes, eight_bytes, words_of, words_bytes, sums_bytes, seal, sealed, packed}
+use Rattle.pl_packed.specs.Packed.{mark, days_bytes, sids_bytes, known, head, four_bytes, eight_bytes, words_of, words_bytes, sums_bytes, weighed, seal, sealed, packed}
 use Rattle.pl_packed.specs.Says.{Begins, HasRoomFor, GoesOn, IsFault, Says}
 use Rattle.pl_packed.specs.declared.error.UnpackError.{UnpackError}
 use Rattle.pl_packed.specs.declared.error.UnpackError.TheVariants.{NotPacked, OtherSessions, OtherAssets, BadLength, BadBar, Damaged, Memory}
@@ -36,7 +36,9 @@ head-same days assets n m x y few less e =
 pub length-seal : (front words : List ℕ) → length (seal front (sums_bytes words)) ≡ 48
 length-seal front words =
     let sums = sums_bytes words in
-    let two : length sums ≡ 16 = length-append (eight_bytes _) (eight_bytes _) ∙ omega (arith, length-eight _, length-eight _) in
+    let plain = sum words % 2 ^ 64 in
+    let weight = weighed words % 2 ^ 64 in
+    let two : length sums ≡ 16 = omega (arith, length-append (eight_bytes plain) (eight_bytes weight), length-eight plain, length-eight weight) in
     omega (arith, length-append sums (sha256 (front ++ sums)), length-sha256 (front ++ sums), two)
 
 module _ (days : List ℤ) (assets : List AssetRow) (bars : List BarRow) (bytes : List ℕ)
@@ -75,17 +77,17 @@ module _ (days : List ℤ) (assets : List AssetRow) (bars : List BarRow) (bytes 
   read-back (Err OtherSessions) h = absurd (h.1 (begins-front (mark ++ days_bytes days) (sids_bytes assets) bytes begins))
   read-back (Err OtherAssets) h = absurd (h.1 begins)
   read-back (Err BadLength) h = absurd (h.1 (length bars) (body bars ++ end bars) small room)
-  read-back (Err (BadBar place)) h = bad place h.0 h.1 h.2.0 h.3 h.4.0 h.4.1 h.4.2.0 h.4.2.1 h.4.3 h.4.4 h.4.5
+  read-back (Err (BadBar place)) h = absurd (bad place h.0 h.1 h.2.0 h.3 h.4.0 h.4.1 h.4.2.0 h.4.2.1 h.4.3 h.4.4 h.4.5)
     where
       bad : (place count : ℕ) (after : List ℕ) → bytes ≡ head days assets count ++ after → count ≤ most_bars → (others : List BarRow) (more : List ℕ)
           → AreKept (length assets) (length days) others → after ≡ body others ++ more → place ≡ length others + 1 → place ≤ count
           → ((bar : BarRow) → AreKept (length assets) (length days) (others ++ bar ∷ []) → Begins (words_bytes (words_of bar)) more → ⊥)
-          → (Err (BadBar place) ≡ Ok bars) ⊎ (Err (BadBar place) ≡ Err Memory)
+          → ⊥
       bad place count after e most others more h goes number within none =
           let both = head-same days assets count (length bars) after (body bars ++ end bars) most small (sym e ∙ whole) in
           let it = next-bar others bars more (end bars) (kept-small _ _ others less few h) (kept-small _ _ bars less few kept) (omega (arith, both.0)) (sym goes ∙ both.1) in
           let all : AreKept (length assets) (length days) ((others ++ it.bar ∷ []) ++ it.others) = rw (← it.whole) kept in
-          absurd (none it.bar (kept-front _ _ (others ++ it.bar ∷ []) it.others all) (body it.others ++ end bars, it.next))
+          none it.bar (kept-front _ _ (others ++ it.bar ∷ []) it.others all) (body it.others ++ end bars, it.next)
   read-back (Err Damaged) h = absurd (bad h.0 h.1 h.2 h.3.0 h.4.0 h.4.1 h.5)
     where
       bad : (others : List BarRow) (after more : List ℕ) → bytes ≡ head days assets (length others) ++ after → AreKept (length assets) (length days) others

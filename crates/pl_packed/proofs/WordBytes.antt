@@ -75,13 +75,13 @@ eight-read bytes at h =
       (one-more bytes (at + 4) (at + 5) 3 _ (omega arith) (omega arith) (one-more bytes (at + 5) (at + 6) 2 _ (omega arith) (omega arith)
       (one-more bytes (at + 6) (at + 7) 1 _ (omega arith) (omega arith) (one-more bytes (at + 7) (at + 8) 0 [] (omega arith) (omega arith) refl)))))))
 
-part-fits : (bytes : List ℕ) (at n : ℕ) → ((k : ℕ) → get_or bytes k 0 < 256) → (i : ℕ) → get_or (take n (drop at bytes)) i 0 < 256
+part-fits : (bytes : List ℕ) (at n : ℕ) → ((k : ℕ) → get_or bytes k 0 < 2 ^ 8) → (i : ℕ) → get_or (take n (drop at bytes)) i 0 < 2 ^ 8
 part-fits bytes at n h i = elim (cases_lt i n) [
   | inl l ↦ rw (get_or-take n (drop at bytes) i 0 l, get_or-drop at bytes i 0) (h (at + i))
   | inr ge ↦ rw (get_or-eq_default (take n (drop at bytes)) 0 {n = i} (omega (arith, length-take n (drop at bytes)))) (omega arith)
 ]
 
-pub four-at : (bytes : List ℕ) (at number : ℕ) → at + 4 ≤ length bytes → ((k : ℕ) → get_or bytes k 0 < 256)
+pub four-at : (bytes : List ℕ) (at number : ℕ) → at + 4 ≤ length bytes → ((k : ℕ) → get_or bytes k 0 < 2 ^ 8)
     → number ≡ from_le_bytes w32 (get_or bytes at 0 ∷ get_or bytes (at + 1) 0 ∷ get_or bytes (at + 2) 0 ∷ get_or bytes (at + 3) 0 ∷ [])
     → four_bytes number ≡ take 4 (drop at bytes)
 unfolding four_bytes
@@ -89,7 +89,7 @@ four-at bytes at number h fits e =
     le_bytes_4 (take 4 (drop at bytes)) number (omega (arith, length-take 4 (drop at bytes), length-drop at bytes)) (part-fits bytes at 4 fits)
     (e ∙ ap (λ s. from_le_bytes w32 s) (sym (four-read bytes at h)))
 
-pub eight-at : (bytes : List ℕ) (at number : ℕ) → at + 8 ≤ length bytes → ((k : ℕ) → get_or bytes k 0 < 256)
+pub eight-at : (bytes : List ℕ) (at number : ℕ) → at + 8 ≤ length bytes → ((k : ℕ) → get_or bytes k 0 < 2 ^ 8)
     → number ≡ from_le_bytes w64 (get_or bytes at 0 ∷ get_or bytes (at + 1) 0 ∷ get_or bytes (at + 2) 0 ∷ get_or bytes (at + 3) 0
     ∷ get_or bytes (at + 4) 0 ∷ get_or bytes (at + 5) 0 ∷ get_or bytes (at + 6) 0 ∷ get_or bytes (at + 7) 0 ∷ [])
     → eight_bytes number ≡ take 8 (drop at bytes)

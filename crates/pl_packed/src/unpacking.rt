@@ -1,10 +1,10 @@
 //! Bytes to bars.
 
-ghost use Rattle.std.specs.Prelude.{◌≡◌, ◌⊎◌, ◌+◌, ◌*◌, ◌≤◌, ℕ, List, take, drop, length, Ok, Err, IfOk, IfErr, IfSome, IfNone};
+ghost use Rattle.std.specs.Prelude.{◌≡◌, ◌⊎◌, ◌+◌, ◌*◌, ◌≤◌, ◌++◌, ℕ, List, take, drop, length, Ok, Err, IfOk, IfErr, IfSome, IfNone};
 ghost use Rattle.pl_spec.specs.Limits.{most_assets, most_bars, most_sessions};
 ghost use Rattle.pl_spec.specs.declared.BarRow.{BarRow};
 ghost use Rattle.pl_packed.specs.Fit.{AreKept};
-ghost use Rattle.pl_packed.specs.Packed.{known, four_bytes, packed};
+ghost use Rattle.pl_packed.specs.Packed.{known, head, four_bytes, packed};
 ghost use Rattle.pl_packed.specs.Reading.{AreRead, IsStop};
 ghost use Rattle.pl_packed.specs.Says.{Begins, IsFault, Says};
 
@@ -36,6 +36,19 @@ pub fn unpack(
     ensures packed { (bars : List BarRow) → AreKept (length assets.now) (length sessions.now) bars
         → bytes.now ≡ packed sessions.now assets.now bars
         → (result ≡ Ok bars) ⊎ (result ≡ Err UnpackError.Memory) }
+{
+    let _sessions = sessions.len();
+    let _cols = assets.len();
+    unpacked(alloc, bytes, sessions, assets)
+}
+
+fn unpacked(
+    alloc: Global,
+    bytes: &[u8],
+    sessions: &Sessions,
+    assets: &Assets,
+) -> Result<Bars, UnpackError>
+    ensures { Says sessions.now assets.now bytes.now result }
 {
     let head = known_head(alloc, bytes, sessions, assets)?;
     unpack_after(alloc, bytes, head, sessions, assets)
@@ -79,29 +92,26 @@ fn unpack_after(
     requires begins { Begins head.items bytes.now }
     ensures { Says sessions.now assets.now bytes.now result }
 {
-    let Some(count) = count_at(bytes, head.len()) else {
+    let Some(count) = count_behind(bytes, &head) else {
         return Err(UnpackError::BadLength);
     };
     head.extend_from_slice(&four_bytes(count as u32))?;
-    let after = &bytes[head.len()..];
-    let cols = assets.len();
-    let read = read_bars(alloc, after, count, cols, sessions.len())?;
-    if !is_seal(&after[BAR * count..], &head, &read.sums) {
-        return Err(UnpackError::Damaged);
-    }
-    Ok(Bars::from_rows(read.bars))
+    read_counted(alloc, &head, behind(bytes, &head), count, sessions, assets)
 }
 
-// The count of the bars, which stands there, if there are as many bytes after it as it asks for.
-fn count_at(bytes: &[u8], at: usize) -> Option<usize>
-    requires { at ≤ length bytes.now }
+// The count of the bars, which stands behind a front, if there are as many bytes after it as it asks for.
+fn count_behind(bytes: &[u8], front: &[u8]) -> Option<usize>
+    requires { length front.now ≤ length bytes.now }
     ensures few { IfSome result (λ count. count ≤ most_bars) }
-    ensures there { IfSome result (λ count. four_bytes count ≡ take 4 (drop at bytes.now)) }
-    ensures room { IfSome result (λ count. length bytes.now ≡ at + (4 + (48 * count + 48))) }
+    ensures there { IfSome result (λ count.
+        four_bytes count ≡ take 4 (drop (length front.now) bytes.now)) }
+    ensures room { IfSome result (λ count.
+        length bytes.now ≡ length front.now + (4 + (48 * count + 48))) }
     ensures none { IfNone result ((count : ℕ) → count ≤ most_bars
-        → four_bytes count ≡ take 4 (drop at bytes.now)
-        → ¬ (length bytes.now ≡ at + (4 + (48 * count + 48)))) }
+        → four_bytes count ≡ take 4 (drop (length front.now) bytes.now)
+        → ¬ (length bytes.now ≡ length front.now + (4 + (48 * count + 48)))) }
 {
+    let at = front.len();
     let rest = bytes.len() - at;
     if rest < 4 {
         return None;
@@ -114,6 +124,35 @@ fn count_at(bytes: &[u8], at: usize) -> Option<usize>
         return None;
     }
     Some(count)
+}
+
+fn behind<'b>(bytes: &'b [u8], front: &[u8]) -> &'b [u8]
+    requires { length front.now ≤ length bytes.now }
+    ensures { result.now ≡ drop (length front.now) bytes.now }
+{
+    &bytes[front.len()..]
+}
+
+// The bars of the bytes behind the head, which has their count.
+fn read_counted(
+    alloc: Global,
+    front: &[u8],
+    after: &[u8],
+    count: usize,
+    sessions: &Sessions,
+    assets: &Assets,
+) -> Result<Bars, UnpackError>
+    requires few { count ≤ most_bars }
+    requires front { front.now ≡ head sessions.now assets.now count }
+    requires room { length after.now ≡ 48 * count + 48 }
+    ensures { (bytes : List ℕ) → bytes ≡ head sessions.now assets.now count ++ after.now
+        → Says sessions.now assets.now bytes result }
+{
+    let read = read_bars(alloc, after, count, assets.len(), sessions.len())?;
+    if !is_seal(&after[BAR * count..], front, &read.sums) {
+        return Err(UnpackError::Damaged);
+    }
+    Ok(Bars::from_rows(read.bars))
 }
 
 // Bars that were read, and the sums of their words.

@@ -1,6 +1,6 @@
 use Rattle.std.proofs.Common.{◌∙◌, sym, arith}
 use Rattle.pl_packed.proofs.WordBytes.{four-same}
-use Rattle.pl_packed.proofs.unpacking.count_at.Goals as goal
+use Rattle.pl_packed.proofs.unpacking.count_behind.Goals as goal
 
 pub returns-then-count-gt-MOST_BARS-clause-none : goal.returns-then-count-gt-MOST_BARS-clause-none
 returns-then-count-gt-MOST_BARS-clause-none c = λ count few there long.
