@@ -1,13 +1,13 @@
 -- Bars that are read one by one, and where they stop.
-use Rattle.std.proofs.Common.{◌≡◌, ◌≢◌, ℕ, ◌+◌, ◌-◌, ◌*◌, ◌<◌, ◌≤◌, ℤ, List, [], ◌∷◌, ◌++◌, length, take, drop, flat_map, sum, All, ◌%◌, ◌^◌, get_or, Ok, refl, sym, ap, ◌∙◌, take-add, arith, append_assoc, length-append, subst}
+use Rattle.std.proofs.Common.{◌≡◌, ℕ, ◌+◌, ◌-◌, ◌*◌, ◌<◌, ◌≤◌, ℤ, List, [], ◌∷◌, ◌++◌, length, take, drop, flat_map, sum, All, ◌%◌, ◌^◌, get_or, Ok, refl, sym, ap, ◌∙◌, take-add, arith, append_assoc, length-append, subst}
 use Rattle.std.proofs.Math.Seq.{take-append_seam, drop-append_seam, get_or-append_seam}
 use Rattle.std.proofs.lemmas.List.{append-nil, take-append-drop, length-drop, take_all, at_drop_more}
 use Rattle.std.proofs.lemmas.Grind.{flat_map-append}
 use Rattle.pl_spec.specs.declared.AssetRow.{AssetRow}
 use Rattle.pl_spec.specs.declared.BarRow.{BarRow}
 use Rattle.pl_spec.specs.Limits.{most_bars, most_assets, most_sessions}
-use Rattle.pl_packed.specs.Fit.{AreKept, IsNext, IsSmall}
-use Rattle.pl_packed.specs.Packed.{known, head, four_bytes, eight_bytes, words_of, words_bytes, sums_bytes, seal, sealed, packed}
+use Rattle.pl_packed.specs.Fit.{IsNext, IsSmall}
+use Rattle.pl_packed.specs.Packed.{known, head, four_bytes, eight_bytes, words_of, words_bytes, sums_bytes, seal}
 use Rattle.pl_packed.specs.Summed.{AreSums, bytes_of}
 use Rattle.pl_packed.specs.Says.{Begins, HasRoomFor, GoesOn, IsNoBar, IsBadBar, IsFault, Says}
 use Rattle.pl_packed.specs.Reading.{AreRead, IsStop}
@@ -55,7 +55,7 @@ no-bar cols sessions bars bar more less few small bytes none other kept begins =
     let all = kept-small cols sessions (bars ++ other ∷ []) less few kept in
     let fits : IsSmall other = last-small bars other all in
     let front : take 48 more ≡ words_bytes (words_of other) =
-        ap (λ s. take 48 s) begins.1 ∙ ap (λ n. take n (words_bytes (words_of other) ++ begins.0)) (sym (length-bar other five)) ∙ take-append_seam (words_bytes (words_of other)) begins.0 in
+    ap (λ s. take 48 s) begins.1 ∙ ap (λ n. take n (words_bytes (words_of other) ++ begins.0)) (sym (length-bar other five)) ∙ take-append_seam (words_bytes (words_of other)) begins.0 in
     let words = words-same (words_of bar) (words_of other) (six bar small.five ∙ sym (six other five)) (words-fit bar small) (words-fit other fits) (bytes ∙ front) in
     none (rw (bar-same bar other small fits words) next)
   where
@@ -94,13 +94,16 @@ room-there days assets bytes count begins there long =
 pub no-room : (days : List ℤ) (assets : List AssetRow) (bytes : List ℕ) → Begins (known days assets) bytes
     → ((count : ℕ) → count ≤ most_bars → four_bytes count ≡ take 4 (drop (length (known days assets)) bytes) → ¬ (length bytes ≡ length (known days assets) + (4 + (48 * count + 48))))
     → IsFault days assets bytes BadLength
-no-room days assets bytes begins none = (begins, λ count after few room.
-    let front = known days assets in
-    let whole : bytes ≡ front ++ (four_bytes count ++ after) = room.0 ∙ append_assoc front (four_bytes count) after in
-    let behind : drop (length front) bytes ≡ four_bytes count ++ after = ap (λ s. drop (length front) s) whole ∙ drop-append_seam front (four_bytes count ++ after) in
-    let four : take 4 (drop (length front) bytes) ≡ four_bytes count =
-        ap (λ s. take 4 s) behind ∙ ap (λ n. take n (four_bytes count ++ after)) (sym (length-four count)) ∙ take-append_seam (four_bytes count) after in
-    none count few (sym four) (ap (λ (s : List ℕ). length s) whole ∙ omega (arith, length-append front (four_bytes count ++ after), length-append (four_bytes count) after, length-four count, room.1)))
+no-room days assets bytes begins none = (
+  begins,
+  λ count after few room.
+      let front = known days assets in
+      let whole : bytes ≡ front ++ (four_bytes count ++ after) = room.0 ∙ append_assoc front (four_bytes count) after in
+      let behind : drop (length front) bytes ≡ four_bytes count ++ after = ap (λ s. drop (length front) s) whole ∙ drop-append_seam front (four_bytes count ++ after) in
+      let four : take 4 (drop (length front) bytes) ≡ four_bytes count =
+      ap (λ s. take 4 s) behind ∙ ap (λ n. take n (four_bytes count ++ after)) (sym (length-four count)) ∙ take-append_seam (four_bytes count) after in
+      none count few (sym four) (ap (λ (s : List ℕ). length s) whole ∙ omega (arith, length-append front (four_bytes count ++ after), length-append (four_bytes count) after, length-four count, room.1)),
+)
 
 pub stop-fault : (days : List ℤ) (assets : List AssetRow) (bytes after : List ℕ) (count : ℕ) → HasRoomFor days assets bytes count after → count ≤ most_bars
     → (e : UnpackError) → IsStop (length assets) (length days) count after e → IsFault days assets bytes e
@@ -129,9 +132,11 @@ module _ (days : List ℤ) (assets : List AssetRow) (bytes after : List ℕ) (co
 
   pub is-whole : drop (48 * count) after ≡ seal (head days assets count) (bytes_of sums) → Says days assets bytes (Ok bars)
   is-whole e =
-      let on = goes-on _ _ bars sums after count long h in
-      (h.kept, own-room.0 ∙ ap (λ s. head days assets (length bars) ++ s) (on.1 ∙ ap (λ s. words_bytes (flat_map words_of bars) ++ s) (e ∙ same-seal))
-        ∙ sym (sealed-is (head days assets (length bars)) bars))
+      let on = goes-on _ _ bars sums after count long h in (
+        h.kept,
+        own-room.0 ∙ ap (λ s. head days assets (length bars) ++ s) (on.1 ∙ ap (λ s. words_bytes (flat_map words_of bars) ++ s) (e ∙ same-seal))
+            ∙ sym (sealed-is (head days assets (length bars)) bars),
+      )
 
 -- the words of the first bars, and of one more
 pub words-more : (bars : List BarRow) (i : ℕ) (bar : BarRow) → i < length bars → get_or bars i bar ≡ bar
@@ -139,7 +144,7 @@ pub words-more : (bars : List BarRow) (i : ℕ) (bar : BarRow) → i < length ba
 words-more bars i bar within is =
     let one : take 1 (drop i bars) ≡ bar ∷ [] = at_drop_more (λ (s : List BarRow). take 1 s) bars i bar within ∙ ap (λ b. b ∷ []) is in
     sym (ap (λ s. flat_map words_of s) (take-add i 1 bars ∙ ap (λ s. take i bars ++ s) one)
-      ∙ flat_map-append words_of (take i bars) (bar ∷ []) ∙ ap (λ s. flat_map words_of (take i bars) ++ s) (append-nil (words_of bar)))
+    ∙ flat_map-append words_of (take i bars) (bar ∷ []) ∙ ap (λ s. flat_map words_of (take i bars) ++ s) (append-nil (words_of bar)))
 
 -- the bytes of the bars that are left, from the next one on
 pub left-is : (bars : List BarRow) (i : ℕ) (bar : BarRow) → i < length bars → get_or bars i bar ≡ bar

@@ -1,7 +1,7 @@
 -- Bars as words, and back.
-use Rattle.std.proofs.Common.{◌≡◌, ℕ, ◌+◌, ◌*◌, ◌^◌, ◌/◌, ◌%◌, ◌<◌, ◌≤◌, ℤ, IsTrue, List, [], ◌∷◌, ◌++◌, length, get_or, take, drop, map, All, flat_map, FitsSigned, refl, sym, ap, ◌∙◌, arith, append_assoc, length-append, unsigned_abs, inl, inr}
+use Rattle.std.proofs.Common.{◌≡◌, ℕ, ◌+◌, ◌*◌, ◌^◌, ◌/◌, ◌%◌, ◌<◌, ℤ, IsTrue, List, [], ◌∷◌, ◌++◌, length, get_or, take, drop, map, All, flat_map, FitsSigned, refl, sym, ap, ◌∙◌, arith, append_assoc, length-append, inl, inr}
 use Rattle.std.specs.Int.{w64, cast_unsigned, cast_signed}
-use Rattle.std.proofs.lemmas.Grind.{common_steps, flat_map-append}
+use Rattle.std.proofs.lemmas.Grind.{flat_map-append}
 use Rattle.std.proofs.lemmas.Int.{to_z-of_z, of_z-to_z, fits_signed_from_abs}
 use Rattle.std.proofs.Math.Facts.{Fits-of_z, sfits_to_z}
 use Rattle.std.proofs.lemmas.List.Elements.{All-head, All-tail, All-cons, All-nil, All-map, All-weaker}
@@ -87,7 +87,7 @@ same-front : (x y : BarRow) (p q : List ℕ) → IsSmall x → IsSmall y → wor
 same-front x y p q hx hy e =
     let long : length (words_bytes (words_of x)) ≡ length (words_bytes (words_of y)) = length-bar x hx.five ∙ sym (length-bar y hy.five) in
     bar-same x y hx hy (words-same (words_of x) (words_of y) (six x hx.five ∙ sym (six y hy.five)) (words-fit x hx) (words-fit y hy)
-      (front-same (words_bytes (words_of x)) (words_bytes (words_of y)) p q long e))
+    (front-same (words_bytes (words_of x)) (words_bytes (words_of y)) p q long e))
 
 same-back : (x y : BarRow) (p q : List ℕ) → IsSmall x → IsSmall y → words_bytes (words_of x) ++ p ≡ words_bytes (words_of y) ++ q → p ≡ q
 same-back x y p q hx hy e =

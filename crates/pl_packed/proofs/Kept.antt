@@ -1,17 +1,16 @@
 -- Bars that are kept, with one more, and without the last ones.
-use Rattle.std.proofs.Common.{◌≡◌, ℕ, zero, suc, ◌+◌, ◌*◌, ◌^◌, ◌<◌, ◌≤◌, IsTrue, List, [], ◌∷◌, ◌++◌, length, get_or, All, AllPairs, refl, sym, ap, ◌∙◌, arith, length-append}
+use Rattle.std.proofs.Common.{◌≡◌, ℕ, ◌^◌, ◌<◌, ◌≤◌, IsTrue, List, [], ◌∷◌, ◌++◌, length, get_or, All, arith, length-append}
 use Rattle.std.proofs.lemmas.List.{get_or_append_left}
-use Rattle.std.proofs.lemmas.List.Elements.{All-nil, All-push}
+use Rattle.std.proofs.lemmas.List.Elements.{All-push}
 use Rattle.std.proofs.Math.Seq.{get_or-append_seam}
 use Rattle.pl_spec.specs.declared.BarRow.{BarRow}
 use Rattle.pl_spec.specs.Limits.{most_bars, most_assets, most_sessions}
-use Rattle.pl_bars.specs.Bars.{AreBars, is_bar_cell, is_before, key_of}
+use Rattle.pl_bars.specs.Bars.{is_bar_cell}
 use Rattle.pl_bars.specs.BarPoint.{IsAfter, Rise}
 use Rattle.pl_bars.proofs.BarOrder.{rise_more}
 use Rattle.pl_bars.proofs.BarsRead.{ascend-from_keys, keys-from_ascend}
-use Rattle.pl_packed.specs.Fit.{AreKept, IsBar, IsNext, IsSmall}
+use Rattle.pl_packed.specs.Fit.{AreKept, IsNext, IsSmall}
 use Rattle.pl_packed.proofs.BarWords.{cell-fits}
-
 
 pub kept-none : (cols sessions : ℕ) → AreKept cols sessions []
 kept-none cols sessions = record {
@@ -63,12 +62,15 @@ last-has : (P : BarRow → Type 0) (a : List BarRow) (x : BarRow) → All P (a +
 last-has P a x h = rw (get_or-append_seam a x [] x) at (h (length a) x (omega (arith, length-append a (x ∷ []))))
 
 pub kept-last : (cols sessions : ℕ) (bars : List BarRow) (bar : BarRow) → sessions ≤ most_sessions → AreKept cols sessions (bars ++ bar ∷ []) → IsNext cols sessions bars bar
-kept-last cols sessions bars bar few h = (after, record {
-  col = last-has (λ (b : BarRow). b.col < cols) bars bar h.in_cols;
-  session = last-has (λ (b : BarRow). b.session < sessions) bars bar h.on_sessions;
-  cells = last-has (λ (b : BarRow). All (λ v. IsTrue (is_bar_cell v)) b.cells) bars bar h.stand.cells;
-  five = last-has (λ (b : BarRow). length b.cells ≡ 5) bars bar h.five;
-})
+kept-last cols sessions bars bar few h = (
+  after,
+  record {
+    col = last-has (λ (b : BarRow). b.col < cols) bars bar h.in_cols;
+    session = last-has (λ (b : BarRow). b.session < sessions) bars bar h.on_sessions;
+    cells = last-has (λ (b : BarRow). All (λ v. IsTrue (is_bar_cell v)) b.cells) bars bar h.stand.cells;
+    five = last-has (λ (b : BarRow). length b.cells ≡ 5) bars bar h.five;
+  },
+)
   where
     after : IsAfter bar bars
     after k d e =

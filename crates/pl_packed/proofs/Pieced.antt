@@ -1,5 +1,5 @@
 -- Two texts that are written one after the other.
-use Rattle.std.proofs.Common.{◌≡◌, ℕ, List, [], ◌++◌, Option, Bool, Result, Ok, Err, sym}
+use Rattle.std.proofs.Common.{ℕ, List, [], ◌++◌, Option, Bool, Result, Ok, Err, sym}
 use Rattle.std.proofs.lemmas.List.{append-nil}
 use Rattle.pl_outside.specs.Taken.{Writes}
 use Rattle.pl_outside.proofs.Pieces.{Writing, writing-start, writing-more, writing-end, writing-stop, writing-over}

@@ -1,12 +1,12 @@
 -- What is read of packed bars.
-use Rattle.std.proofs.Common.{◌≡◌, ◌≢◌, ◌⊎◌, inl, inr, ℕ, ◌+◌, ◌*◌, ◌%◌, ◌^◌, ◌<◌, ◌≤◌, ℤ, List, [], ◌∷◌, ◌++◌, length, flat_map, sum, All, Result, Ok, Err, refl, sym, ap, ◌∙◌, arith, append_assoc, length-append}
+use Rattle.std.proofs.Common.{◌≡◌, ◌≢◌, ◌⊎◌, inl, inr, ℕ, ◌+◌, ◌%◌, ◌^◌, ◌≤◌, ℤ, List, [], ◌∷◌, ◌++◌, length, flat_map, sum, Result, Ok, Err, refl, sym, ap, ◌∙◌, arith, append_assoc, length-append}
 use Rattle.std.proofs.lemmas.List.{append_cancel_left}
 use Rattle.pl_spec.specs.declared.AssetRow.{AssetRow}
 use Rattle.pl_spec.specs.declared.BarRow.{BarRow}
 use Rattle.pl_spec.specs.Limits.{most_bars, most_assets, most_sessions}
 use Rattle.pl_packed.specs.Fit.{AreKept}
 use Rattle.pl_packed.specs.Packed.{mark, days_bytes, sids_bytes, known, head, four_bytes, eight_bytes, words_of, words_bytes, sums_bytes, weighed, seal, sealed, packed}
-use Rattle.pl_packed.specs.Says.{Begins, HasRoomFor, GoesOn, IsFault, Says}
+use Rattle.pl_packed.specs.Says.{Begins, HasRoomFor, Says}
 use Rattle.pl_packed.specs.declared.error.UnpackError.{UnpackError}
 use Rattle.pl_packed.specs.declared.error.UnpackError.TheVariants.{NotPacked, OtherSessions, OtherAssets, BadLength, BadBar, Damaged, Memory}
 use Rattle.sha2.specs.Sha256.{sha256}

@@ -1,6 +1,6 @@
 -- Numbers as bytes, and back.
-use Rattle.std.proofs.Common.{◌≡◌, ℕ, suc, ◌+◌, ◌^◌, ◌<◌, ◌≤◌, inl, inr, List, get_or, [], ◌∷◌, ◌++◌, length, take, drop, All, flat_map, refl, sym, ap, ◌∙◌, arith, append_assoc}
-use Rattle.std.specs.Int.{w32, w64, to_le_bytes, from_le_bytes}
+use Rattle.std.proofs.Common.{◌≡◌, ℕ, suc, ◌+◌, ◌^◌, ◌<◌, ◌≤◌, inl, inr, List, get_or, [], ◌∷◌, ◌++◌, length, take, drop, All, refl, sym, ap, ◌∙◌, arith}
+use Rattle.std.specs.Int.{w32, w64, from_le_bytes}
 use Rattle.std.proofs.lemmas.Bool.{cases_lt}
 use Rattle.std.proofs.lemmas.List.{append-nil, at_drop_more, get_or-take, get_or-drop, length-take, length-drop}
 use Rattle.std.proofs.Math.ListN.{get_or-eq_default}
@@ -64,16 +64,16 @@ pub four-read : (bytes : List ℕ) (at : ℕ) → at + 4 ≤ length bytes
     → take 4 (drop at bytes) ≡ get_or bytes at 0 ∷ get_or bytes (at + 1) 0 ∷ get_or bytes (at + 2) 0 ∷ get_or bytes (at + 3) 0 ∷ []
 four-read bytes at h =
     one-more bytes at (at + 1) 3 _ refl (omega arith) (one-more bytes (at + 1) (at + 2) 2 _ (omega arith) (omega arith)
-      (one-more bytes (at + 2) (at + 3) 1 _ (omega arith) (omega arith) (one-more bytes (at + 3) (at + 4) 0 [] (omega arith) (omega arith) refl)))
+    (one-more bytes (at + 2) (at + 3) 1 _ (omega arith) (omega arith) (one-more bytes (at + 3) (at + 4) 0 [] (omega arith) (omega arith) refl)))
 
 pub eight-read : (bytes : List ℕ) (at : ℕ) → at + 8 ≤ length bytes
     → take 8 (drop at bytes) ≡ get_or bytes at 0 ∷ get_or bytes (at + 1) 0 ∷ get_or bytes (at + 2) 0 ∷ get_or bytes (at + 3) 0
     ∷ get_or bytes (at + 4) 0 ∷ get_or bytes (at + 5) 0 ∷ get_or bytes (at + 6) 0 ∷ get_or bytes (at + 7) 0 ∷ []
 eight-read bytes at h =
     one-more bytes at (at + 1) 7 _ refl (omega arith) (one-more bytes (at + 1) (at + 2) 6 _ (omega arith) (omega arith)
-      (one-more bytes (at + 2) (at + 3) 5 _ (omega arith) (omega arith) (one-more bytes (at + 3) (at + 4) 4 _ (omega arith) (omega arith)
-      (one-more bytes (at + 4) (at + 5) 3 _ (omega arith) (omega arith) (one-more bytes (at + 5) (at + 6) 2 _ (omega arith) (omega arith)
-      (one-more bytes (at + 6) (at + 7) 1 _ (omega arith) (omega arith) (one-more bytes (at + 7) (at + 8) 0 [] (omega arith) (omega arith) refl)))))))
+    (one-more bytes (at + 2) (at + 3) 5 _ (omega arith) (omega arith) (one-more bytes (at + 3) (at + 4) 4 _ (omega arith) (omega arith)
+    (one-more bytes (at + 4) (at + 5) 3 _ (omega arith) (omega arith) (one-more bytes (at + 5) (at + 6) 2 _ (omega arith) (omega arith)
+    (one-more bytes (at + 6) (at + 7) 1 _ (omega arith) (omega arith) (one-more bytes (at + 7) (at + 8) 0 [] (omega arith) (omega arith) refl)))))))
 
 part-fits : (bytes : List ℕ) (at n : ℕ) → ((k : ℕ) → get_or bytes k 0 < 2 ^ 8) → (i : ℕ) → get_or (take n (drop at bytes)) i 0 < 2 ^ 8
 part-fits bytes at n h i = elim (cases_lt i n) [

@@ -18,7 +18,9 @@ pub use unpacking::unpack;
 
 // The bytes of a bar, of an end, and of a word.
 const BAR: usize = 48;
+
 const SEAL: usize = 48;
+
 const WORD: usize = 8;
 
 #[cfg(test)]

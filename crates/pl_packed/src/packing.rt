@@ -1,6 +1,6 @@
 //! Bars to bytes.
 
-ghost use Rattle.std.specs.Prelude.{◌≡◌, length, flat_map, IfOk};
+ghost use Rattle.std.specs.Prelude.{◌≡◌, length, flat_map, All, IfOk};
 ghost use Rattle.pl_outside.specs.Taken.{Writes};
 ghost use Rattle.pl_packed.specs.Packed.{head, sealed, words_of, words_bytes};
 ghost use Rattle.pl_packed.specs.Summed.{AreSums};
@@ -37,7 +37,10 @@ pub fn packed_head(
 /// Writes packed bars, in pieces of 8 bytes after the head: it, the bars, and the end. With the head of
 /// `packed_head` these are the bytes that `unpack` reads. It takes no memory.
 pub fn pack<O: Sink>(out: &mut O, head: &[u8], bars: &Bars) -> Result<(), Failed>
-    ensures { Writes O.taken O.faults O.sound O.room out.old out.new (sealed head.now bars.now) result }
+    ensures writes { Writes O.taken O.faults O.sound O.room out.old out.new
+        (sealed head.now bars.now) result }
+    // Each bar has five cells, as its type says; `unpack` asks it of packed bars.
+    ensures five { IfOk result (λ _. All (λ b. length b.cells ≡ 5) bars.now) }
 {
     write_bytes(out, head)?;
     let sums = write_bars(out, bars)?;
@@ -49,6 +52,7 @@ fn write_bars<O: Sink>(out: &mut O, bars: &Bars) -> Result<Sums, Failed>
     ensures writes { Writes O.taken O.faults O.sound O.room out.old out.new
         (words_bytes (flat_map words_of bars.now)) result }
     ensures sums { IfOk result (λ sums. AreSums sums (flat_map words_of bars.now)) }
+    ensures five { IfOk result (λ _. All (λ b. length b.cells ≡ 5) bars.now) }
 {
     let mut sums = Sums::none();
     'bars: for i in 0..bars.len() {

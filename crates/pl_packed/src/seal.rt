@@ -6,9 +6,9 @@ ghost use Rattle.pl_outside.specs.Taken.{Writes};
 ghost use Rattle.pl_packed.specs.Packed.{seal};
 ghost use Rattle.pl_packed.specs.Summed.{bytes_of};
 
+use crate::WORD;
 use crate::sums::Sums;
 use crate::words::eight_bytes;
-use crate::WORD;
 use pl_outside::{Failed, Sink, write_bytes};
 use sha2::{Digest, Sha256};
 

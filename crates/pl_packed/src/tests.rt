@@ -9,7 +9,9 @@ use std::alloc::Global;
 use std::test::Fail;
 
 const SESSIONS: &[u8] = b"2024-01-02\n2024-01-03\n2024-01-04\n";
+
 const ASSETS: &[u8] = b"sid,start,end\n7,2023-01-01,2025-01-01\n9,2023-01-01,2025-01-01\n";
+
 const BARS: &[u8] = b"sid,session,open,high,low,close,volume
 9,2024-01-03,1,2.5,,1.75,1000
 7,2024-01-02,0,100000000000,0.000001,,

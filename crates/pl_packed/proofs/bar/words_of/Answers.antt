@@ -1,4 +1,4 @@
-use Rattle.std.proofs.Common.{ℕ, ℤ, ◌∷◌, map, ap, ◌∙◌}
+use Rattle.std.proofs.Common.{◌∷◌, map, ap, ◌∙◌}
 use Rattle.std.specs.Int.{w64, cast_unsigned}
 use Rattle.pl_packed.proofs.BarWords.{five-words}
 use Rattle.pl_packed.proofs.bar.words_of.Goals as goal

@@ -20,4 +20,4 @@ days-preserved c =
     let next = at_drop_more day_bytes days i day (omega (arith, c.days-test.true, c.len-count.ensures.length)) in
     let left = ap (λ z. four_bytes (cast_unsigned w32 z) ++ day_bytes (drop (i + 1) days)) (get_or_from_slice_get days i day day c.day.ensures.exact) in
     push-more c.days.head.items _ c.four_bytes-in-days.result (day_bytes (drop (i + 1) days)) (day_bytes (drop i days)) _
-      c.in_ok-extend_from_slice-2.ensures.items (next ∙ left ∙ ap (λ s. s ++ day_bytes (drop (i + 1) days)) (sym piece)) c.days.invariant
+    c.in_ok-extend_from_slice-2.ensures.items (next ∙ left ∙ ap (λ s. s ++ day_bytes (drop (i + 1) days)) (sym piece)) c.days.invariant

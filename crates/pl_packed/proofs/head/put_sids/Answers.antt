@@ -17,4 +17,4 @@ sids-preserved c =
     let next = at_drop_more sid_bytes assets i row (omega (arith, c.sids-test.true, c.len-count.ensures.length)) in
     let left = ap (λ (a : AssetRow). four_bytes a.sid ++ sid_bytes (drop (i + 1) assets)) (get_or_from_slice_get assets i row row c.row.ensures) in
     push-more c.sids.head.items _ c.four_bytes-in-sids.result (sid_bytes (drop (i + 1) assets)) (sid_bytes (drop i assets)) _
-      c.in_ok-extend_from_slice-2.ensures.items (next ∙ left ∙ ap (λ s. s ++ sid_bytes (drop (i + 1) assets)) (sym c.four_bytes-in-sids.ensures)) c.sids.invariant
+    c.in_ok-extend_from_slice-2.ensures.items (next ∙ left ∙ ap (λ s. s ++ sid_bytes (drop (i + 1) assets)) (sym c.four_bytes-in-sids.ensures)) c.sids.invariant

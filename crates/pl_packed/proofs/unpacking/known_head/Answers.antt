@@ -1,5 +1,5 @@
-use Rattle.std.proofs.Common.{◌≡◌, ◌++◌, sym, ap, ◌∙◌}
-use Rattle.pl_packed.specs.Packed.{mark, days_bytes, sids_bytes}
+use Rattle.std.proofs.Common.{◌++◌, sym, ap, ◌∙◌}
+use Rattle.pl_packed.specs.Packed.{days_bytes, sids_bytes}
 use Rattle.pl_packed.proofs.Fronts.{begins-is, begins-yes, begins-no}
 use Rattle.pl_packed.proofs.unpacking.known_head.Goals as goal
 
@@ -7,8 +7,7 @@ pub returns-then-not-starts_with-2-clause-fault : goal.returns-then-not-starts_w
 returns-then-not-starts_with-2-clause-fault c =
     let bytes = c.args.bytes.now in
     let first = c.in_ok-head.ensures.items ∙ c.mark.ensures in
-    let second = c.in_ok-put_days.ensures ∙ ap (λ s. s ++ days_bytes c.args.sessions.now) first in
-    (
+    let second = c.in_ok-put_days.ensures ∙ ap (λ s. s ++ days_bytes c.args.sessions.now) first in (
       begins-is bytes (c.deref.ensures.value ∙ first) (begins-yes bytes c.deref.result.now c.starts_with.result c.starts_with.ensures.value c.if-not-starts_with.false),
       λ h. begins-no bytes c.deref-2.result.now c.starts_with-2.result c.starts_with-2.ensures.value c.if-not-starts_with-2.true
           (begins-is bytes (sym (c.deref-2.ensures.value ∙ second)) h),
@@ -19,10 +18,9 @@ returns-then-not-starts_with-3-clause-fault c =
     let bytes = c.args.bytes.now in
     let first = c.in_ok-head.ensures.items ∙ c.mark.ensures in
     let second = c.in_ok-put_days.ensures ∙ ap (λ s. s ++ days_bytes c.args.sessions.now) first in
-    let third = c.in_ok-put_sids.ensures ∙ ap (λ s. s ++ sids_bytes c.args.assets.now) second in
-    (
+    let third = c.in_ok-put_sids.ensures ∙ ap (λ s. s ++ sids_bytes c.args.assets.now) second in (
       begins-is bytes (c.deref-2.ensures.value ∙ second)
-        (begins-yes bytes c.deref-2.result.now c.starts_with-2.result c.starts_with-2.ensures.value c.if-not-starts_with-2.false),
+          (begins-yes bytes c.deref-2.result.now c.starts_with-2.result c.starts_with-2.ensures.value c.if-not-starts_with-2.false),
       λ h. begins-no bytes c.deref-3.result.now c.starts_with-3.result c.starts_with-3.ensures.value c.if-not-starts_with-3.true
           (begins-is bytes (sym (c.deref-3.ensures.value ∙ third)) h),
     )
