@@ -1,0 +1,11 @@
+pub mod Bytes
+pub mod WordBytes
+pub mod WordSums
+pub mod BarWords
+pub mod Kept
+pub mod Rounds
+pub mod Pieced
+pub mod Seals
+pub mod BarReads
+pub mod Fronts
+pub mod Pushes
