@@ -103,9 +103,9 @@ fn refuses_other_lengths(rt: HostRuntime) -> Result<(), Fail> {
         (36, UnpackError::BadLength),
         (39, UnpackError::BadLength),
         (40, UnpackError::BadLength),
-        (whole - 48, UnpackError::BadLength),
-        (whole - 1, UnpackError::BadLength),
-        (whole + 1, UnpackError::BadLength),
+        (whole.saturating_sub(48), UnpackError::BadLength),
+        (whole.saturating_sub(1), UnpackError::BadLength),
+        (whole.saturating_add(1), UnpackError::BadLength),
     ] {
         let mut bytes = Vec::from_slice(alloc, sink.bytes())?;
         bytes.push(0)?;
