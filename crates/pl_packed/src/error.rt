@@ -1,8 +1,8 @@
 //! Why packed bars are refused.
 
 ghost use Rattle.std.specs.Prelude.{◌≡◌};
-ghost use Rattle.pl_packed.specs.declared.error.UnpackError.TheVariants.{Memory};
 
+use pl_fixed::Memory;
 use std::alloc::{AllocError, AllocFailed};
 use thiserror::Error;
 
@@ -34,6 +34,8 @@ pub enum UnpackError {
 }
 
 impl From<AllocError> for UnpackError {
+    ghost use Rattle.pl_packed.specs.declared.error.UnpackError.TheVariants.{Memory};
+
     ghost from_gives = { λ _ e. e ≡ Memory };
 
     fn from(_error: AllocError) -> UnpackError {
@@ -42,6 +44,8 @@ impl From<AllocError> for UnpackError {
 }
 
 impl<T: Drop> From<AllocFailed<T>> for UnpackError {
+    ghost use Rattle.pl_packed.specs.declared.error.UnpackError.TheVariants.{Memory};
+
     ghost from_gives = { λ _ e. e ≡ Memory };
 
     fn from(_failed: AllocFailed<T>) -> UnpackError {
@@ -49,10 +53,12 @@ impl<T: Drop> From<AllocFailed<T>> for UnpackError {
     }
 }
 
-impl From<pl_fixed::Memory> for UnpackError {
+impl From<Memory> for UnpackError {
+    ghost use Rattle.pl_packed.specs.declared.error.UnpackError.TheVariants.{Memory};
+
     ghost from_gives = { λ _ e. e ≡ Memory };
 
-    fn from(_error: pl_fixed::Memory) -> UnpackError {
+    fn from(_error: Memory) -> UnpackError {
         UnpackError::Memory
     }
 }
