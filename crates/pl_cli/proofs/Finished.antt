@@ -1,5 +1,5 @@
 -- From the end of a command to the status and the line of the program.
-use Rattle.std.proofs.Common.{◌≡◌, ◌⊎◌, inl, inr, ℕ, List, [], ◌++◌, length, Bool, arith, IsTrue, IsSome, Option, Some, None, Result, Ok, Err, refl, ◌∙◌, append-nil, MatchOption, option_map, Bor}
+use Rattle.std.proofs.Common.{◌≡◌, ◌⊎◌, inl, inr, ℕ, List, [], ◌++◌, length, Bool, arith, IsTrue, IsSome, Option, Some, None, Result, Ok, Err, refl, ◌∙◌, append-nil, option_map, Bor}
 use Rattle.std.specs.Option.{option_copied}
 use Rattle.pl_outside.specs.Taken.{IsTold}
 use Rattle.pl_words.specs.Request.{Request, adjustments_of}

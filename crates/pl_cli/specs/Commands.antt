@@ -1,5 +1,5 @@
 -- How a command ends, in the words of the code.
-use Rattle.std.specs.Prelude.{◌≡◌, ℕ, ◌+◌, ◌≤◌, List, [], length, Bool, if◌then◌else◌, IsTrue, Option, Some, None, option_map, Result, Ok, Err, OnOk, IfOk, IfErr}
+use Rattle.std.specs.Prelude.{◌≡◌, ℕ, ◌+◌, ◌≤◌, List, [], length, Bool, if◌then◌else◌, IsTrue, Option, Some, None, Result, Ok, Err, OnOk, IfOk, IfErr}
 use Rattle.pl_spec.specs.declared.Column.{Column}
 use Rattle.pl_spec.specs.declared.Format.{Format}
 use Rattle.pl_pipeline.specs.Table.{table}
