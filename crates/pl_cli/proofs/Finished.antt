@@ -2,7 +2,8 @@
 use Rattle.std.proofs.Common.{◌≡◌, ◌⊎◌, inl, inr, ℕ, List, [], ◌++◌, length, Bool, arith, IsTrue, IsSome, Option, Some, None, Result, Ok, Err, refl, ◌∙◌, append-nil, option_map, Bor}
 use Rattle.std.specs.Option.{option_copied}
 use Rattle.pl_outside.specs.Taken.{IsTold}
-use Rattle.pl_words.specs.Request.{Request, adjustments_of}
+use Rattle.pl_words.specs.declared.request.Request.{Request}
+use Rattle.pl_words.specs.Request.{adjustments_of}
 use Rattle.pl_load.specs.declared.fault.Fault.{Fault}
 use Rattle.pl_load.specs.declared.fault.Fault.TheVariants.{Unread, Unloaded, Unwritten, Passed, Memory}
 use Rattle.pl_load.specs.Faults.{status_of, line_of, judged_status, judged_line}

@@ -2,7 +2,8 @@
 
 ghost use Rattle.std.specs.Prelude.{◌≡◌, ◌≤◌, ◌+◌, ◌⊎◌, ℕ, if◌then◌else◌, [], None, Some, OnOk, IfOk, IfErr, IsErrOf, flat_map};
 ghost use Rattle.pl_outside.specs.Taken.{Writes};
-ghost use Rattle.pl_words.specs.Request.{Run, Fmt, Check, Plan, IsChunk};
+ghost use Rattle.pl_words.specs.declared.request.Request.TheVariants.{Run, Fmt, Check, Plan};
+ghost use Rattle.pl_words.specs.Request.{IsChunk};
 ghost use Rattle.pl_load.specs.Views.{KeeperView, change, unchanged, shelf_change, keeper_change};
 ghost use Rattle.pl_load.specs.Loads.{IsReadyRun};
 ghost use Rattle.pl_terms.specs.Checked.{pipeline_of};

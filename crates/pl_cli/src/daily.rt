@@ -2,7 +2,7 @@
 
 ghost use Rattle.std.specs.Prelude.{◌≡◌, ◌≤◌, ◌+◌, ◌⊎◌, None, Some, OnOk, IfOk, IfErr, IsErrOf};
 ghost use Rattle.pl_outside.specs.Taken.{Writes};
-ghost use Rattle.pl_words.specs.Request.{Daily};
+ghost use Rattle.pl_words.specs.declared.request.Request.TheVariants.{Daily};
 ghost use Rattle.pl_load.specs.Views.{change, shelf_change, keeper_change};
 ghost use Rattle.pl_load.specs.Loads.{IsReadyRun};
 ghost use Rattle.pl_cli.specs.Commands.{IsAnswered, loaded_text, loaded_days};

@@ -2,7 +2,7 @@
 
 ghost use Rattle.std.specs.Prelude.{◌≡◌, ℕ, None, Some, IfOk, IfErr};
 ghost use Rattle.pl_outside.specs.Taken.{Writes};
-ghost use Rattle.pl_words.specs.Request.{Payouts};
+ghost use Rattle.pl_words.specs.declared.request.Request.TheVariants.{Payouts};
 ghost use Rattle.pl_payouts.specs.Texts.{payouts_text};
 ghost use Rattle.pl_load.specs.Views.{KeeperView, unchanged, shelf_change};
 ghost use Rattle.pl_load.specs.PaidOut.{IsPayable};

@@ -2,7 +2,8 @@
 
 ghost use Rattle.std.specs.Prelude.{◌≡◌, ◌+◌, ◌⊎◌, None, Some, IfOk, IfErr, IsErrOf};
 ghost use Rattle.pl_outside.specs.Taken.{Writes};
-ghost use Rattle.pl_words.specs.Request.{Bench, IsChunk};
+ghost use Rattle.pl_words.specs.declared.request.Request.TheVariants.{Bench};
+ghost use Rattle.pl_words.specs.Request.{IsChunk};
 ghost use Rattle.pl_bench.specs.Numbers.{TakesSteps, bench_line};
 ghost use Rattle.pl_load.specs.Views.{ShelfView, KeeperView, change, unchanged};
 ghost use Rattle.pl_cli.specs.Commands.{IsAnswered};

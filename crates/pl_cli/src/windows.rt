@@ -2,7 +2,8 @@
 
 ghost use Rattle.std.specs.Prelude.{◌≡◌, ◌<◌, ◌≤◌, ◌⊎◌, ℕ, None, Some, IfOk, IfErr, IsErrOf};
 ghost use Rattle.pl_outside.specs.Taken.{Writes};
-ghost use Rattle.pl_words.specs.Request.{IsWindow, Windows};
+ghost use Rattle.pl_words.specs.declared.request.Request.TheVariants.{Windows};
+ghost use Rattle.pl_words.specs.Request.{IsWindow};
 ghost use Rattle.pl_load.specs.Views.{unchanged, shelf_change, keeper_change};
 ghost use Rattle.pl_load.specs.Windowed.{HasWindows};
 ghost use Rattle.pl_cli.specs.Commands.{IsAnswered, loaded_windows};

@@ -12,7 +12,12 @@ use Rattle.pl_world.specs.Worlds.{owned_world}
 use Rattle.pl_world.specs.declared.owned.OwnedWorld.{OwnedWorld}
 use Rattle.pl_planner.specs.Plans.{Planned, IsPlanOf}
 use Rattle.pl_planner.proofs.Calendars.{plan-same}
-use Rattle.pl_words.specs.Request.{DateWord, RunRequest, ExplainRequest, VerifyRequest, WindowsRequest, Run, Explain, Verify, Windows}
+use Rattle.pl_words.specs.declared.request.DateWord.{DateWord}
+use Rattle.pl_words.specs.declared.request.RunRequest.{RunRequest}
+use Rattle.pl_words.specs.declared.request.ExplainRequest.{ExplainRequest}
+use Rattle.pl_words.specs.declared.request.VerifyRequest.{VerifyRequest}
+use Rattle.pl_words.specs.declared.request.WindowsRequest.{WindowsRequest}
+use Rattle.pl_words.specs.declared.request.Request.TheVariants.{Run, Explain, Verify, Windows}
 use Rattle.pl_load.specs.Range.{IsDateOf, index_asked, index_of}
 use Rattle.pl_load.specs.Loads.{AsksWorld, IsKnown}
 

@@ -15,7 +15,7 @@ use Rattle.pl_planner.specs.declared.plans.PlanError.{PlanError}
 use Rattle.pl_planner.specs.declared.plans.PlanError.TheVariants as errors
 use Rattle.pl_planner.specs.Plans.{Planned, IsPlanOf, IsPlanFault}
 use Rattle.pl_words.specs.declared.request.RangeDate.TheVariants.{From, To, AsOf}
-use Rattle.pl_words.specs.Request.{DateWord}
+use Rattle.pl_words.specs.declared.request.DateWord.{DateWord}
 use Rattle.pl_load.specs.declared.fault.Fault.TheVariants.{NotSession, Backwards, TooEarly}
 use Rattle.pl_load.specs.Rules.{plan_error}
 use Rattle.pl_load.specs.Steps.{first_fault}

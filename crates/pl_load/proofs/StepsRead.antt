@@ -5,7 +5,8 @@ use Rattle.pl_spec.specs.declared.AssetRow.{AssetRow}
 use Rattle.pl_pipeline.specs.Table.{Pipeline}
 use Rattle.pl_spec.specs.World.{World}
 use Rattle.pl_words.specs.declared.request.InputFile.{InputFile}
-use Rattle.pl_words.specs.Request.{DateWord, ExplainRequest}
+use Rattle.pl_words.specs.declared.request.DateWord.{DateWord}
+use Rattle.pl_words.specs.declared.request.ExplainRequest.{ExplainRequest}
 use Rattle.pl_load.specs.declared.fault.Fault.{Fault}
 use Rattle.pl_load.specs.declared.fault.Fault.TheVariants.{Unread, Unloaded, Memory}
 use Rattle.pl_load.specs.Steps.{Reading, WorkStep, first_fault, reads_in, names_read, tables_read}

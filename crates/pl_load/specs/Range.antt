@@ -5,7 +5,7 @@ use Rattle.std.specs.Ordering.{int_eq}
 use Rattle.pl_spec.specs.Window.{before}
 use Rattle.pl_pipeline.specs.Table.{Pipeline}
 use Rattle.pl_words.specs.declared.request.RangeDate.TheVariants.{From, To, AsOf}
-use Rattle.pl_words.specs.Request.{DateWord}
+use Rattle.pl_words.specs.declared.request.DateWord.{DateWord}
 use Rattle.pl_load.specs.declared.fault.Fault.TheVariants.{NotSession, Backwards, TooEarly, Passed}
 use Rattle.pl_load.specs.declared.fault.Limit.TheVariants.{Extra}
 use Rattle.pl_load.specs.Planning.{reach_at, is_too_deep}

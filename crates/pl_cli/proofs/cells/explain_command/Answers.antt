@@ -1,5 +1,5 @@
 use Rattle.std.proofs.lemmas.Result.{err_from_is_err_and}
-use Rattle.pl_words.specs.Request.{Explain}
+use Rattle.pl_words.specs.declared.request.Request.TheVariants.{Explain}
 use Rattle.pl_cli.proofs.Ended.{stopped}
 use Rattle.pl_cli.proofs.Explained.{cell-stops}
 use Rattle.pl_cli.proofs.cells.explain_command.Goals as goal

@@ -1,6 +1,6 @@
 use Rattle.std.proofs.Common.{◌≡◌, ◌≤◌, ◌+◌, inr}
 use Rattle.std.proofs.lemmas.Result.{err_from_is_err_and, on_ok_weaker, IfOk-weaker}
-use Rattle.pl_words.specs.Request.{Run}
+use Rattle.pl_words.specs.declared.request.Request.TheVariants.{Run}
 use Rattle.pl_load.specs.Work.{work}
 use Rattle.pl_cli.specs.Commands.{line_of_stats}
 use Rattle.pl_cli.specs.Views.{sink_view}

@@ -1,6 +1,6 @@
 use Rattle.std.proofs.Common.{◌≡◌, ◌≤◌, ◌+◌, inr}
 use Rattle.std.proofs.lemmas.Result.{err_from_is_err_and, on_ok_weaker}
-use Rattle.pl_words.specs.Request.{Daily}
+use Rattle.pl_words.specs.declared.request.Request.TheVariants.{Daily}
 use Rattle.pl_cli.specs.Views.{sink_view}
 use Rattle.pl_cli.proofs.Ended.{stopped, seen-or, kept-view, quiet, written-or}
 use Rattle.pl_cli.proofs.Days.{days-load, days-text, days-steps}

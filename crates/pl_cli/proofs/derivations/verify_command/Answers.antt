@@ -1,5 +1,5 @@
 use Rattle.std.proofs.lemmas.Result.{err_from_is_err_and}
-use Rattle.pl_words.specs.Request.{Verify}
+use Rattle.pl_words.specs.declared.request.Request.TheVariants.{Verify}
 use Rattle.pl_load.specs.Work.{work}
 use Rattle.pl_cli.proofs.Ended.{stopped}
 use Rattle.pl_cli.proofs.derivations.verify_command.Goals as goal

@@ -1,5 +1,5 @@
 use Rattle.std.proofs.Common.{◌≡◌, ◌∙◌, ap, Option, Some, option_map, Bor}
-use Rattle.pl_words.specs.Request.{Request}
+use Rattle.pl_words.specs.declared.request.Request.{Request}
 use Rattle.pl_load.specs.Views.{shelf_view, keeper_view}
 use Rattle.pl_cli.specs.Views.{sink_view}
 use Rattle.pl_cli.proofs.Ended.{no-command}

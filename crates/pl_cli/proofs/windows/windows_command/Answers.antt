@@ -1,6 +1,6 @@
 use Rattle.std.proofs.Common.{inr, refl}
 use Rattle.std.proofs.lemmas.Result.{err_from_is_err_and}
-use Rattle.pl_words.specs.Request.{Windows}
+use Rattle.pl_words.specs.declared.request.Request.TheVariants.{Windows}
 use Rattle.pl_load.specs.Work.{work}
 use Rattle.pl_cli.specs.Views.{sink_view}
 use Rattle.pl_cli.proofs.Ended.{stopped, seen-or, kept-view, none, no-more, quiet, when-ok, written-or}

@@ -4,7 +4,7 @@ use Rattle.pl_terms.specs.Checked.{pipeline_of}
 use Rattle.pl_world.specs.Worlds.{owned_world}
 use Rattle.pl_load.specs.Held.{world_held}
 use Rattle.pl_words.specs.declared.request.InputFile.TheVariants.{Pipeline}
-use Rattle.pl_words.specs.Request.{Explain}
+use Rattle.pl_words.specs.declared.request.Request.TheVariants.{Explain}
 use Rattle.pl_load.proofs.StepsRead.{cell-quiet}
 use Rattle.pl_load.proofs.Joined.{is_file, file-read, evaluated-one, judged, refused, stops, part-stops, part-stops-later, part-done, stops-later, both-done}
 use Rattle.pl_load.proofs.Works.{whole, cell_rest, cell-first, cell-world}

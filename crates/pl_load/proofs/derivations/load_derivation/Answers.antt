@@ -3,7 +3,7 @@ use Rattle.std.proofs.lemmas.Result.{err_from_is_err_and}
 use Rattle.pl_world.specs.Worlds.{owned_world}
 use Rattle.pl_load.specs.Held.{world_held, derivation_held}
 use Rattle.pl_words.specs.declared.request.InputFile.TheVariants.{Pipeline, Derivation}
-use Rattle.pl_words.specs.Request.{Verify}
+use Rattle.pl_words.specs.declared.request.Request.TheVariants.{Verify}
 use Rattle.pl_load.proofs.Joined.{is_file, file-read, file-one, evaluated-one, stops, part-stops, part-stops-later, part-done, stops-later, both-done}
 use Rattle.pl_load.proofs.Works.{but_for, verify_rest, verify-first, verify-world}
 use Rattle.pl_load.proofs.KnownWorlds.{verify-asks}

@@ -1,7 +1,7 @@
 use Rattle.std.proofs.Common.{◌∙◌, Some, true, refl, sym}
 use Rattle.std.proofs.lemmas.Result.{err_from_is_err_and}
 use Rattle.pl_terms.specs.Checked.{pipeline_of}
-use Rattle.pl_words.specs.Request.{Run}
+use Rattle.pl_words.specs.declared.request.Request.TheVariants.{Run}
 use Rattle.pl_load.proofs.StepsRead.{dates-quiet, plan-quiet}
 use Rattle.pl_load.specs.Held.{days_held, world_held}
 use Rattle.pl_load.specs.Range.{range_steps}

@@ -1,7 +1,7 @@
 use Rattle.std.proofs.Common.{◌≡◌, Some, false, refl}
 use Rattle.std.proofs.lemmas.Result.{err_from_is_err_and}
 use Rattle.pl_words.specs.declared.request.InputFile.TheVariants as file
-use Rattle.pl_words.specs.Request.{Payouts}
+use Rattle.pl_words.specs.declared.request.Request.TheVariants.{Payouts}
 use Rattle.pl_load.specs.Held.{assets_in, bars_in, payouts_in}
 use Rattle.pl_load.proofs.Joined.{is_file, file-read, file-one, stops, part-stops, part-stops-later, part-done, stops-later, both-done}
 use Rattle.pl_load.proofs.Works.{paid_after_days, paid_after_assets, paid-days, paid-assets}

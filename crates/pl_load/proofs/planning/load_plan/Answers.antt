@@ -1,7 +1,7 @@
 use Rattle.std.proofs.Common.{Some, false, refl}
 use Rattle.std.proofs.lemmas.Result.{err_from_is_err_and}
 use Rattle.pl_words.specs.declared.request.InputFile.TheVariants.{Pipeline}
-use Rattle.pl_words.specs.Request.{Plan}
+use Rattle.pl_words.specs.declared.request.Request.TheVariants.{Plan}
 use Rattle.pl_load.proofs.Joined.{is_file, file-read, pipeline-one, stops, stops-later, both-done}
 use Rattle.pl_load.proofs.Works.{plan-first}
 use Rattle.pl_load.proofs.planning.load_plan.Goals as goal

@@ -2,7 +2,7 @@ use Rattle.std.proofs.Common.{◌∙◌, Some, None, true, false, refl, sym}
 use Rattle.std.proofs.lemmas.Result.{err_from_is_err_and}
 use Rattle.pl_terms.specs.Checked.{pipeline_of}
 use Rattle.pl_words.specs.declared.request.InputFile.TheVariants.{Sessions}
-use Rattle.pl_words.specs.Request.{Plan}
+use Rattle.pl_words.specs.declared.request.Request.TheVariants.{Plan}
 use Rattle.pl_load.specs.Range.{range_steps}
 use Rattle.pl_load.proofs.StepsRead.{dates-quiet, plan-quiet}
 use Rattle.pl_load.proofs.Joined.{is_file, file-read, file-one, judged, judged-as, refused, stops, part-stops, stops-later, last-done}

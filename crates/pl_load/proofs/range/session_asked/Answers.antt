@@ -1,6 +1,6 @@
 use Rattle.std.proofs.Common.{ap, sym, refl, option_map, Bor, FitsSigned, w32, rules}
 use Rattle.std.proofs.lemmas.Int.{to_z-of_z}
-use Rattle.pl_words.specs.Request.{DateWord}
+use Rattle.pl_words.specs.declared.request.DateWord.{DateWord}
 use Rattle.pl_load.proofs.Ranges.{known-is, unknown-is, date-of}
 use Rattle.pl_load.proofs.range.session_asked.Goals as goal
 

@@ -1,6 +1,6 @@
 use Rattle.std.proofs.Common.{Some, None, true, refl, sym}
 use Rattle.std.proofs.lemmas.Result.{err_from_is_err_and}
-use Rattle.pl_words.specs.Request.{Windows}
+use Rattle.pl_words.specs.declared.request.Request.TheVariants.{Windows}
 use Rattle.pl_load.specs.Range.{windows_steps}
 use Rattle.pl_load.proofs.StepsRead.{dates-quiet, first-quiet}
 use Rattle.pl_load.proofs.Joined.{judged, refused, stops, part-stops, part-stops-later, part-done, stops-later, both-done}
