@@ -24,7 +24,7 @@ pub returns-in_default-term_of-clause-ends : goal.returns-in_default-term_of-cla
 returns-in_default-term_of-clause-ends c =
     let fits : FitsSigned w32 c.args.request.now.date.day = search rules in
     let session = simp to_z-of_z at c.in-Some.ensures.exact in
-    let term = rw c.as_bytes.ensures.value at c.in_default-term_of.ensures.exact in
+    let term = rw (c.as_bytes.ensures.value, c.text.ensures) at c.in_default-term_of.ensures.exact in
     record {
       passed = tt;
       stopped = inl (no-column (pipeline_of c.args.checked.now) c.args.sessions.now c.args.assets.now c.args.request.now _ _ (sym session) (sym c.in-Some-col_of.ensures.exact) (sym term));
@@ -35,7 +35,7 @@ returns-then-reach-lt0-clause-ends c =
     let fits : FitsSigned w32 c.args.request.now.date.day = search rules in
     let fits' : FitsSigned w64 c.in_ok-reach.reach = search rules in
     let session = simp to_z-of_z at c.in-Some.ensures.exact in
-    let term = rw c.as_bytes.ensures.value at c.in-Some-term_of.ensures.exact in
+    let term = rw (c.as_bytes.ensures.value, c.text.ensures) at c.in-Some-term_of.ensures.exact in
     let reach : c.in_ok-reach.reach ≡ term_reach c.args.sessions.now (pipeline_of c.args.checked.now) c.in-Some-term_of.term.0 c.in-Some.session = c.in_ok-reach.ensures in
     let before = is-early c.in_ok-reach.reach (simp to_z-of_z at c.if-reach-lt0.true) in
     rw (to_z-of_z w64 _ fits', reach)
@@ -49,7 +49,7 @@ returns-clause-ends c =
     let fits : FitsSigned w32 c.args.request.now.date.day = search rules in
     let fits' : FitsSigned w64 c.in_ok-reach.reach = search rules in
     let session = simp to_z-of_z at c.in-Some.ensures.exact in
-    let term = rw c.as_bytes.ensures.value at c.in-Some-term_of.ensures.exact in
+    let term = rw (c.as_bytes.ensures.value, c.text.ensures) at c.in-Some-term_of.ensures.exact in
     let reach : c.in_ok-reach.reach ≡ term_reach c.args.sessions.now (pipeline_of c.args.checked.now) c.in-Some-term_of.term.0 c.in-Some.session = c.in_ok-reach.ensures in
     let behind = is-late c.in_ok-reach.reach (simp to_z-of_z at c.if-reach-lt0.false) in
     record {

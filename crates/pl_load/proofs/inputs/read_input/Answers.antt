@@ -21,6 +21,7 @@ returns-in-Err-TooLong-clause-read g c =
     let r = c.in-Err-TooLong.ensures in
     let longer = rw (e, c.cap_of.ensures.value) at r.longer in
     let given = rw (e, c.cap_of.ensures.value) at r.given in
+    let named = rw e at r.named in
     rw c.limit_of.ensures
     (is-too-long c.args.file c.args.name.now _ (λ files told. longer files told (cc c.in-Err-TooLong.field-0-is)) r.named
     (long-given c.args.file given (given.too_long (cc c.in-Err-TooLong.field-0-is)))

@@ -27,7 +27,7 @@ returns-in_err-range-clause-load g c =
     rw (p.1, p.2)
     (stops-later (read (Some (Run q)) (run-asks q))
     (part-stops (λ held. range_steps (pipeline_of c.args.checked.now) c.in_ok-world.world.sessions q.from q.to q.options.as_of)
-    (refused _ _ (Some (Run q)) (dates-quiet q.from q.to q.options.as_of _) (rw lent _ _ c.as_ref.ensures.value at range.ends) range.risen) _ (λ held. refl)) whole true
+    (refused _ _ (Some (Run q)) (dates-quiet q.from q.to q.options.as_of _) (rw (lent _ _ c.as_ref.ensures.value) at range.ends) range.risen) _ (λ held. refl)) whole true
     (λ f r m. world-first q (pipeline_of c.args.checked.now) _ f r m))
 
 pub returns-in_err-plan-clause-load : goal.returns-in_err-plan-clause-load
@@ -40,7 +40,7 @@ returns-in_err-plan-clause-load g c =
     let plan = c.in_err-plan.ensures in
     rw (p.1, p.2)
     (stops-later (read (Some (Run q)) (run-asks q))
-    (part-stops-later (λ held. range_steps pipeline c.in_ok-world.world.sessions q.from q.to q.options.as_of) (judged _ _ (Some (Run q)) (dates-quiet q.from q.to q.options.as_of _) (rw lent _ _ c.as_ref.ensures.value at range.ends))
+    (part-stops-later (λ held. range_steps pipeline c.in_ok-world.world.sessions q.from q.to q.options.as_of) (judged _ _ (Some (Run q)) (dates-quiet q.from q.to q.options.as_of _) (rw (lent _ _ c.as_ref.ensures.value) at range.ends))
     (refused _ _ (Some (Run q)) (plan-quiet pipeline _ _ _) plan.ends plan.risen) whole true
     (λ f r m. range-is pipeline _ q.from q.to q.options.as_of _ _ range.from range.to)) whole true (λ f r m. world-first q pipeline _ f r m))
 
@@ -66,12 +66,12 @@ returns-clause-load g c =
     let known = c.in_ok-known.ensures.known in
     let made = c.in_ok-plan.plan in
     both-done (read (Some (Run q)) (run-asks q))
-    (part-done (λ held. range_steps pipeline w.sessions q.from q.to q.options.as_of) (λ held. Unit {0}) (judged _ _ (Some (Run q)) (dates-quiet q.from q.to q.options.as_of _) (rw lent _ _ c.as_ref.ensures.value at range.ends))
+    (part-done (λ held. range_steps pipeline w.sessions q.from q.to q.options.as_of) (λ held. Unit {0}) (judged _ _ (Some (Run q)) (dates-quiet q.from q.to q.options.as_of _) (rw (lent _ _ c.as_ref.ensures.value) at range.ends))
     (judged _ _ (Some (Run q)) (plan-quiet pipeline _ _ _) plan.ends) whole true
     (λ f r m. range-is pipeline _ q.from q.to q.options.as_of _ _ range.from range.to) (λ f r m h. tt)) whole true
     (λ f r m. world-first q pipeline w f r m)
     (λ f r m h. record {
-      world = world-known q.options.as_of (days_held f) (world_held f q.world) w v _ m.days m.world (rw lent _ _ c.as_ref.ensures.value at range.as_of) (rw lent _ _ c.as_ref.ensures.value at range.date) known;
+      world = world-known q.options.as_of (days_held f) (world_held f q.world) w v _ m.days m.world (rw (lent _ _ c.as_ref.ensures.value) at range.as_of) (rw (lent _ _ c.as_ref.ensures.value) at range.date) known;
       same = rw m.world (shown-same w v _ pipeline made.from made.to (rw plan.to range.known) known);
       plan = rw m.days plan.plan;
       from = rw m.days (sym range.from ∙ sym plan.from);
