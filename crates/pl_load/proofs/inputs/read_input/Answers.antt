@@ -19,11 +19,10 @@ pub returns-in-Err-TooLong-clause-read : goal.returns-in-Err-TooLong-clause-read
 returns-in-Err-TooLong-clause-read g c =
     let e = c.text.ensures in
     let r = c.in-Err-TooLong.ensures in
-    let longer = rw (e, c.cap_of.ensures.value) at r.longer in
-    let given = rw (e, c.cap_of.ensures.value) at r.given in
-    let named = rw e at r.named in
-    rw c.limit_of.ensures
-    (is-too-long c.args.file c.args.name.now _ (λ files told. longer files told (cc c.in-Err-TooLong.field-0-is)) r.named
+    let longer = rw c.cap_of.ensures.value at r.longer in
+    let given = rw c.cap_of.ensures.value at r.given in
+    rw (c.limit_of.ensures, ← e)
+    (is-too-long c.args.file _ _ (λ files told. longer files told (cc c.in-Err-TooLong.field-0-is)) r.named
     (long-given c.args.file given (given.too_long (cc c.in-Err-TooLong.field-0-is)))
     (record { keeps = r.keeps; stays = r.stays; later = r.later }))
 
