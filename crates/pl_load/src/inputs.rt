@@ -84,7 +84,11 @@ pub fn read_script<S: Shelf>(alloc: Global, shelf: &mut S, name: &Word<'_>) -> R
 
 /// The pipeline that the pipeline file of that name means. The fault is that the shelf refused it, it is too
 /// long, has a fault of syntax, or breaks a rule of the language; or want of memory.
-pub fn read_checked<S: Shelf>(alloc: Global, shelf: &mut S, name: &Word<'_>) -> Result<Checked, Fault>
+pub fn read_checked<S: Shelf>(
+    alloc: Global,
+    shelf: &mut S,
+    name: &Word<'_>,
+) -> Result<Checked, Fault>
     ensures { IsRead (shelf_change S.Shelf shelf.old shelf.new)
         (Some name.now) pipeline_steps
         (λ held checked. pipeline_in held ≡ pipeline_of checked) result }
@@ -114,7 +118,11 @@ pub fn read_evaluated<S: Shelf>(
 
 /// The sessions of the sessions file of that name. The fault is that the shelf refused it, it is too long, or
 /// it has a faulty record; or want of memory. So it is with each further file.
-pub fn read_sessions<S: Shelf>(alloc: Global, shelf: &mut S, name: &Word<'_>) -> Result<Sessions, Fault>
+pub fn read_sessions<S: Shelf>(
+    alloc: Global,
+    shelf: &mut S,
+    name: &Word<'_>,
+) -> Result<Sessions, Fault>
     ensures { IsRead (shelf_change S.Shelf shelf.old shelf.new)
         (Some name.now)
         (λ held. read_step files.Sessions sessions_rule held ∷ [])

@@ -220,5 +220,12 @@ fn read_revised<S: Shelf, K: AdjustKeeper>(
     ensures cols { IfOk result (All (λ x. x.col < length assets.now)) }
 {
     let loaded = read_adjustments(alloc, keeper, names.adjustments.as_ref(), assets)?;
-    read_revisions(alloc, shelf, names.revisions.as_ref(), sessions, assets, loaded)
+    read_revisions(
+        alloc,
+        shelf,
+        names.revisions.as_ref(),
+        sessions,
+        assets,
+        loaded,
+    )
 }
