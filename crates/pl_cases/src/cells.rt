@@ -15,7 +15,7 @@ use pl_model::{World, cell_now};
 use pl_planner::reach_at;
 use pl_terms::{Checked, TermId};
 use pl_values::empty_value;
-use pl_words::{Options, Request, RunRequest, read_words};
+use pl_words::{Request, RunRequest, Word, read_words};
 use std::alloc::Global;
 use std::marker::Brand;
 use std::sync::ledger::{Blank, Ledger};
@@ -30,15 +30,15 @@ pub(crate) fn cells_differ(
 ) -> Result<bool> {
     match read_words(alloc, words) {
         Ok(Some(Request::Run(request) | Request::Daily(request))) => {
-            run_differs(alloc, case, &request, table)
+            run_differs(alloc, case, request, table)
         }
         Ok(_) => Ok(false),
         Err(_) => bail!("memory"),
     }
 }
 
-fn run_differs(alloc: Global, case: &Case, request: &RunRequest<'_>, table: &[u8]) -> Result<bool> {
-    let labels = labels_of(alloc, case, request.world.labels)?;
+fn run_differs(alloc: Global, case: &Case, request: RunRequest<'_>, table: &[u8]) -> Result<bool> {
+    let labels = labels_of(alloc, case, request.world.labels.as_ref())?;
     match loaded_of(alloc, case, request)? {
         Some(loaded) => table_differs::<Brand>(alloc, &loaded, &labels, table, Blank::new(1)),
         None => Ok(case.status() == 0),
@@ -46,24 +46,22 @@ fn run_differs(alloc: Global, case: &Case, request: &RunRequest<'_>, table: &[u8
 }
 
 // What a run reads, up to all sessions; none where it is refused.
-fn loaded_of(alloc: Global, case: &Case, request: &RunRequest<'_>) -> Result<Option<Loaded>>
+fn loaded_of(alloc: Global, case: &Case, mut request: RunRequest<'_>) -> Result<Option<Loaded>>
     ensures { IfOk result (λ loaded. IfSome loaded IsReadyRun) }
 {
-    let whole = RunRequest {
-        options: Options {
-            as_of: None,
-            ..request.options
-        },
-        ..*request
-    };
+    request.options.as_of = None;
     let mut parts = Parts::new(alloc, case, SOUND)?;
-    Ok(parts.load(alloc, &whole))
+    Ok(parts.load(alloc, &request))
 }
 
 // The texts of a labels file by their codes: in the order in which they stand there first, as they are
 // written there.
-fn labels_of(alloc: Global, case: &Case, name: Option<&str>) -> Result<Vec<String>> {
-    let title = format!(in alloc; "file {}", name.unwrap_or(""))?;
+fn labels_of(alloc: Global, case: &Case, name: Option<&Word<'_>>) -> Result<Vec<String>> {
+    let name = match name {
+        Some(name) => name.text(),
+        None => "",
+    };
+    let title = format!(in alloc; "file {name}")?;
     let file = String::from_utf8_lossy(alloc, case.text(&title))?;
     let mut labels = Vec::new(alloc);
     put_labels(alloc, &file, &mut labels)?;

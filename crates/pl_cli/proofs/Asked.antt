@@ -1,7 +1,8 @@
 -- What was given is by the names of the words alone.
 use Rattle.std.proofs.Common.{◌≡◌, inl, inr, ℕ, List, [], ◌∷◌, Option, Result, Ok, Err, refl, ap, subst, ◌∙◌}
 use Rattle.pl_words.specs.declared.request.InputFile.{InputFile}
-use Rattle.pl_words.specs.Request.{Request, name_asked, adjustments_of}
+use Rattle.pl_words.specs.declared.request.Request.{Request}
+use Rattle.pl_words.specs.Request.{name_asked, adjustments_of}
 use Rattle.pl_load.specs.declared.fault.Fault.{Fault}
 use Rattle.pl_load.specs.Steps.{Reading}
 use Rattle.pl_load.specs.Steps.Reading.{Bytes, Rows}

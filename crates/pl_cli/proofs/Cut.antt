@@ -17,7 +17,8 @@ use Rattle.pl_spec.specs.World.{World}
 use Rattle.pl_pipeline.specs.Table.{Pipeline}
 use Rattle.pl_terms.specs.Checked.{pipeline_of}
 use Rattle.pl_words.specs.declared.request.WorldPart.{WorldPart}
-use Rattle.pl_words.specs.Request.{Cut, CutRequest, Run}
+use Rattle.pl_words.specs.declared.request.CutRequest.{CutRequest}
+use Rattle.pl_words.specs.declared.request.Request.TheVariants.{Cut, Run}
 use Rattle.pl_load.specs.declared.fault.Fault.{Fault}
 use Rattle.pl_load.specs.Contents.{Contents}
 use Rattle.pl_load.specs.Held.{pipeline_held, days_held}

@@ -4,7 +4,8 @@ use Rattle.pl_spec.specs.World.{World}
 use Rattle.pl_pipeline.specs.Table.{Pipeline}
 use Rattle.pl_terms.specs.Checked.{pipeline_of}
 use Rattle.pl_runner.specs.Feeds.{daily_steps}
-use Rattle.pl_words.specs.Request.{Daily, Run, RunRequest}
+use Rattle.pl_words.specs.declared.request.RunRequest.{RunRequest}
+use Rattle.pl_words.specs.declared.request.Request.TheVariants.{Daily, Run}
 use Rattle.pl_load.specs.declared.fault.Fault.{Fault}
 use Rattle.pl_load.specs.Contents.{Contents}
 use Rattle.pl_load.specs.Held.{pipeline_held, days_held}

@@ -6,7 +6,8 @@ use Rattle.pl_outside.specs.declared.sink.Sink as sinks
 use Rattle.pl_outside.proofs.Pieces.{writes-over}
 use Rattle.pl_words.specs.declared.request.InputFile.{InputFile}
 use Rattle.pl_words.specs.declared.request.InputFile.TheVariants as file
-use Rattle.pl_words.specs.Request.{Request, name_asked}
+use Rattle.pl_words.specs.declared.request.Request.{Request}
+use Rattle.pl_words.specs.Request.{name_asked}
 use Rattle.pl_load.specs.declared.fault.Fault.{Fault}
 use Rattle.pl_load.specs.declared.fault.Fault.TheVariants.{Usage, Unread, Unloaded, Unwritten, Memory}
 use Rattle.pl_load.specs.Contents.{Contents}

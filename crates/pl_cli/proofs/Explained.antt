@@ -15,7 +15,8 @@ use Rattle.pl_terms.specs.Checked.{pipeline_of}
 use Rattle.pl_world.specs.declared.owned.OwnedWorld.{OwnedWorld}
 use Rattle.pl_world.specs.declared.world.World as lent
 use Rattle.pl_world.specs.Worlds.{owned_world, world_of}
-use Rattle.pl_words.specs.Request.{Explain, ExplainRequest}
+use Rattle.pl_words.specs.declared.request.ExplainRequest.{ExplainRequest}
+use Rattle.pl_words.specs.declared.request.Request.TheVariants.{Explain}
 use Rattle.pl_load.specs.declared.fault.Fault.{Fault}
 use Rattle.pl_load.specs.declared.fault.Fault.TheVariants.{Passed, Memory}
 use Rattle.pl_load.specs.declared.fault.Limit.TheVariants as limits

@@ -1,10 +1,9 @@
 -- From the end of a command to the status and the line of the program.
-use Rattle.std.proofs.Common.{◌≡◌, ◌⊎◌, inl, inr, ℕ, List, [], ◌++◌, length, Bool, arith, IsTrue, IsSome, Option, Some, None, Result, Ok, Err, refl, ◌∙◌, append-nil, MatchOption, option_map, Bor}
+use Rattle.std.proofs.Common.{◌≡◌, ◌⊎◌, inl, inr, ℕ, List, [], ◌++◌, length, Bool, arith, IsTrue, IsSome, Option, Some, None, Result, Ok, Err, refl, ◌∙◌, append-nil, option_map, Bor}
 use Rattle.std.specs.Option.{option_copied}
 use Rattle.pl_outside.specs.Taken.{IsTold}
-use Rattle.pl_words.specs.Request.{Request, adjustments_of}
-use Rattle.pl_words.specs.Views.{request_of}
-use Rattle.pl_words.specs.declared.request.Request.{Request as Code}
+use Rattle.pl_words.specs.declared.request.Request.{Request}
+use Rattle.pl_words.specs.Request.{adjustments_of}
 use Rattle.pl_load.specs.declared.fault.Fault.{Fault}
 use Rattle.pl_load.specs.declared.fault.Fault.TheVariants.{Unread, Unloaded, Unwritten, Passed, Memory}
 use Rattle.pl_load.specs.Faults.{status_of, line_of, judged_status, judged_line}
@@ -163,19 +162,9 @@ run-of o asked r status e h = rw e (run-is o asked r h)
 
 -- ---- what is asked for
 
-pub asked-lent : (words : Option Request) (asked : Option Code) (lent : Option (Bor Code)) → MatchOption asked (words ≡ None) (λ r. words ≡ Some (request_of r))
-    → option_copied lent ≡ asked → words ≡ option_map (λ q. request_of q.now) lent
-asked-lent words asked None h e = let g = rw (← e) at h in g
-asked-lent words asked (Some r) h e = let g = rw (← e) at h in g
-
--- the words ask for what was read of them
-pub asked-is : (words : Option Request) (asked : Option Code) → MatchOption asked (words ≡ None) (λ r. words ≡ Some (request_of r)) → words ≡ option_map request_of asked
-asked-is words None h = h
-asked-is words (Some r) h = h
-
-pub asked-borrowed : (asked : Option Code) (lent : Option (Bor Code)) → option_copied lent ≡ asked → option_map (λ q. request_of q.now) lent ≡ option_map request_of asked
-asked-borrowed asked None e = rw (← e) refl
-asked-borrowed asked (Some q) e = rw (← e) refl
+pub asked-borrowed : (asked : Option Request) (lent : Option (Bor Request)) → option_copied lent ≡ asked → option_map (λ q. q.now) lent ≡ asked
+asked-borrowed asked None e = e
+asked-borrowed asked (Some q) e = e
 
 -- the run, by the words and by what was read of them
 pub run-as : (o : Outside) (words lent asked : Option Request) (status : ℕ) (f : Option Fault) (numbers : List ℕ) → words ≡ lent → words ≡ asked

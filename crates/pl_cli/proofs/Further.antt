@@ -4,7 +4,9 @@ use Rattle.pl_spec.specs.declared.AssetRow.{AssetRow}
 use Rattle.pl_spec.specs.declared.BarRow.{BarRow}
 use Rattle.pl_payouts.specs.declared.reading.Dividend.{Dividend}
 use Rattle.pl_payouts.specs.Texts.{payouts_text}
-use Rattle.pl_words.specs.Request.{Bench, BenchRequest, Payouts, PayoutsRequest}
+use Rattle.pl_words.specs.declared.request.BenchRequest.{BenchRequest}
+use Rattle.pl_words.specs.declared.request.PayoutsRequest.{PayoutsRequest}
+use Rattle.pl_words.specs.declared.request.Request.TheVariants.{Bench, Payouts}
 use Rattle.pl_bench.specs.Numbers.{TakesSteps as TakesBenchSteps, bench_line}
 use Rattle.pl_load.specs.declared.fault.Fault.{Fault}
 use Rattle.pl_load.specs.declared.fault.Fault.TheVariants.{Unwritten, Memory}

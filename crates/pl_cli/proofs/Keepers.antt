@@ -6,7 +6,10 @@ use Rattle.std.proofs.lemmas.List.Folds.{list_all-append}
 use Rattle.pl_spec.specs.declared.AssetRow.{AssetRow}
 use Rattle.pl_outside.specs.declared.keeper.Table.{Table}
 use Rattle.pl_words.specs.declared.request.InputFile.TheVariants.{Labels as LabelsFile, Numbers as NumbersFile, Results as ResultsFile, Revisions as RevisionsFile, Derivation as DerivationFile}
-use Rattle.pl_words.specs.Request.{Request, Run, Explain, Verify, Daily, Cut, Windows, WorldNames, adjustments_of}
+use Rattle.pl_words.specs.declared.request.Request.{Request}
+use Rattle.pl_words.specs.declared.request.WorldNames.{WorldNames}
+use Rattle.pl_words.specs.declared.request.Request.TheVariants.{Run, Explain, Verify, Daily, Cut, Windows}
+use Rattle.pl_words.specs.Request.{adjustments_of}
 use Rattle.pl_load.specs.Cells.{cell_steps, lines_step}
 use Rattle.pl_load.specs.Contents.{Contents}
 use Rattle.pl_load.specs.Held.{assets_held, days_held, numbers_asked, pipeline_held, world_held}

@@ -10,7 +10,8 @@ use Rattle.pl_terms.specs.Checked.{pipeline_of}
 use Rattle.pl_planner.specs.Plans.{Planned}
 use Rattle.pl_runner.specs.Runs.{run_steps}
 use Rattle.pl_words.specs.declared.request.InputFile.TheVariants as files
-use Rattle.pl_words.specs.Request.{Run, Fmt, Check, RunRequest}
+use Rattle.pl_words.specs.declared.request.RunRequest.{RunRequest}
+use Rattle.pl_words.specs.declared.request.Request.TheVariants.{Run, Fmt, Check}
 use Rattle.pl_load.specs.Contents.{Contents}
 use Rattle.pl_load.specs.Held.{script_in, pipeline_in, pipeline_held, world_held}
 use Rattle.pl_load.specs.Known.{world_known}

@@ -8,7 +8,8 @@ use Rattle.pl_terms.specs.Checked.{pipeline_of}
 use Rattle.pl_terms.specs.Uses.{outputs, is_used, uses}
 use Rattle.pl_planner.specs.Plans.{Planned, IsPlanOf, extra}
 use Rattle.pl_planner.specs.Text.{line_at, line_of, lines_text, last_line, plan_text}
-use Rattle.pl_words.specs.Request.{PlanRequest, Plan}
+use Rattle.pl_words.specs.declared.request.PlanRequest.{PlanRequest}
+use Rattle.pl_words.specs.declared.request.Request.TheVariants.{Plan}
 use Rattle.std.specs.Prelude.{Some}
 use Rattle.pl_load.specs.Contents.{Contents}
 use Rattle.pl_load.specs.Held.{pipeline_held, days_held}

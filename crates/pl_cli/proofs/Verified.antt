@@ -6,7 +6,8 @@ use Rattle.pl_derivation.specs.Lines.{Line}
 use Rattle.pl_derivation.specs.Right.{first_wrong}
 use Rattle.pl_terms.specs.Checked.{pipeline_of}
 use Rattle.pl_world.specs.Worlds.{owned_world}
-use Rattle.pl_words.specs.Request.{Verify, VerifyRequest}
+use Rattle.pl_words.specs.declared.request.VerifyRequest.{VerifyRequest}
+use Rattle.pl_words.specs.declared.request.Request.TheVariants.{Verify}
 use Rattle.pl_load.specs.Contents.{Contents}
 use Rattle.pl_load.specs.declared.derivations.LoadedDerivation.{LoadedDerivation}
 use Rattle.pl_load.specs.Derived.{IsDerivationHeld}

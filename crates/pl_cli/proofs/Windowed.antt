@@ -3,7 +3,8 @@ use Rattle.std.proofs.Common.{◌≡◌, ℕ, Some, refl}
 use Rattle.pl_spec.specs.declared.Column.{Column}
 use Rattle.pl_spec.specs.World.{World}
 use Rattle.pl_windows.specs.Windows.{windows_text}
-use Rattle.pl_words.specs.Request.{Windows, WindowsRequest}
+use Rattle.pl_words.specs.declared.request.WindowsRequest.{WindowsRequest}
+use Rattle.pl_words.specs.declared.request.Request.TheVariants.{Windows}
 use Rattle.pl_load.specs.Contents.{Contents}
 use Rattle.pl_load.specs.Held.{days_held, world_held}
 use Rattle.pl_load.specs.Range.{index_of}

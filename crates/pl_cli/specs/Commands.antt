@@ -1,5 +1,5 @@
 -- How a command ends, in the words of the code.
-use Rattle.std.specs.Prelude.{◌≡◌, ℕ, ◌+◌, ◌≤◌, List, [], length, Bool, if◌then◌else◌, IsTrue, Option, Some, None, option_map, Result, Ok, Err, OnOk, IfOk, IfErr}
+use Rattle.std.specs.Prelude.{◌≡◌, ℕ, ◌+◌, ◌≤◌, List, [], length, Bool, if◌then◌else◌, IsTrue, Option, Some, None, Result, Ok, Err, OnOk, IfOk, IfErr}
 use Rattle.pl_spec.specs.declared.Column.{Column}
 use Rattle.pl_spec.specs.declared.Format.{Format}
 use Rattle.pl_pipeline.specs.Table.{table}
@@ -8,8 +8,8 @@ use Rattle.pl_outside.specs.Counts.{Rose, count_plus}
 use Rattle.pl_outside.specs.Files.{BeginsAll}
 use Rattle.pl_outside.specs.Taken.{TakesAll, TakesPrefix}
 use Rattle.pl_terms.specs.Checked.{pipeline_of}
-use Rattle.pl_words.specs.Request.{Request, name_asked, adjustments_of}
-use Rattle.pl_words.specs.Views.{request_of}
+use Rattle.pl_words.specs.declared.request.Request.{Request}
+use Rattle.pl_words.specs.Request.{name_asked, adjustments_of}
 use Rattle.pl_load.specs.declared.fault.Fault.{Fault}
 use Rattle.pl_load.specs.declared.fault.Fault.TheVariants.{Usage, Unread, Unloaded, Unwritten}
 use Rattle.pl_load.specs.Contents.{Contents, AreHeld}
@@ -83,7 +83,7 @@ abbrev pub outcome_status : Outcome → ℕ
 outcome_status a = judged_status (fault_of a.ended)
 
 abbrev pub outcome_line : Outcome → List ℕ
-outcome_line a = judged_line (option_map request_of a.asked) (fault_of a.ended)
+outcome_line a = judged_line a.asked (fault_of a.ended)
 
 abbrev pub outcome_numbers : Outcome → List ℕ
 outcome_numbers a = line_of_numbers a.ended

@@ -3,7 +3,8 @@ use Rattle.std.specs.Prelude.{◌≡◌, ◌⊎◌, ℕ, ◌+◌, ◌≤◌, Lis
 use Rattle.pl_outside.specs.Files.{BeginsAll}
 use Rattle.pl_outside.specs.Counts.{count_plus}
 use Rattle.pl_outside.specs.Taken.{TakesAll, TakesPrefix}
-use Rattle.pl_words.specs.Request.{Request, name_asked, adjustments_of}
+use Rattle.pl_words.specs.declared.request.Request.{Request}
+use Rattle.pl_words.specs.Request.{name_asked, adjustments_of}
 use Rattle.pl_load.specs.declared.fault.Fault.{Fault}
 use Rattle.pl_load.specs.Contents.{Contents, AreHeld}
 use Rattle.pl_load.specs.Faults.{status_of}

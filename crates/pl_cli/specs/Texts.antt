@@ -22,7 +22,12 @@ use Rattle.pl_runner.specs.Runs.{run_steps}
 use Rattle.pl_runner.specs.Feeds.{daily_steps}
 use Rattle.pl_world.specs.Present.{has_numbers, present_numbers}
 use Rattle.pl_words.specs.declared.request.InputFile.TheVariants.{Pipeline as PipelineFile}
-use Rattle.pl_words.specs.Request.{Request, Run, Fmt, Check, Plan, Bench, Payouts, Explain, Verify, Daily, Cut, Windows, RunRequest, ExplainRequest, CutRequest, WindowsRequest}
+use Rattle.pl_words.specs.declared.request.Request.{Request}
+use Rattle.pl_words.specs.declared.request.RunRequest.{RunRequest}
+use Rattle.pl_words.specs.declared.request.ExplainRequest.{ExplainRequest}
+use Rattle.pl_words.specs.declared.request.CutRequest.{CutRequest}
+use Rattle.pl_words.specs.declared.request.WindowsRequest.{WindowsRequest}
+use Rattle.pl_words.specs.declared.request.Request.TheVariants.{Run, Fmt, Check, Plan, Bench, Payouts, Explain, Verify, Daily, Cut, Windows}
 use Rattle.pl_windows.specs.Windows.{windows_text}
 use Rattle.pl_words.specs.declared.request.WorldPart.{WorldPart}
 use Rattle.pl_words.specs.declared.request.WorldPart.TheVariants as parts

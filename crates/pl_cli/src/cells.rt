@@ -8,8 +8,8 @@ ghost use Rattle.pl_derivation.specs.Walks.{derivation, facts_for};
 ghost use Rattle.pl_derivation.specs.declared.error.ExplainError.TheVariants.{TooLong};
 ghost use Rattle.pl_world.specs.Worlds.{owned_world};
 ghost use Rattle.pl_terms.specs.Checked.{pipeline_of};
-ghost use Rattle.pl_words.specs.Request.{Explain, ExplainRequest as Asked};
-ghost use Rattle.pl_words.specs.Views.{explain_of};
+ghost use Rattle.pl_words.specs.declared.request.ExplainRequest.{ExplainRequest as Asked};
+ghost use Rattle.pl_words.specs.declared.request.Request.TheVariants.{Explain};
 ghost use Rattle.pl_load.specs.Views.{ShelfView, KeeperView, Change, unchanged, shelf_change, keeper_change};
 ghost use Rattle.pl_load.specs.Celled.{IsCellLoad, IsExplainable};
 ghost use Rattle.pl_cli.specs.Commands.{IsAnswered};
@@ -40,7 +40,7 @@ pub fn explain_command<S: Shelf, K: AdjustKeeper, O: Sink>(
         → IsAnswered (shelf_change S.Shelf shelf.old shelf.new)
         (keeper_change K.AdjustKeeper keeper.old keeper.new)
         (sink_change O.Sink out.old out.new) (unchanged steps)
-        (Some (Explain (explain_of request.now))) result }
+        (Some (Explain request.now)) result }
 {
     let loaded = load_cell(alloc, request, shelf, keeper)?;
     write_cell(alloc, &loaded, out)

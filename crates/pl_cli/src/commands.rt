@@ -2,8 +2,8 @@
 
 ghost use Rattle.std.specs.Prelude.{◌≡◌, ◌≤◌, ◌+◌, ◌⊎◌, ℕ, if◌then◌else◌, [], None, Some, OnOk, IfOk, IfErr, IsErrOf, flat_map};
 ghost use Rattle.pl_outside.specs.Taken.{Writes};
-ghost use Rattle.pl_words.specs.Request.{Run, Fmt, Check, Plan, IsChunk};
-ghost use Rattle.pl_words.specs.Views.{run_of, plan_of};
+ghost use Rattle.pl_words.specs.declared.request.Request.TheVariants.{Run, Fmt, Check, Plan};
+ghost use Rattle.pl_words.specs.Request.{IsChunk};
 ghost use Rattle.pl_load.specs.Views.{KeeperView, change, unchanged, shelf_change, keeper_change};
 ghost use Rattle.pl_load.specs.Loads.{IsReadyRun};
 ghost use Rattle.pl_terms.specs.Checked.{pipeline_of};
@@ -22,7 +22,7 @@ use pl_runner::{RunError, RunReport, run_table};
 use pl_syntax::print;
 use pl_table::Numbers;
 use pl_terms::Checked;
-use pl_words::{Options, PlanRequest, RunRequest};
+use pl_words::{Options, PlanRequest, RunRequest, Word};
 use std::alloc::Global;
 use std::sync::ledger::Ledger;
 
@@ -46,11 +46,11 @@ pub fn run_command<S: Shelf, K: AdjustKeeper, O: Sink, L: Ledger>(
     out: &mut O,
     steps: &mut Steps<L>,
 ) -> Result<Option<Stats>, Fault>
-    requires chunk { IsChunk (run_of request.now).options.chunk }
+    requires chunk { IsChunk request.now.options.chunk }
     ensures { IsAnswered (shelf_change S.Shelf shelf.old shelf.new)
         (keeper_change K.AdjustKeeper keeper.old keeper.new)
         (sink_change O.Sink out.old out.new)
-        (change steps.old steps.new) (Some (Run (run_of request.now))) result }
+        (change steps.old steps.new) (Some (Run request.now)) result }
 {
     let loaded = load(alloc, request, shelf, keeper)?;
     write_loaded(alloc, &loaded, &request.options, out, steps)
@@ -120,7 +120,7 @@ fn stats_of(asked: bool, report: &RunReport, loaded: &Loaded) -> Option<Stats>
 /// language are not judged.
 pub fn fmt_command<S: Shelf, O: Sink>(
     alloc: Global,
-    name: &str,
+    name: &Word<'_>,
     shelf: &mut S,
     out: &mut O,
 ) -> Result<Option<Stats>, Fault>
@@ -139,7 +139,7 @@ pub fn fmt_command<S: Shelf, O: Sink>(
 /// terms, C columns` and a line end. It gives no numbers. The fault is the first one in the order of work.
 pub fn check_command<S: Shelf, O: Sink>(
     alloc: Global,
-    name: &str,
+    name: &Word<'_>,
     shelf: &mut S,
     out: &mut O,
 ) -> Result<Option<Stats>, Fault>
@@ -165,7 +165,7 @@ pub fn plan_command<S: Shelf, O: Sink>(
     ensures { (keeper : KeeperView) (steps : ℕ)
         → IsAnswered (shelf_change S.Shelf shelf.old shelf.new)
         (unchanged keeper) (sink_change O.Sink out.old out.new)
-        (unchanged steps) (Some (Plan (plan_of request.now))) result }
+        (unchanged steps) (Some (Plan request.now)) result }
 {
     let planned = load_plan(alloc, request, shelf)?;
     let text = plan_text(alloc, &planned.checked, &planned.plan)?;

@@ -2,8 +2,7 @@
 
 ghost use Rattle.std.specs.Prelude.{◌≡◌, ◌≤◌, ◌+◌, ◌⊎◌, None, Some, OnOk, IfOk, IfErr, IsErrOf};
 ghost use Rattle.pl_outside.specs.Taken.{Writes};
-ghost use Rattle.pl_words.specs.Request.{Daily};
-ghost use Rattle.pl_words.specs.Views.{run_of};
+ghost use Rattle.pl_words.specs.declared.request.Request.TheVariants.{Daily};
 ghost use Rattle.pl_load.specs.Views.{change, shelf_change, keeper_change};
 ghost use Rattle.pl_load.specs.Loads.{IsReadyRun};
 ghost use Rattle.pl_cli.specs.Commands.{IsAnswered, loaded_text, loaded_days};
@@ -33,7 +32,7 @@ pub fn daily_command<S: Shelf, K: AdjustKeeper, O: Sink, L: Ledger>(
     ensures { IsAnswered (shelf_change S.Shelf shelf.old shelf.new)
         (keeper_change K.AdjustKeeper keeper.old keeper.new)
         (sink_change O.Sink out.old out.new)
-        (change steps.old steps.new) (Some (Daily (run_of request.now))) result }
+        (change steps.old steps.new) (Some (Daily request.now)) result }
 {
     let loaded = load(alloc, request, shelf, keeper)?;
     write_days(alloc, &loaded, request.options.format, out, steps)

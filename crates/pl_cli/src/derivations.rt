@@ -5,8 +5,8 @@ ghost use Rattle.pl_outside.specs.Taken.{Writes};
 ghost use Rattle.pl_derivation.specs.Right as spec;
 ghost use Rattle.pl_world.specs.Worlds.{owned_world, IsOwnedMade};
 ghost use Rattle.pl_terms.specs.Checked.{pipeline_of};
-ghost use Rattle.pl_words.specs.Request.{Verify, VerifyRequest as Asked};
-ghost use Rattle.pl_words.specs.Views.{verify_of};
+ghost use Rattle.pl_words.specs.declared.request.VerifyRequest.{VerifyRequest as Asked};
+ghost use Rattle.pl_words.specs.declared.request.Request.TheVariants.{Verify};
 ghost use Rattle.pl_load.specs.Views.{ShelfView, KeeperView, Change, unchanged, shelf_change, keeper_change};
 ghost use Rattle.pl_load.specs.Derived.{IsDerivationLoad};
 ghost use Rattle.pl_cli.specs.Texts.{verdict_text};
@@ -39,7 +39,7 @@ pub fn verify_command<S: Shelf, K: AdjustKeeper, O: Sink>(
         → IsAnswered (shelf_change S.Shelf shelf.old shelf.new)
         (keeper_change K.AdjustKeeper keeper.old keeper.new)
         (sink_change O.Sink out.old out.new) (unchanged steps)
-        (Some (Verify (verify_of request.now))) result }
+        (Some (Verify request.now)) result }
 {
     let loaded = load_derivation(alloc, request, shelf, keeper)?;
     write_judged(alloc, &loaded, out)

@@ -2,8 +2,7 @@
 
 ghost use Rattle.std.specs.Prelude.{◌≡◌, ℕ, Some, IfOk};
 ghost use Rattle.pl_terms.specs.Checked.{pipeline_of};
-ghost use Rattle.pl_words.specs.Request.{Cut};
-ghost use Rattle.pl_words.specs.Views.{cut_of};
+ghost use Rattle.pl_words.specs.declared.request.Request.TheVariants.{Cut};
 ghost use Rattle.pl_load.specs.Loads.{IsReadyRun};
 ghost use Rattle.pl_load.specs.Views.{unchanged, shelf_change, keeper_change};
 ghost use Rattle.pl_parts.specs.Spans.{span_of};
@@ -41,7 +40,7 @@ pub fn cut_command<S: Shelf, K: AdjustKeeper, O: Sink>(
         → IsAnswered (shelf_change S.Shelf shelf.old shelf.new)
         (keeper_change K.AdjustKeeper keeper.old keeper.new)
         (sink_change O.Sink out.old out.new) (unchanged steps)
-        (Some (Cut (cut_of request.now))) result }
+        (Some (Cut request.now)) result }
 {
     let loaded = load(alloc, &request.table, shelf, keeper)?;
     let text = loaded_text(alloc, &loaded, request.part)?;

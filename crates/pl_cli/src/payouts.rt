@@ -2,8 +2,7 @@
 
 ghost use Rattle.std.specs.Prelude.{◌≡◌, ℕ, None, Some, IfOk, IfErr};
 ghost use Rattle.pl_outside.specs.Taken.{Writes};
-ghost use Rattle.pl_words.specs.Request.{Payouts};
-ghost use Rattle.pl_words.specs.Views.{payouts_of};
+ghost use Rattle.pl_words.specs.declared.request.Request.TheVariants.{Payouts};
 ghost use Rattle.pl_payouts.specs.Texts.{payouts_text};
 ghost use Rattle.pl_load.specs.Views.{KeeperView, unchanged, shelf_change};
 ghost use Rattle.pl_load.specs.PaidOut.{IsPayable};
@@ -30,7 +29,7 @@ pub fn payouts_command<S: Shelf, O: Sink>(
     ensures { (keeper : KeeperView) (steps : ℕ)
         → IsAnswered (shelf_change S.Shelf shelf.old shelf.new)
         (unchanged keeper) (sink_change O.Sink out.old out.new)
-        (unchanged steps) (Some (Payouts (payouts_of request.now))) result }
+        (unchanged steps) (Some (Payouts request.now)) result }
 {
     let loaded = load_payouts(alloc, request, shelf)?;
     write_loaded_payouts(alloc, &loaded, out)

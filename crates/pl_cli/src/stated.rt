@@ -2,8 +2,8 @@
 
 ghost use Rattle.std.specs.Prelude.{◌≡◌, ◌+◌, ◌⊎◌, None, Some, IfOk, IfErr, IsErrOf};
 ghost use Rattle.pl_outside.specs.Taken.{Writes};
-ghost use Rattle.pl_words.specs.Request.{Bench, IsChunk};
-ghost use Rattle.pl_words.specs.Views.{bench_of};
+ghost use Rattle.pl_words.specs.declared.request.Request.TheVariants.{Bench};
+ghost use Rattle.pl_words.specs.Request.{IsChunk};
 ghost use Rattle.pl_bench.specs.Numbers.{TakesSteps, bench_line};
 ghost use Rattle.pl_load.specs.Views.{ShelfView, KeeperView, change, unchanged};
 ghost use Rattle.pl_cli.specs.Commands.{IsAnswered};
@@ -27,12 +27,12 @@ pub fn bench_command<O: Sink, L: Ledger>(
     out: &mut O,
     steps: &mut Steps<L>,
 ) -> Result<Option<Stats>, Fault>
-    requires chunk { IsChunk (bench_of request.now).chunk }
+    requires chunk { IsChunk request.now.chunk }
     // whatever a shelf and a keeper tell
     ensures { (shelf : ShelfView) (keeper : KeeperView)
         → IsAnswered (unchanged shelf) (unchanged keeper)
         (sink_change O.Sink out.old out.new)
-        (change steps.old steps.new) (Some (Bench (bench_of request.now))) result }
+        (change steps.old steps.new) (Some (Bench request.now)) result }
 {
     write_bench(alloc, request, out, steps)
 }

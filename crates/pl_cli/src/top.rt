@@ -5,7 +5,6 @@ ghost use Rattle.pl_outside.specs.Counts.{Rose};
 ghost use Rattle.pl_outside.specs.Left.{Leaves, LeavesSink, IsUntouched};
 ghost use Rattle.pl_outside.specs.Taken.{IsTold};
 ghost use Rattle.pl_words.specs.Request.{HasChunk, request, adjustments_of};
-ghost use Rattle.pl_words.specs.Views.{request_of};
 ghost use Rattle.pl_cli.specs.Runs.{IsRun};
 ghost use Rattle.pl_load.specs.Views.{change, shelf_change, keeper_change};
 ghost use Rattle.pl_cli.specs.Commands.{IsAnswered, outcome_line, outcome_numbers, outcome_status, fault_of, line_of_numbers};
@@ -196,11 +195,11 @@ fn answer<S: Shelf, K: AdjustKeeper, O: Sink, L: Ledger>(
     out: &mut O,
     steps: &mut Steps<L>,
 ) -> Result<Option<Stats>, Fault>
-    requires chunk { IfSome (option_map (λ q. request_of q.now) asked) HasChunk }
+    requires chunk { IfSome (option_map (λ q. q.now) asked) HasChunk }
     ensures { IsAnswered (shelf_change S.Shelf shelf.old shelf.new)
         (keeper_change K.AdjustKeeper keeper.old keeper.new)
         (sink_change O.Sink out.old out.new)
-        (change steps.old steps.new) (option_map (λ q. request_of q.now) asked.entry) result }
+        (change steps.old steps.new) (option_map (λ q. q.now) asked.entry) result }
 {
     match asked {
         None => Err(Fault::Usage),
@@ -225,7 +224,7 @@ fn tell_ended<E: Sink>(
     err: &mut E,
 )
     ensures told { IsTold E.taken E.faults E.sound E.room err.old err.new
-        (judged_line (option_map (λ q. request_of q.now) asked.entry) (fault_of ended)
+        (judged_line (option_map (λ q. q.now) asked.entry) (fault_of ended)
         ++ line_of_numbers ended) }
     ensures err { LeavesSink E.sound E.faults err.old err.new }
 {

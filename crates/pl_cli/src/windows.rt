@@ -2,8 +2,8 @@
 
 ghost use Rattle.std.specs.Prelude.{◌≡◌, ◌<◌, ◌≤◌, ◌⊎◌, ℕ, None, Some, IfOk, IfErr, IsErrOf};
 ghost use Rattle.pl_outside.specs.Taken.{Writes};
-ghost use Rattle.pl_words.specs.Request.{IsWindow, Windows};
-ghost use Rattle.pl_words.specs.Views.{windows_of};
+ghost use Rattle.pl_words.specs.declared.request.Request.TheVariants.{Windows};
+ghost use Rattle.pl_words.specs.Request.{IsWindow};
 ghost use Rattle.pl_load.specs.Views.{unchanged, shelf_change, keeper_change};
 ghost use Rattle.pl_load.specs.Windowed.{HasWindows};
 ghost use Rattle.pl_cli.specs.Commands.{IsAnswered, loaded_windows};
@@ -29,13 +29,13 @@ pub fn windows_command<S: Shelf, K: AdjustKeeper, O: Sink>(
     keeper: &mut K,
     out: &mut O,
 ) -> Result<Option<Stats>, Fault>
-    requires window { IsWindow (windows_of request.now).window }
+    requires window { IsWindow request.now.window }
     // however many steps were counted
     ensures { (steps : ℕ)
         → IsAnswered (shelf_change S.Shelf shelf.old shelf.new)
         (keeper_change K.AdjustKeeper keeper.old keeper.new)
         (sink_change O.Sink out.old out.new) (unchanged steps)
-        (Some (Windows (windows_of request.now))) result }
+        (Some (Windows request.now)) result }
 {
     let loaded = load_windows(alloc, request, shelf, keeper)?;
     write_loaded::<O, Brand>(

@@ -22,7 +22,7 @@ use Rattle.pl_terms.specs.Nodes.{number_of}
 use Rattle.pl_terms.specs.Uses.{outputs, is_used}
 use Rattle.pl_terms.proofs.Graphs.{graph-long, column-there, column-output}
 use Rattle.pl_words.specs.declared.request.RangeDate.TheVariants.{At}
-use Rattle.pl_words.specs.Request.{ExplainRequest}
+use Rattle.pl_words.specs.declared.request.ExplainRequest.{ExplainRequest}
 use Rattle.pl_load.specs.declared.fault.Fault.TheVariants.{NotSession, UnknownSid, UnknownColumn, TooEarly, Passed}
 use Rattle.pl_load.specs.declared.fault.Limit.TheVariants as limits
 use Rattle.pl_load.specs.Cells.{asset_of, cell_steps, column_term, lines_step, term_reach}

@@ -8,7 +8,7 @@ use Rattle.pl_numbers.specs.Numbers.{NumberTable}
 use Rattle.pl_world.specs.declared.owned.OwnedWorld.{OwnedWorld}
 use Rattle.pl_world.specs.Worlds.{owned_world}
 use Rattle.pl_words.specs.declared.request.InputFile.TheVariants.{Sessions, Assets, Labels, Numbers, Results, Bars, Revisions}
-use Rattle.pl_words.specs.Request.{WorldNames}
+use Rattle.pl_words.specs.declared.request.WorldNames.{WorldNames}
 use Rattle.pl_load.specs.Contents.{Contents}
 use Rattle.pl_load.specs.Held.{days_in, assets_in, assets_held, labels_asked, numbers_asked, results_asked, bars_in, adjustments_asked, revised_asked}
 use Rattle.pl_load.specs.declared.loading.WorldRows.{WorldRows}

@@ -1,8 +1,8 @@
 -- The reading of a file.
-use Rattle.std.proofs.Common.{◌≡◌, ◌⊎◌, inl, inr, ℕ, ◌+◌, ◌≤◌, ◌<◌, Bool, true, false, IsTrue, nat_lt, List, [], ◌∷◌, length, Option, Some, None, IfSome, IsSomeAnd, Result, Ok, Err, Vec, refl, sym, ap, ◌∙◌, arith, replicate}
+use Rattle.std.proofs.Common.{◌≡◌, ◌⊎◌, inl, inr, ℕ, ◌+◌, ◌≤◌, ◌<◌, Bool, true, false, IsTrue, nat_lt, List, [], ◌∷◌, length, Option, Some, None, option_map, Bor, IfSome, IsSomeAnd, Result, Ok, Err, Vec, refl, sym, ap, ◌∙◌, arith, replicate}
 use Rattle.std.specs.declared.alloc.Global.{Global}
 use Rattle.std.specs.Prelude.{option_and_then, option_to_list}
-use Rattle.std.specs.Option.{ForSome, option_or}
+use Rattle.std.specs.Option.{ForSome, option_copied, option_or}
 use Rattle.std.proofs.lemmas.Bool.Decides.{nat_tests}
 use Rattle.std.proofs.lemmas.List.{length-replicate}
 use Rattle.pl_records.specs.Reading as reading
@@ -27,6 +27,11 @@ use Rattle.pl_load.proofs.Given.{file-whole, file-fails, file-cut, cut-long}
 use Rattle.pl_load.specs.Reads.{IsRead, IsPassedOn, no_rule}
 use Rattle.pl_load.specs.Views.{ShelfView, Change, change, ShelfLeft}
 use Rattle.pl_load.proofs.Calls.{shelf-same, begins-none}
+
+-- what is lent, where it is asked for
+pub lent : {A : Type 0} (o : Option (Bor A)) (asked : Option A) → option_copied o ≡ asked → option_map (λ x. x.now) o ≡ asked
+lent None asked e = e
+lent (Some x) asked e = e
 
 -- ---- a file of which nothing is known but what the shelf tells
 

@@ -11,7 +11,8 @@ use Rattle.pl_outside.specs.declared.keeper.Table.{Table}
 use Rattle.pl_numbers.specs.Numbers.{NumberTable}
 use Rattle.pl_words.specs.declared.request.InputFile.{InputFile}
 use Rattle.pl_words.specs.declared.request.InputFile.TheVariants.{Pipeline, Sessions, Assets, Labels, Numbers, Results, Bars, Revisions, Payouts, Derivation}
-use Rattle.pl_words.specs.Request.{Request, name_asked, adjustments_of}
+use Rattle.pl_words.specs.declared.request.Request.{Request}
+use Rattle.pl_words.specs.Request.{name_asked, adjustments_of}
 use Rattle.pl_load.specs.declared.fault.Fault.{Fault}
 use Rattle.pl_load.specs.declared.fault.Fault.TheVariants.{Memory}
 use Rattle.pl_load.specs.Contents.{Contents, AreHeld}

@@ -12,12 +12,17 @@ use Rattle.pl_world.specs.Worlds.{owned_world}
 use Rattle.pl_world.specs.declared.owned.OwnedWorld.{OwnedWorld}
 use Rattle.pl_planner.specs.Plans.{Planned, IsPlanOf}
 use Rattle.pl_planner.proofs.Calendars.{plan-same}
-use Rattle.pl_words.specs.Request.{Dated, RunRequest, ExplainRequest, VerifyRequest, WindowsRequest, Run, Explain, Verify, Windows}
+use Rattle.pl_words.specs.declared.request.DateWord.{DateWord}
+use Rattle.pl_words.specs.declared.request.RunRequest.{RunRequest}
+use Rattle.pl_words.specs.declared.request.ExplainRequest.{ExplainRequest}
+use Rattle.pl_words.specs.declared.request.VerifyRequest.{VerifyRequest}
+use Rattle.pl_words.specs.declared.request.WindowsRequest.{WindowsRequest}
+use Rattle.pl_words.specs.declared.request.Request.TheVariants.{Run, Explain, Verify, Windows}
 use Rattle.pl_load.specs.Range.{IsDateOf, index_asked, index_of}
 use Rattle.pl_load.specs.Loads.{AsksWorld, IsKnown}
 
 -- the world as of a date, of contents that are those of the parts
-pub world-known : (date : Option Dated) (days : List ℤ) (held : World) (w v : OwnedWorld) (session : Option ℕ) → days ≡ w.sessions → held ≡ owned_world w
+pub world-known : (date : Option DateWord) (days : List ℤ) (held : World) (w v : OwnedWorld) (session : Option ℕ) → days ≡ w.sessions → held ≡ owned_world w
     → session ≡ index_asked w.sessions date → IsDateOf w.sessions session date → IsKnown w session v
     → unwrap_or (option_map (λ d. as_of held (index_of days d.day) d.day) date) held ≡ owned_world v
 world-known None days held w v None e f k at known = f ∙ sym (ap owned_world known)

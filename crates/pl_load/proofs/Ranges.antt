@@ -15,7 +15,7 @@ use Rattle.pl_planner.specs.declared.plans.PlanError.{PlanError}
 use Rattle.pl_planner.specs.declared.plans.PlanError.TheVariants as errors
 use Rattle.pl_planner.specs.Plans.{Planned, IsPlanOf, IsPlanFault}
 use Rattle.pl_words.specs.declared.request.RangeDate.TheVariants.{From, To, AsOf}
-use Rattle.pl_words.specs.Request.{Dated}
+use Rattle.pl_words.specs.declared.request.DateWord.{DateWord}
 use Rattle.pl_load.specs.declared.fault.Fault.TheVariants.{NotSession, Backwards, TooEarly}
 use Rattle.pl_load.specs.Rules.{plan_error}
 use Rattle.pl_load.specs.Steps.{first_fault}
@@ -26,7 +26,7 @@ use Rattle.pl_load.proofs.Planned.{too-deep, not-deep}
 
 -- ---- the dates
 
-module _ (from to : Dated) (as_of : Option Dated) (days : List ℤ) where
+module _ (from to : DateWord) (as_of : Option DateWord) (days : List ℤ) where
   pub no-from : session_of days from.day ≡ None → first_fault (dates_steps from to as_of days) ≡ Some (NotSession From)
   unfolding dates_steps
   no-from f = rw f refl
@@ -51,7 +51,7 @@ module _ (from to : Dated) (as_of : Option Dated) (days : List ℤ) where
 
 -- ---- the date as of which a run is
 
-module _ (date : Option Dated) (d : Dated) (days : List ℤ) (is : date ≡ Some d) where
+module _ (date : Option DateWord) (d : DateWord) (days : List ℤ) (is : date ≡ Some d) where
   pub known-is : (k : ℕ) → session_of days d.day ≡ Some k → (is_unknown days date ≡ false) × (Some k ≡ index_asked days date)
   known-is k f = rw (is, f) (refl, refl)
 

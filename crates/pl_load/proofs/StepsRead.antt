@@ -5,7 +5,8 @@ use Rattle.pl_spec.specs.declared.AssetRow.{AssetRow}
 use Rattle.pl_pipeline.specs.Table.{Pipeline}
 use Rattle.pl_spec.specs.World.{World}
 use Rattle.pl_words.specs.declared.request.InputFile.{InputFile}
-use Rattle.pl_words.specs.Request.{Dated, ExplainRequest}
+use Rattle.pl_words.specs.declared.request.DateWord.{DateWord}
+use Rattle.pl_words.specs.declared.request.ExplainRequest.{ExplainRequest}
 use Rattle.pl_load.specs.declared.fault.Fault.{Fault}
 use Rattle.pl_load.specs.declared.fault.Fault.TheVariants.{Unread, Unloaded, Memory}
 use Rattle.pl_load.specs.Steps.{Reading, WorkStep, first_fault, reads_in, names_read, tables_read}
@@ -124,7 +125,7 @@ pub quiet : (ss : List WorkStep) → AreRules ss → reads_in ss ≡ []
 quiet [] h = refl
 quiet (s ∷ ss) h = quiet-one s.reads s.fault (reads_in ss) h.0 (quiet ss h.1)
 
-pub dates-quiet : (from to : Dated) (as_of : Option Dated) (days : List ℤ) → reads_in (dates_steps from to as_of days) ≡ []
+pub dates-quiet : (from to : DateWord) (as_of : Option DateWord) (days : List ℤ) → reads_in (dates_steps from to as_of days) ≡ []
 unfolding dates_steps
 dates-quiet from to as_of days = quiet (dates_steps from to as_of days) (refl, (refl, (refl, (refl, tt))))
 

@@ -20,7 +20,8 @@ use Rattle.pl_load.specs.Steps.{Reading, WorkStep, ReachesRead, reads_in, names_
 use Rattle.pl_load.specs.Steps.Source.{Load}
 use Rattle.pl_load.specs.Steps.Reading.{Rows}
 use Rattle.pl_outside.specs.Logs as logs
-use Rattle.pl_words.specs.Request.{Request, adjustments_of}
+use Rattle.pl_words.specs.declared.request.Request.{Request}
+use Rattle.pl_words.specs.Request.{adjustments_of}
 use Rattle.pl_load.specs.Given.{AreGiven, IsUnloadedBy, loaded_table}
 use Rattle.pl_load.proofs.Given.{given-none}
 use Rattle.pl_load.specs.Work.{adjustments_steps, rows_rule}

@@ -7,7 +7,14 @@ use Rattle.pl_world.specs.declared.owned.OwnedWorld.{OwnedWorld}
 use Rattle.pl_planner.specs.Plans.{Planned, IsPlanOf}
 use Rattle.pl_words.specs.declared.request.InputFile.{InputFile}
 use Rattle.pl_words.specs.declared.request.InputFile.TheVariants as file
-use Rattle.pl_words.specs.Request.{Dated, RunRequest, PlanRequest, ExplainRequest, VerifyRequest, WindowsRequest, WorldNames, numbers_named}
+use Rattle.pl_words.specs.declared.request.DateWord.{DateWord}
+use Rattle.pl_words.specs.declared.request.RunRequest.{RunRequest}
+use Rattle.pl_words.specs.declared.request.PlanRequest.{PlanRequest}
+use Rattle.pl_words.specs.declared.request.ExplainRequest.{ExplainRequest}
+use Rattle.pl_words.specs.declared.request.VerifyRequest.{VerifyRequest}
+use Rattle.pl_words.specs.declared.request.WindowsRequest.{WindowsRequest}
+use Rattle.pl_words.specs.declared.request.WorldNames.{WorldNames}
+use Rattle.pl_words.specs.Request.{numbers_named}
 use Rattle.pl_load.specs.declared.fault.Fault.{Fault}
 use Rattle.pl_load.specs.Contents.{Contents}
 use Rattle.pl_load.specs.Held.{pipeline_in, days_in, assets_in, days_held, assets_held}
@@ -57,7 +64,7 @@ after_labels q days assets held = figures_steps assets held q ++ after_numbers q
 
 -- ---- a range
 
-pub range-is : (p : Pipeline) (days : List ℤ) (from to : Dated) (as_of : Option Dated) (a b : ℕ) → a ≡ index_of days from.day → b ≡ index_of days to.day
+pub range-is : (p : Pipeline) (days : List ℤ) (from to : DateWord) (as_of : Option DateWord) (a b : ℕ) → a ≡ index_of days from.day → b ≡ index_of days to.day
     → range_steps p days from to as_of ≡ dates_steps from to as_of days ++ plan_steps p days a b
 range-is p days from to as_of a b e f = ap₂ (λ x y. dates_steps from to as_of days ++ plan_steps p days x y) (sym e) (sym f)
 
@@ -128,7 +135,7 @@ pub windows-world : (q : WindowsRequest) (w : OwnedWorld) (f r : Contents) → I
 unfolding data_steps
 windows-world q w f r m = ap (λ days. data_steps f q.world ++ windows_steps days q.from q.to q.window) m.days
 
-pub windows-dates : (days : List ℤ) (from to : Dated) (size a : ℕ) → a ≡ index_of days from.day
+pub windows-dates : (days : List ℤ) (from to : DateWord) (size a : ℕ) → a ≡ index_of days from.day
     → windows_steps days from to size ≡ dates_steps from to None days ++ first_window_steps size a
 windows-dates days from to size a e = ap (λ x. dates_steps from to None days ++ first_window_steps size x) (sym e)
 

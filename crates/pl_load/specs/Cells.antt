@@ -11,7 +11,7 @@ use Rattle.pl_lifetimes.specs.Assets.{sid_of}
 use Rattle.pl_derivation.specs.Facts.Fact.{TermValue}
 use Rattle.pl_derivation.specs.Walks.{facts_for}
 use Rattle.pl_words.specs.declared.request.RangeDate.TheVariants.{At}
-use Rattle.pl_words.specs.Request.{ExplainRequest}
+use Rattle.pl_words.specs.declared.request.ExplainRequest.{ExplainRequest}
 use Rattle.pl_load.specs.declared.fault.Fault.TheVariants.{NotSession, UnknownSid, UnknownColumn, TooEarly, Passed}
 use Rattle.pl_load.specs.declared.fault.Limit.TheVariants as limits
 use Rattle.pl_load.specs.Range.{session_of, index_of}

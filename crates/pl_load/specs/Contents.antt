@@ -6,7 +6,8 @@ use Rattle.pl_outside.specs.Files.{Files}
 use Rattle.pl_outside.specs.Lists.{Lists}
 use Rattle.pl_outside.specs.declared.keeper.Table.{Table}
 use Rattle.pl_words.specs.declared.request.InputFile.{InputFile}
-use Rattle.pl_words.specs.Request.{Request, name_asked, adjustments_of}
+use Rattle.pl_words.specs.declared.request.Request.{Request}
+use Rattle.pl_words.specs.Request.{name_asked, adjustments_of}
 
 -- the bytes of each file, where there is such a file, and the rows of each table
 pub record Contents : Type 0 where

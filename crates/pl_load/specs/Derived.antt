@@ -2,7 +2,8 @@
 use Rattle.std.specs.Prelude.{◌≡◌, Some, Result}
 use Rattle.pl_terms.specs.Checked.{pipeline_of}
 use Rattle.pl_world.specs.Worlds.{owned_world}
-use Rattle.pl_words.specs.Request.{VerifyRequest, Verify}
+use Rattle.pl_words.specs.declared.request.VerifyRequest.{VerifyRequest}
+use Rattle.pl_words.specs.declared.request.Request.TheVariants.{Verify}
 use Rattle.pl_load.specs.declared.fault.Fault.{Fault}
 use Rattle.pl_load.specs.Contents.{Contents}
 use Rattle.pl_load.specs.Held.{pipeline_held, world_held, derivation_held}

@@ -2,7 +2,7 @@
 use Rattle.std.specs.Prelude.{◌≡◌, ◌⊎◌, ℕ, List, Option, None}
 use Rattle.pl_outside.specs.declared.keeper.Table.{Table}
 use Rattle.pl_words.specs.declared.request.InputFile.{InputFile}
-use Rattle.pl_words.specs.Request.{Request}
+use Rattle.pl_words.specs.declared.request.Request.{Request}
 use Rattle.pl_load.specs.declared.fault.Fault.TheVariants.{Unread, Unloaded, Unwritten, Memory}
 use Rattle.pl_load.specs.declared.fault.Fault.{Fault}
 use Rattle.pl_load.specs.Faults.{status_of, line_of, judged_status, judged_line}

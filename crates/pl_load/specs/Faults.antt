@@ -8,7 +8,8 @@ use Rattle.pl_grammar.specs.declared.Place.{Place}
 use Rattle.pl_words.specs.declared.request.InputFile.{InputFile}
 use Rattle.pl_words.specs.declared.request.InputFile.TheVariants.{Pipeline}
 use Rattle.pl_words.specs.declared.request.RangeDate.{RangeDate}
-use Rattle.pl_words.specs.Request.{Request, name_asked, date_asked, column_asked, adjustments_of}
+use Rattle.pl_words.specs.declared.request.Request.{Request}
+use Rattle.pl_words.specs.Request.{name_asked, date_asked, column_asked, adjustments_of}
 use Rattle.pl_load.specs.declared.fault.SyntaxFault.{SyntaxFault}
 use Rattle.pl_load.specs.declared.fault.SyntaxFault.TheVariants.{BadByte, Unexpected, TooDeep, NumberTooLarge, LongStatement}
 use Rattle.pl_load.specs.declared.fault.RuleFault.{RuleFault}

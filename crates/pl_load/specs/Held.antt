@@ -30,7 +30,7 @@ use Rattle.pl_check.specs.Typed.{typed}
 use Rattle.pl_outside.specs.declared.keeper.Table.{Table}
 use Rattle.pl_outside.specs.declared.keeper.Table.TheVariants.{Splits, Mergers, Dividends}
 use Rattle.pl_words.specs.declared.request.InputFile.TheVariants.{Pipeline as PipelineFile, Sessions, Assets, Labels, Numbers, Results, Bars, Revisions, Payouts, Derivation}
-use Rattle.pl_words.specs.Request.{WorldNames}
+use Rattle.pl_words.specs.declared.request.WorldNames.{WorldNames}
 use Rattle.pl_load.specs.Contents.{Contents}
 
 abbrev pub bytes_in : Option (List ℕ) → List ℕ

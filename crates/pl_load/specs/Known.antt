@@ -2,7 +2,7 @@
 use Rattle.std.specs.Prelude.{option_map, unwrap_or}
 use Rattle.pl_spec.specs.World.{World}
 use Rattle.pl_spec.specs.AsOf.{as_of}
-use Rattle.pl_words.specs.Request.{RunRequest}
+use Rattle.pl_words.specs.declared.request.RunRequest.{RunRequest}
 use Rattle.pl_load.specs.Contents.{Contents}
 use Rattle.pl_load.specs.Held.{days_held, world_held}
 use Rattle.pl_load.specs.Range.{index_of}

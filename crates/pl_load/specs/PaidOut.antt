@@ -1,7 +1,8 @@
 -- What was loaded of payouts.
 use Rattle.std.specs.Prelude.{◌≡◌, ◌<◌, length, Some, Result, All}
 use Rattle.pl_payouts.specs.Payouts.{AreKnown}
-use Rattle.pl_words.specs.Request.{PayoutsRequest, Payouts}
+use Rattle.pl_words.specs.declared.request.PayoutsRequest.{PayoutsRequest}
+use Rattle.pl_words.specs.declared.request.Request.TheVariants.{Payouts}
 use Rattle.pl_load.specs.declared.fault.Fault.{Fault}
 use Rattle.pl_load.specs.Contents.{Contents}
 use Rattle.pl_load.specs.Held.{days_held, assets_held, bars_held, payouts_held}

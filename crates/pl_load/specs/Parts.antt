@@ -9,7 +9,11 @@ use Rattle.pl_planner.specs.Plans.{Planned, IsPlanOf}
 use Rattle.pl_world.specs.Known.{ShowsSame}
 use Rattle.pl_world.specs.Worlds.{owned_world}
 use Rattle.pl_words.specs.declared.request.InputFile.TheVariants.{Sessions, Labels, Numbers, Results, Bars, Revisions}
-use Rattle.pl_words.specs.Request.{Request, PlanRequest, RunRequest, WorldNames, Run, Plan}
+use Rattle.pl_words.specs.declared.request.Request.{Request}
+use Rattle.pl_words.specs.declared.request.PlanRequest.{PlanRequest}
+use Rattle.pl_words.specs.declared.request.RunRequest.{RunRequest}
+use Rattle.pl_words.specs.declared.request.WorldNames.{WorldNames}
+use Rattle.pl_words.specs.declared.request.Request.TheVariants.{Run, Plan}
 use Rattle.pl_load.specs.declared.fault.Fault.{Fault}
 use Rattle.pl_load.specs.Contents.{Contents}
 use Rattle.pl_load.specs.Held.{days_held, world_held, labels_asked, numbers_asked, results_asked, bars_in, adjustments_asked, revised_asked}

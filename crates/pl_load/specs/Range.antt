@@ -5,7 +5,7 @@ use Rattle.std.specs.Ordering.{int_eq}
 use Rattle.pl_spec.specs.Window.{before}
 use Rattle.pl_pipeline.specs.Table.{Pipeline}
 use Rattle.pl_words.specs.declared.request.RangeDate.TheVariants.{From, To, AsOf}
-use Rattle.pl_words.specs.Request.{Dated}
+use Rattle.pl_words.specs.declared.request.DateWord.{DateWord}
 use Rattle.pl_load.specs.declared.fault.Fault.TheVariants.{NotSession, Backwards, TooEarly, Passed}
 use Rattle.pl_load.specs.declared.fault.Limit.TheVariants.{Extra}
 use Rattle.pl_load.specs.Planning.{reach_at, is_too_deep}
@@ -18,15 +18,15 @@ abbrev pub index_of : List ℤ → ℤ → ℕ
 index_of days day = unwrap_or (session_of days day) 0
 
 -- a date is given, and no session has it
-abbrev pub is_unknown : List ℤ → Option Dated → Bool
+abbrev pub is_unknown : List ℤ → Option DateWord → Bool
 is_unknown days date = unwrap_or (option_map (λ d. not (is_some (session_of days d.day))) date) false
 
 -- the session of a date that may be given
-abbrev pub index_asked : List ℤ → Option Dated → Option ℕ
+abbrev pub index_asked : List ℤ → Option DateWord → Option ℕ
 index_asked days date = option_map (λ d. index_of days d.day) date
 
 -- the session has the date, where one is given
-abbrev pub IsDateOf : List ℤ → Option ℕ → Option Dated → Type 0
+abbrev pub IsDateOf : List ℤ → Option ℕ → Option DateWord → Type 0
 IsDateOf days None None = ⊤
 IsDateOf days (Some k) (Some d) = slice_get days k ≡ Some d.day
 IsDateOf days (Some k) None = ⊥
@@ -37,7 +37,7 @@ abbrev pub are_backwards : ℕ → ℕ → Option ℕ → Bool
 are_backwards from to as_of = nat_lt to from || unwrap_or (option_map (λ known. nat_lt known to) as_of) false
 
 -- the dates are sessions, in their order
-unfoldable pub dates_steps : Dated → Dated → Option Dated → List ℤ → List WorkStep
+unfoldable pub dates_steps : DateWord → DateWord → Option DateWord → List ℤ → List WorkStep
 dates_steps from to as_of days =
     rule (when (not (is_some (session_of days from.day))) (NotSession From))
     ∷ rule (when (not (is_some (session_of days to.day))) (NotSession To))
@@ -58,10 +58,10 @@ unfoldable pub first_window_steps : ℕ → ℕ → List WorkStep
 first_window_steps size from = rule (when (int_lt (before (pos from) size) (pos 0)) (TooEarly (before (pos from) size))) ∷ []
 
 -- the sessions of the dates, and the windows over them
-abbrev pub windows_steps : List ℤ → Dated → Dated → ℕ → List WorkStep
+abbrev pub windows_steps : List ℤ → DateWord → DateWord → ℕ → List WorkStep
 windows_steps days from to size = dates_steps from to None days ++ first_window_steps size (index_of days from.day)
 
 -- the sessions of the dates, and the plan of a pipeline over them
-abbrev pub range_steps : Pipeline → List ℤ → Dated → Dated → Option Dated → List WorkStep
+abbrev pub range_steps : Pipeline → List ℤ → DateWord → DateWord → Option DateWord → List WorkStep
 range_steps p days from to as_of =
     dates_steps from to as_of days ++ plan_steps p days (index_of days from.day) (index_of days to.day)

@@ -7,7 +7,8 @@ use Rattle.pl_outside.specs.Files.{BeginsAll}
 use Rattle.pl_outside.specs.declared.keeper.Table.{Table}
 use Rattle.pl_outside.specs.Logs as logs
 use Rattle.pl_words.specs.declared.request.InputFile.{InputFile}
-use Rattle.pl_words.specs.Request.{Request, adjustments_of}
+use Rattle.pl_words.specs.declared.request.Request.{Request}
+use Rattle.pl_words.specs.Request.{adjustments_of}
 use Rattle.pl_load.specs.declared.fault.Fault.{Fault}
 use Rattle.pl_load.specs.declared.fault.Fault.TheVariants.{Unloaded, Memory}
 use Rattle.pl_load.specs.Steps.{Reading, WorkStep, names_read, tables_read}

@@ -1,7 +1,8 @@
 -- What was loaded of the windows of a bar column.
 use Rattle.std.specs.Prelude.{◌≡◌, ℕ, ◌<◌, ◌≤◌, length, Some, Result}
 use Rattle.pl_world.specs.Worlds.{owned_world, IsOwnedMade}
-use Rattle.pl_words.specs.Request.{WindowsRequest, Windows}
+use Rattle.pl_words.specs.declared.request.WindowsRequest.{WindowsRequest}
+use Rattle.pl_words.specs.declared.request.Request.TheVariants.{Windows}
 use Rattle.pl_load.specs.declared.fault.Fault.{Fault}
 use Rattle.pl_load.specs.Contents.{Contents}
 use Rattle.pl_load.specs.Held.{days_held, world_held}

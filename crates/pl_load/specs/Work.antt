@@ -26,7 +26,15 @@ use Rattle.pl_outside.specs.declared.keeper.Table.{Table}
 use Rattle.pl_outside.specs.declared.keeper.Table.TheVariants.{Splits, Mergers, Dividends}
 use Rattle.pl_words.specs.declared.request.InputFile.{InputFile}
 use Rattle.pl_words.specs.declared.request.InputFile.TheVariants.{Pipeline as PipelineFile, Sessions, Assets, Labels, Numbers, Results, Bars, Revisions, Payouts as PayoutsFile, Derivation}
-use Rattle.pl_words.specs.Request.{Request, Run, Fmt, Check, Plan, Bench, Payouts, Explain, Verify, Daily, Cut, Windows, RunRequest, PlanRequest, ExplainRequest, VerifyRequest, WindowsRequest, WorldNames, numbers_named}
+use Rattle.pl_words.specs.declared.request.Request.{Request}
+use Rattle.pl_words.specs.declared.request.RunRequest.{RunRequest}
+use Rattle.pl_words.specs.declared.request.PlanRequest.{PlanRequest}
+use Rattle.pl_words.specs.declared.request.ExplainRequest.{ExplainRequest}
+use Rattle.pl_words.specs.declared.request.VerifyRequest.{VerifyRequest}
+use Rattle.pl_words.specs.declared.request.WindowsRequest.{WindowsRequest}
+use Rattle.pl_words.specs.declared.request.WorldNames.{WorldNames}
+use Rattle.pl_words.specs.declared.request.Request.TheVariants.{Run, Fmt, Check, Plan, Bench, Payouts, Explain, Verify, Daily, Cut, Windows}
+use Rattle.pl_words.specs.Request.{numbers_named}
 use Rattle.pl_spec.specs.Limits.{most_pipeline_bytes, most_file_bytes}
 use Rattle.pl_load.specs.declared.fault.Limit.{Limit}
 use Rattle.pl_load.specs.declared.fault.Limit.TheVariants as limits

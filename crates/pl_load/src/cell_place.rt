@@ -4,7 +4,6 @@ ghost use Rattle.std.specs.Prelude.{◌≡◌, ◌<◌, ◌≤ℤ◌, Some, leng
 ghost use Rattle.pl_terms.specs.Checked.{pipeline_of};
 ghost use Rattle.pl_terms.specs.Nodes.{number_of};
 ghost use Rattle.pl_terms.specs.Uses.{is_used};
-ghost use Rattle.pl_words.specs.Views.{explain_of};
 ghost use Rattle.pl_load.specs.Cells.{asset_of, cell_steps, column_term, term_reach};
 ghost use Rattle.pl_load.specs.Range.{session_of};
 ghost use Rattle.pl_load.specs.Stages.{StageEnds, IsRisen};
@@ -35,9 +34,9 @@ pub fn judge_cell(
     assets: &Assets,
 ) -> Result<CellPlace, Fault>
     ensures ends { StageEnds true true
-        (cell_steps (pipeline_of checked.now) sessions.now assets.now (explain_of request.now)) result }
+        (cell_steps (pipeline_of checked.now) sessions.now assets.now request.now) result }
     ensures term { IfOk result (λ cell.
-        column_term (pipeline_of checked.now) request.now.column.now ≡ Some cell.term.0) }
+        column_term (pipeline_of checked.now) request.now.column ≡ Some cell.term.0) }
     ensures used { IfOk result (λ cell. is_used (pipeline_of checked.now) cell.term.0 ≡ true) }
     ensures asset { IfOk result (λ cell. asset_of assets.now request.now.sid ≡ Some cell.col) }
     ensures col { IfOk result (λ cell. cell.col < length assets.now) }
@@ -54,7 +53,7 @@ pub fn judge_cell(
     let Some(col) = assets.col_of(request.sid) else {
         return Err(Fault::UnknownSid { sid: request.sid });
     };
-    let Some(term) = term_of(checked, request.column.as_bytes()) else {
+    let Some(term) = term_of(checked, request.column.text().as_bytes()) else {
         return Err(Fault::UnknownColumn);
     };
     let reach = reach_at(alloc, checked, sessions, term, session)?;

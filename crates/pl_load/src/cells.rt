@@ -1,7 +1,6 @@
 //! What the derivation of a cell reads and judges.
 
 ghost use Rattle.std.specs.Prelude.{IfOk};
-ghost use Rattle.pl_words.specs.Views.{explain_of};
 ghost use Rattle.pl_load.specs.Views.{shelf_change, keeper_change};
 ghost use Rattle.pl_load.specs.Celled.{IsCellLoad, IsExplainable};
 
@@ -43,10 +42,10 @@ pub fn load_cell<S: Shelf, K: AdjustKeeper>(
 ) -> Result<LoadedCell, Fault>
     ensures load { IsCellLoad (shelf_change S.Shelf shelf.old shelf.new)
         (keeper_change K.AdjustKeeper keeper.old keeper.new)
-        (explain_of request.now) result }
+        request.now result }
     ensures explainable { IfOk result IsExplainable }
 {
-    let checked = read_evaluated(alloc, shelf, request.pipeline, &request.world)?;
+    let checked = read_evaluated(alloc, shelf, &request.pipeline, &request.world)?;
     let world = read_world(alloc, &request.world, shelf, keeper)?;
     let cell = judge_cell(alloc, request, &checked, &world.sessions, &world.assets)?;
     Ok(LoadedCell {

@@ -1,7 +1,6 @@
 //! What the check of a derivation reads and judges.
 
 ghost use Rattle.std.specs.Prelude.{IfOk};
-ghost use Rattle.pl_words.specs.Views.{verify_of};
 ghost use Rattle.pl_world.specs.Worlds.{IsOwnedMade};
 ghost use Rattle.pl_load.specs.Views.{shelf_change, keeper_change};
 ghost use Rattle.pl_load.specs.Derived.{IsDerivationLoad};
@@ -45,12 +44,12 @@ pub fn load_derivation<S: Shelf, K: AdjustKeeper>(
 ) -> Result<LoadedDerivation, Fault>
     ensures load { IsDerivationLoad (shelf_change S.Shelf shelf.old shelf.new)
         (keeper_change K.AdjustKeeper keeper.old keeper.new)
-        (verify_of request.now) result }
+        request.now result }
     ensures made { IfOk result (λ l. IsOwnedMade l.world) }
 {
-    let checked = read_evaluated(alloc, shelf, request.pipeline, &request.world)?;
+    let checked = read_evaluated(alloc, shelf, &request.pipeline, &request.world)?;
     let world = read_world(alloc, &request.world, shelf, keeper)?;
-    let derivation = read_derivation(alloc, shelf, request.derivation)?;
+    let derivation = read_derivation(alloc, shelf, &request.derivation)?;
     Ok(LoadedDerivation {
         checked,
         world,

@@ -6,7 +6,6 @@ ghost use Rattle.pl_syntax.specs.Scripts.{parsed};
 ghost use Rattle.pl_terms.specs.Checked.{pipeline_of};
 ghost use Rattle.pl_words.specs.declared.request.InputFile.TheVariants as files;
 ghost use Rattle.pl_words.specs.Request.{numbers_named};
-ghost use Rattle.pl_words.specs.Views.{world_names_of};
 ghost use Rattle.pl_load.specs.Held.{script_in, pipeline_in, days_in, assets_in, labels_asked, numbers_asked, results_asked, bars_in, revised_asked, payouts_in, derivation_in};
 ghost use Rattle.pl_load.specs.Work.{cap_of, read_step, syntax_step, pipeline_steps, evaluated_steps, sessions_rule, assets_rule, labels_steps, numbers_steps, results_steps, bars_rule, revisions_steps, payouts_rule, derivation_step};
 ghost use Rattle.pl_load.specs.Views.{shelf_change};
@@ -27,14 +26,14 @@ use pl_outside::{ReadError, Shelf, Taker, read_file, read_pieces};
 use pl_payouts::Payouts;
 use pl_syntax::{Script, parse};
 use pl_terms::Checked;
-use pl_words::{InputFile, WorldNames};
+use pl_words::{InputFile, Word, WorldNames};
 use std::alloc::Global;
 
 // The whole bytes of a file.
 fn read_input<S: Shelf>(
     alloc: Global,
     shelf: &mut S,
-    name: &str,
+    name: &Word<'_>,
     file: InputFile,
 ) -> Result<Vec<u8>, Fault>
     ensures read { IsRead (shelf_change S.Shelf shelf.old shelf.new)
@@ -43,7 +42,7 @@ fn read_input<S: Shelf>(
         (λ held bytes. held ≡ Some bytes.items) result }
     ensures within { IfOk result (λ bytes. length bytes.items ≤ cap_of file) }
 {
-    match read_file(alloc, shelf, name, cap_of(file)) {
+    match read_file(alloc, shelf, name.text(), cap_of(file)) {
         Ok(bytes) => Ok(bytes),
         Err(ReadError::Failed) => Err(Fault::Unread(file)),
         Err(ReadError::TooLong) => Err(Fault::Passed(limit_of(file))),
@@ -54,7 +53,7 @@ fn read_input<S: Shelf>(
 // The whole bytes of a file, handed on piece by piece.
 fn pass_input<S: Shelf, T: Taker>(
     shelf: &mut S,
-    name: &str,
+    name: &Word<'_>,
     file: InputFile,
     into: &mut T,
 ) -> Result<(), Fault>
@@ -63,7 +62,7 @@ fn pass_input<S: Shelf, T: Taker>(
         (λ held. read_step file no_rule held ∷ [])
         (λ held _. IsPassedOn (λ bytes. T.after into.old bytes into.new) (cap_of file) held) result }
 {
-    match read_pieces(shelf, name, cap_of(file), into) {
+    match read_pieces(shelf, name.text(), cap_of(file), into) {
         Ok(()) => Ok(()),
         Err(ReadError::Failed) => Err(Fault::Unread(file)),
         Err(ReadError::TooLong) => Err(Fault::Passed(limit_of(file))),
@@ -73,7 +72,7 @@ fn pass_input<S: Shelf, T: Taker>(
 
 /// The script of the pipeline file of that name. The fault is that the shelf refused it, it is too long, or
 /// it has a fault of syntax; or want of memory.
-pub fn read_script<S: Shelf>(alloc: Global, shelf: &mut S, name: &str) -> Result<Script, Fault>
+pub fn read_script<S: Shelf>(alloc: Global, shelf: &mut S, name: &Word<'_>) -> Result<Script, Fault>
     ensures { IsRead (shelf_change S.Shelf shelf.old shelf.new)
         (Some name.now)
         (λ held. syntax_step held ∷ [])
@@ -85,7 +84,11 @@ pub fn read_script<S: Shelf>(alloc: Global, shelf: &mut S, name: &str) -> Result
 
 /// The pipeline that the pipeline file of that name means. The fault is that the shelf refused it, it is too
 /// long, has a fault of syntax, or breaks a rule of the language; or want of memory.
-pub fn read_checked<S: Shelf>(alloc: Global, shelf: &mut S, name: &str) -> Result<Checked, Fault>
+pub fn read_checked<S: Shelf>(
+    alloc: Global,
+    shelf: &mut S,
+    name: &Word<'_>,
+) -> Result<Checked, Fault>
     ensures { IsRead (shelf_change S.Shelf shelf.old shelf.new)
         (Some name.now) pipeline_steps
         (λ held checked. pipeline_in held ≡ pipeline_of checked) result }
@@ -99,10 +102,10 @@ pub fn read_checked<S: Shelf>(alloc: Global, shelf: &mut S, name: &str) -> Resul
 pub fn read_evaluated<S: Shelf>(
     alloc: Global,
     shelf: &mut S,
-    name: &str,
+    name: &Word<'_>,
     world: &WorldNames<'_>,
 ) -> Result<Checked, Fault>
-    ensures { let asked = numbers_named (world_names_of world.now) in
+    ensures { let asked = numbers_named world.now in
         IsRead (shelf_change S.Shelf shelf.old shelf.new)
         (Some name.now) (λ held. evaluated_steps held asked)
         (λ held checked. pipeline_in held ≡ pipeline_of checked) result }
@@ -115,7 +118,11 @@ pub fn read_evaluated<S: Shelf>(
 
 /// The sessions of the sessions file of that name. The fault is that the shelf refused it, it is too long, or
 /// it has a faulty record; or want of memory. So it is with each further file.
-pub fn read_sessions<S: Shelf>(alloc: Global, shelf: &mut S, name: &str) -> Result<Sessions, Fault>
+pub fn read_sessions<S: Shelf>(
+    alloc: Global,
+    shelf: &mut S,
+    name: &Word<'_>,
+) -> Result<Sessions, Fault>
     ensures { IsRead (shelf_change S.Shelf shelf.old shelf.new)
         (Some name.now)
         (λ held. read_step files.Sessions sessions_rule held ∷ [])
@@ -126,7 +133,7 @@ pub fn read_sessions<S: Shelf>(alloc: Global, shelf: &mut S, name: &str) -> Resu
 }
 
 /// The assets of the assets file of that name.
-pub fn read_assets<S: Shelf>(alloc: Global, shelf: &mut S, name: &str) -> Result<Assets, Fault>
+pub fn read_assets<S: Shelf>(alloc: Global, shelf: &mut S, name: &Word<'_>) -> Result<Assets, Fault>
     ensures { IsRead (shelf_change S.Shelf shelf.old shelf.new)
         (Some name.now)
         (λ held. read_step files.Assets assets_rule held ∷ [])
@@ -141,7 +148,7 @@ pub fn read_assets<S: Shelf>(alloc: Global, shelf: &mut S, name: &str) -> Result
 pub fn read_labels<S: Shelf>(
     alloc: Global,
     shelf: &mut S,
-    name: Option<&str>,
+    name: Option<&Word<'_>>,
     assets: &Assets,
 ) -> Result<Labels, Fault>
     ensures read { let asked = option_map (λ n. n.now) name.entry in
@@ -164,7 +171,7 @@ pub fn read_labels<S: Shelf>(
 pub fn read_numbers<S: Shelf>(
     alloc: Global,
     shelf: &mut S,
-    name: Option<&str>,
+    name: Option<&Word<'_>>,
     assets: &Assets,
 ) -> Result<Numbers, Fault>
     ensures read { let asked = option_map (λ n. n.now) name.entry in
@@ -188,7 +195,7 @@ pub fn read_numbers<S: Shelf>(
 pub fn read_results<S: Shelf>(
     alloc: Global,
     shelf: &mut S,
-    name: Option<&str>,
+    name: Option<&Word<'_>>,
     assets: &Assets,
     numbers: Numbers,
 ) -> Result<Numbers, Fault>
@@ -217,7 +224,7 @@ pub fn read_results<S: Shelf>(
 pub fn read_bars<S: Shelf>(
     alloc: Global,
     shelf: &mut S,
-    name: &str,
+    name: &Word<'_>,
     sessions: &Sessions,
     assets: &Assets,
 ) -> Result<Bars, Fault>
@@ -238,7 +245,7 @@ pub fn read_bars<S: Shelf>(
 pub fn read_revisions<S: Shelf>(
     alloc: Global,
     shelf: &mut S,
-    name: Option<&str>,
+    name: Option<&Word<'_>>,
     sessions: &Sessions,
     assets: &Assets,
     mut adjustments: Adjustments,
@@ -264,7 +271,7 @@ pub fn read_revisions<S: Shelf>(
 pub fn read_payouts<S: Shelf>(
     alloc: Global,
     shelf: &mut S,
-    name: &str,
+    name: &Word<'_>,
     assets: &Assets,
 ) -> Result<Payouts, Fault>
     ensures read { IsRead (shelf_change S.Shelf shelf.old shelf.new)
@@ -281,7 +288,7 @@ pub fn read_payouts<S: Shelf>(
 pub fn read_derivation<S: Shelf>(
     alloc: Global,
     shelf: &mut S,
-    name: &str,
+    name: &Word<'_>,
 ) -> Result<Derivation, Fault>
     ensures { IsRead (shelf_change S.Shelf shelf.old shelf.new)
         (Some name.now)

@@ -3,7 +3,6 @@
 ghost use Rattle.std.specs.Prelude.{◌≡◌, [], ◌∷◌, ◌++◌, codes, decimal, option_map};
 ghost use Rattle.std.specs.Fmt.{signed_decimal};
 ghost use Rattle.pl_outside.specs.Taken.{Writes};
-ghost use Rattle.pl_words.specs.Views.{request_of};
 ghost use Rattle.pl_load.specs.Faults.{line_of, table_text};
 
 use crate::fault::Fault;
@@ -20,7 +19,7 @@ pub fn write_line<E: Sink>(
     fault: Fault,
 ) -> Result<(), Failed>
     ensures { Writes E.taken E.faults E.sound E.room err.old err.new
-        (line_of (option_map (λ q. request_of q.now) asked.entry) fault) result }
+        (line_of (option_map (λ q. q.now) asked.entry) fault) result }
 {
     match fault {
         Fault::Usage => write_bytes(err, b"usage\n"),

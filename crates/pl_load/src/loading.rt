@@ -3,7 +3,6 @@
 ghost use Rattle.std.specs.Prelude.{◌≡◌, ◌<◌, [], length, All, IfOk, IfErr, IfSome};
 ghost use Rattle.pl_terms.specs.Checked.{pipeline_of};
 ghost use Rattle.pl_planner.specs.Plans.{IsPlanOf};
-ghost use Rattle.pl_words.specs.Views.{run_of, world_names_of};
 ghost use Rattle.pl_world.specs.Worlds.{AreMadeFor, IsOwnedMade};
 ghost use Rattle.pl_load.specs.declared.fault.Fault.TheVariants.{Memory};
 ghost use Rattle.pl_load.specs.Views.{shelf_change, keeper_change};
@@ -76,10 +75,10 @@ pub fn load<S: Shelf, K: AdjustKeeper>(
 ) -> Result<Loaded, Fault>
     ensures load { IsLoad (shelf_change S.Shelf shelf.old shelf.new)
         (keeper_change K.AdjustKeeper keeper.old keeper.new)
-        (run_of request.now) result }
+        request.now result }
     ensures ready { IfOk result IsReadyRun }
 {
-    let checked = read_evaluated(alloc, shelf, request.pipeline, &request.world)?;
+    let checked = read_evaluated(alloc, shelf, &request.pipeline, &request.world)?;
     let planned = load_world(alloc, request, &checked, shelf, keeper)?;
     let PlannedWorld { world, plan } = planned;
     Ok(Loaded {
@@ -99,7 +98,7 @@ fn load_world<S: Shelf, K: AdjustKeeper>(
 ) -> Result<PlannedWorld, Fault>
     ensures load { IsWorldLoad (shelf_change S.Shelf shelf.old shelf.new)
         (keeper_change K.AdjustKeeper keeper.old keeper.new)
-        (run_of request.now) (pipeline_of checked.now) result }
+        request.now (pipeline_of checked.now) result }
     ensures made { IfOk result (λ w. IsOwnedMade w.world) }
     ensures plan { IfOk result (λ w. IsPlanOf w.world.sessions (pipeline_of checked.now) w.plan) }
 {
@@ -107,7 +106,7 @@ fn load_world<S: Shelf, K: AdjustKeeper>(
     let range = judge_dates(
         &request.from,
         &request.to,
-        request.options.as_of,
+        request.options.as_of.as_ref(),
         &world.sessions,
     )?;
     let plan = judge_plan(alloc, checked, &world.sessions, range)?;
@@ -142,11 +141,11 @@ pub(crate) fn read_world<S: Shelf, K: AdjustKeeper>(
 ) -> Result<OwnedWorld, Fault>
     ensures data { IsData (shelf_change S.Shelf shelf.old shelf.new)
         (keeper_change K.AdjustKeeper keeper.old keeper.new)
-        (world_names_of names.now) result }
+        names.now result }
     ensures made { IfOk result IsOwnedMade }
 {
-    let sessions = read_sessions(alloc, shelf, names.sessions)?;
-    let assets = read_assets(alloc, shelf, names.assets)?;
+    let sessions = read_sessions(alloc, shelf, &names.sessions)?;
+    let assets = read_assets(alloc, shelf, &names.assets)?;
     let rows = read_rows(alloc, names, &sessions, &assets, shelf, keeper)?;
     let WorldRows {
         labels,
@@ -175,13 +174,13 @@ fn read_rows<S: Shelf, K: AdjustKeeper>(
 ) -> Result<WorldRows, Fault>
     ensures rows { IsRowsLoad (shelf_change S.Shelf shelf.old shelf.new)
         (keeper_change K.AdjustKeeper keeper.old keeper.new)
-        (world_names_of names.now) sessions.now assets.now result }
+        names.now sessions.now assets.now result }
     ensures made { IfOk result (λ r.
         AreMadeFor sessions.now assets.now r.labels.rows r.bars r.adjustments r.numbers.rows) }
 {
-    let labels = read_labels(alloc, shelf, names.labels, assets)?;
+    let labels = read_labels(alloc, shelf, names.labels.as_ref(), assets)?;
     let numbers = read_figures(alloc, names, assets, shelf)?;
-    let bars = read_bars(alloc, shelf, names.bars, sessions, assets)?;
+    let bars = read_bars(alloc, shelf, &names.bars, sessions, assets)?;
     let adjustments = read_revised(alloc, names, sessions, assets, shelf, keeper)?;
     Ok(WorldRows {
         labels,
@@ -199,11 +198,11 @@ fn read_figures<S: Shelf>(
     shelf: &mut S,
 ) -> Result<Numbers, Fault>
     ensures figures { IsFiguresLoad (shelf_change S.Shelf shelf.old shelf.new)
-        (world_names_of names.now) assets.now result }
+        names.now assets.now result }
     ensures cols { IfOk result (λ numbers. All (λ r. r.col < length assets.now) numbers.rows) }
 {
-    let first = read_numbers(alloc, shelf, names.numbers, assets)?;
-    read_results(alloc, shelf, names.results, assets, first)
+    let first = read_numbers(alloc, shelf, names.numbers.as_ref(), assets)?;
+    read_results(alloc, shelf, names.results.as_ref(), assets, first)
 }
 
 // The adjustments of the world of these names with their revisions, after the labels, numbers and bars.
@@ -217,9 +216,16 @@ fn read_revised<S: Shelf, K: AdjustKeeper>(
 ) -> Result<Adjustments, Fault>
     ensures revised { IsRevisedLoad (shelf_change S.Shelf shelf.old shelf.new)
         (keeper_change K.AdjustKeeper keeper.old keeper.new)
-        (world_names_of names.now) sessions.now assets.now result }
+        names.now sessions.now assets.now result }
     ensures cols { IfOk result (All (λ x. x.col < length assets.now)) }
 {
-    let loaded = read_adjustments(alloc, keeper, names.adjustments, assets)?;
-    read_revisions(alloc, shelf, names.revisions, sessions, assets, loaded)
+    let loaded = read_adjustments(alloc, keeper, names.adjustments.as_ref(), assets)?;
+    read_revisions(
+        alloc,
+        shelf,
+        names.revisions.as_ref(),
+        sessions,
+        assets,
+        loaded,
+    )
 }

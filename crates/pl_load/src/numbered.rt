@@ -9,10 +9,11 @@ use crate::errors::ruled;
 use crate::fault::{Fault, RuleFault};
 use pl_check::first_number;
 use pl_syntax::Script;
+use pl_words::Word;
 
 /// Whether a script may be computed over a world that has numbers where a name of a numbers file is given.
 /// The fault is `NoNumbers`, at the first call of `number`: there is one, and no name.
-pub fn judge_numbers(script: &Script, numbers: Option<&str>) -> Result<(), Fault>
+pub fn judge_numbers(script: &Script, numbers: Option<&Word<'_>>) -> Result<(), Fault>
     ensures ends { StageEnds true true
         (numbers_step (parsed script.now) (option_map (λ name. name.now) numbers.entry) ∷ []) result }
     ensures risen { IfErr result (IsRisen ⊥ ⊥) }

@@ -1,7 +1,6 @@
 //! What payouts read and judge.
 
 ghost use Rattle.std.specs.Prelude.{IfOk};
-ghost use Rattle.pl_words.specs.Views.{payouts_of};
 ghost use Rattle.pl_load.specs.Views.{KeeperView, shelf_change, unchanged};
 ghost use Rattle.pl_load.specs.PaidOut.{IsPayoutsLoad, IsPayable};
 
@@ -45,13 +44,13 @@ pub fn load_payouts<S: Shelf>(
     // whatever a keeper tells
     ensures load { (keeper : KeeperView)
         → IsPayoutsLoad (shelf_change S.Shelf shelf.old shelf.new)
-        (unchanged keeper) (payouts_of request.now) result }
+        (unchanged keeper) request.now result }
     ensures payable { IfOk result IsPayable }
 {
-    let sessions = read_sessions(alloc, shelf, request.sessions)?;
-    let assets = read_assets(alloc, shelf, request.assets)?;
-    let bars = read_bars(alloc, shelf, request.bars, &sessions, &assets)?;
-    let payouts = read_payouts(alloc, shelf, request.payouts, &assets)?;
+    let sessions = read_sessions(alloc, shelf, &request.sessions)?;
+    let assets = read_assets(alloc, shelf, &request.assets)?;
+    let bars = read_bars(alloc, shelf, &request.bars, &sessions, &assets)?;
+    let payouts = read_payouts(alloc, shelf, &request.payouts, &assets)?;
     Ok(LoadedPayouts {
         sessions,
         assets,

@@ -1,7 +1,6 @@
 //! What a plan reads and judges.
 
 ghost use Rattle.pl_terms.specs.Checked.{pipeline_of};
-ghost use Rattle.pl_words.specs.Views.{plan_of};
 ghost use Rattle.pl_load.specs.Views.{KeeperView, shelf_change, unchanged};
 ghost use Rattle.pl_load.specs.Parts.{IsPlanFor};
 ghost use Rattle.pl_load.specs.Loads.{IsPlanLoad};
@@ -41,9 +40,9 @@ pub fn load_plan<S: Shelf>(
     // whatever a keeper tells
     ensures { (keeper : KeeperView)
         → IsPlanLoad (shelf_change S.Shelf shelf.old shelf.new)
-        (unchanged keeper) (plan_of request.now) result }
+        (unchanged keeper) request.now result }
 {
-    let checked = read_checked(alloc, shelf, request.pipeline)?;
+    let checked = read_checked(alloc, shelf, &request.pipeline)?;
     let plan = plan_for(alloc, request, &checked, shelf)?;
     Ok(PlannedPipeline { checked, plan })
 }
@@ -57,9 +56,9 @@ fn plan_for<S: Shelf>(
 ) -> Result<Plan, Fault>
     ensures { (keeper : KeeperView)
         → IsPlanFor (shelf_change S.Shelf shelf.old shelf.new)
-        (unchanged keeper) (plan_of request.now) (pipeline_of checked.now) result }
+        (unchanged keeper) request.now (pipeline_of checked.now) result }
 {
-    let sessions = read_sessions(alloc, shelf, request.sessions)?;
+    let sessions = read_sessions(alloc, shelf, &request.sessions)?;
     let range = judge_dates(&request.from, &request.to, None, &sessions)?;
     judge_plan(alloc, checked, &sessions, range)
 }

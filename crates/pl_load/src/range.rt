@@ -3,7 +3,6 @@
 ghost use Rattle.std.specs.Prelude.{◌≡◌, ◌≤◌, ◌<◌, true, false, length, IfOk, IfErr, IfSome, MatchResult, option_map};
 ghost use Rattle.pl_terms.specs.Checked.{pipeline_of};
 ghost use Rattle.pl_planner.specs.Plans.{IsPlanOf};
-ghost use Rattle.pl_words.specs.Views.{dated_of};
 ghost use Rattle.pl_load.specs.Planning.{HasRows};
 ghost use Rattle.pl_load.specs.declared.fault.Fault.TheVariants.{NotSession};
 ghost use Rattle.pl_words.specs.declared.request.RangeDate.TheVariants.{AsOf};
@@ -33,20 +32,20 @@ pub struct Range {
 pub fn judge_dates(
     from: &DateWord<'_>,
     to: &DateWord<'_>,
-    as_of: Option<DateWord<'_>>,
+    as_of: Option<&DateWord<'_>>,
     sessions: &Sessions,
 ) -> Result<Range, Fault>
     ensures ends { StageEnds true true
-        (dates_steps (dated_of from.now) (dated_of to.now)
-        (option_map dated_of as_of.entry) sessions.now) result }
+        (dates_steps from.now to.now
+        (option_map (λ d. d.now) as_of.entry) sessions.now) result }
     ensures from { IfOk result (λ range. range.from ≡ index_of sessions.now from.now.day) }
     ensures to { IfOk result (λ range. range.to ≡ index_of sessions.now to.now.day) }
     ensures within { IfOk result (λ range. range.to < length sessions.now) }
     ensures order { IfOk result (λ range. range.from ≤ range.to) }
     ensures as_of { IfOk result (λ range.
-        range.as_of ≡ index_asked sessions.now (option_map dated_of as_of.entry)) }
+        range.as_of ≡ index_asked sessions.now (option_map (λ d. d.now) as_of.entry)) }
     ensures date { IfOk result (λ range.
-        IsDateOf sessions.now range.as_of (option_map dated_of as_of.entry)) }
+        IsDateOf sessions.now range.as_of (option_map (λ d. d.now) as_of.entry)) }
     ensures known { IfOk result (λ range. IfSome range.as_of (λ known. range.to ≤ known)) }
     ensures known_within { IfOk result (λ range.
         IfSome range.as_of (λ known. known < length sessions.now)) }
@@ -66,13 +65,13 @@ pub fn judge_dates(
 }
 
 // The session as of which rows are asked for.
-fn session_asked(date: Option<DateWord<'_>>, sessions: &Sessions) -> Result<Option<usize>, Fault>
+fn session_asked(date: Option<&DateWord<'_>>, sessions: &Sessions) -> Result<Option<usize>, Fault>
     ensures session { MatchResult result
-        (λ k. (is_unknown sessions.now (option_map dated_of date.entry) ≡ false)
-        × (k ≡ index_asked sessions.now (option_map dated_of date.entry)))
-        (λ fault. (is_unknown sessions.now (option_map dated_of date.entry) ≡ true)
+        (λ k. (is_unknown sessions.now (option_map (λ d. d.now) date.entry) ≡ false)
+        × (k ≡ index_asked sessions.now (option_map (λ d. d.now) date.entry)))
+        (λ fault. (is_unknown sessions.now (option_map (λ d. d.now) date.entry) ≡ true)
         × (fault ≡ NotSession AsOf)) }
-    ensures date { IfOk result (λ k. IsDateOf sessions.now k (option_map dated_of date.entry)) }
+    ensures date { IfOk result (λ k. IsDateOf sessions.now k (option_map (λ d. d.now) date.entry)) }
     ensures within { IfOk result (λ k. IfSome k (λ known. known < length sessions.now)) }
 {
     match date {

@@ -13,6 +13,7 @@ use crate::fault::Fault;
 use pl_adjust::Adjustments;
 use pl_assets::Assets;
 use pl_outside::{AdjustKeeper, KeepError, RawAdjust, Table};
+use pl_words::Word;
 use std::alloc::Global;
 
 /// The adjustments of that name, splits before mergers before dividends; none where no name is given, and
@@ -21,7 +22,7 @@ use std::alloc::Global;
 pub fn read_adjustments<K: AdjustKeeper>(
     alloc: Global,
     keeper: &mut K,
-    name: Option<&str>,
+    name: Option<&Word<'_>>,
     assets: &Assets,
 ) -> Result<Adjustments, Fault>
     ensures read { let asked = option_map (λ n. n.now) name.entry in
@@ -45,7 +46,7 @@ pub fn read_adjustments<K: AdjustKeeper>(
 fn load_table<K: AdjustKeeper>(
     alloc: Global,
     keeper: &mut K,
-    name: &str,
+    name: &Word<'_>,
     table: Table,
 ) -> Result<Vec<RawAdjust>, Fault>
     ensures rows { ForSome (K.lists keeper.old)
@@ -59,7 +60,7 @@ fn load_table<K: AdjustKeeper>(
     ensures leaves { KeeperLeft (keeper_change K.AdjustKeeper keeper.old keeper.new) }
 {
     let mut rows = Vec::new(alloc);
-    match keeper.load(alloc, name, table, &mut rows) {
+    match keeper.load(alloc, name.text(), table, &mut rows) {
         Ok(()) => Ok(rows),
         Err(KeepError::Failed) => Err(Fault::Unloaded(table)),
         Err(KeepError::Memory) => Err(Fault::Memory),

@@ -1,7 +1,6 @@
 //! What the windows of a bar column read and judge.
 
 ghost use Rattle.std.specs.Prelude.{◌≤◌, true, IfOk, IfErr, OnOk};
-ghost use Rattle.pl_words.specs.Views.{windows_of};
 ghost use Rattle.pl_load.specs.Views.{shelf_change, keeper_change};
 ghost use Rattle.pl_load.specs.Range.{first_window_steps};
 ghost use Rattle.pl_load.specs.Stages.{StageEnds, IsRisen};
@@ -45,7 +44,7 @@ pub fn load_windows<S: Shelf, K: AdjustKeeper>(
 ) -> Result<LoadedWindows, Fault>
     ensures load { IsWindowsLoad (shelf_change S.Shelf shelf.old shelf.new)
         (keeper_change K.AdjustKeeper keeper.old keeper.new)
-        (windows_of request.now) result }
+        request.now result }
     ensures ready { IfOk result (HasWindows request.now.window) }
 {
     let world = read_world(alloc, &request.world, shelf, keeper)?;

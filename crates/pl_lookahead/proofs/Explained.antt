@@ -17,7 +17,9 @@ use Rattle.pl_laws.proofs.Law.{SeenAlike}
 use Rattle.pl_values.proofs.Texts.{seen-in}
 use Rattle.pl_assets.specs.Labels.{DataFault, LabelTable, is_text, texts_of, table_of, label_rows_in, labels_of}
 use Rattle.pl_words.specs.declared.request.InputFile.TheVariants.{Pipeline as PipelineFile, Labels}
-use Rattle.pl_words.specs.Request.{Explain, ExplainRequest, numbers_named}
+use Rattle.pl_words.specs.declared.request.ExplainRequest.{ExplainRequest}
+use Rattle.pl_words.specs.declared.request.Request.TheVariants.{Explain}
+use Rattle.pl_words.specs.Request.{numbers_named}
 use Rattle.pl_derivation.specs.Lines.{Line}
 use Rattle.pl_derivation.specs.Texts as lines
 use Rattle.pl_derivation.specs.Walks.{derivation}

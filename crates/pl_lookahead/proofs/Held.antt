@@ -29,7 +29,7 @@ use Rattle.pl_adjust.proofs.Sids.{Known, tables_known}
 use Rattle.pl_outside.specs.declared.keeper.Table.{Table}
 use Rattle.pl_outside.specs.declared.keeper.Table.TheVariants.{Splits, Mergers, Dividends}
 use Rattle.pl_words.specs.declared.request.InputFile.TheVariants.{Sessions, Assets, Labels, Numbers, Results, Bars, Revisions}
-use Rattle.pl_words.specs.Request.{WorldNames}
+use Rattle.pl_words.specs.declared.request.WorldNames.{WorldNames}
 use Rattle.pl_world.proofs.Made.{AreParts, bars_once, is_world, labels_once, numbers-once}
 use Rattle.pl_world.proofs.Moved.{AreRead-labels}
 use Rattle.pl_load.specs.Contents.{Contents}

@@ -18,7 +18,18 @@ use Rattle.pl_windows.specs.Windows.{windows_text}
 use Rattle.pl_numbers.specs.Numbers.{NumberTable}
 use Rattle.pl_words.specs.declared.request.InputFile.{InputFile}
 use Rattle.pl_words.specs.declared.request.InputFile.TheVariants as file
-use Rattle.pl_words.specs.Request.{Request, Run, Fmt, Check, Plan, Bench, Payouts, Explain, Verify, Daily, Cut, Windows, BenchRequest, CutRequest, ExplainRequest, PayoutsRequest, PlanRequest, RunRequest, VerifyRequest, WindowsRequest, WorldNames, name_asked, adjustments_of}
+use Rattle.pl_words.specs.declared.request.Request.{Request}
+use Rattle.pl_words.specs.declared.request.BenchRequest.{BenchRequest}
+use Rattle.pl_words.specs.declared.request.CutRequest.{CutRequest}
+use Rattle.pl_words.specs.declared.request.ExplainRequest.{ExplainRequest}
+use Rattle.pl_words.specs.declared.request.PayoutsRequest.{PayoutsRequest}
+use Rattle.pl_words.specs.declared.request.PlanRequest.{PlanRequest}
+use Rattle.pl_words.specs.declared.request.RunRequest.{RunRequest}
+use Rattle.pl_words.specs.declared.request.VerifyRequest.{VerifyRequest}
+use Rattle.pl_words.specs.declared.request.WindowsRequest.{WindowsRequest}
+use Rattle.pl_words.specs.declared.request.WorldNames.{WorldNames}
+use Rattle.pl_words.specs.declared.request.Request.TheVariants.{Run, Fmt, Check, Plan, Bench, Payouts, Explain, Verify, Daily, Cut, Windows}
+use Rattle.pl_words.specs.Request.{name_asked, adjustments_of}
 use Rattle.pl_load.specs.Contents.{Contents}
 use Rattle.pl_load.specs.Given.{Log, given_file, loaded_table, logged}
 use Rattle.pl_load.specs.Held.{numbers_asked, assets_held, assets_in, bars_in, days_held, days_in, derivation_in, payouts_in, pipeline_held, pipeline_in, script_in, world_held}

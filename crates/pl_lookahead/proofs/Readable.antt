@@ -22,7 +22,9 @@ use Rattle.pl_outside.specs.declared.keeper.Table.{Table}
 use Rattle.pl_words.specs.declared.request.InputFile.{InputFile}
 use Rattle.pl_words.specs.declared.request.InputFile.TheVariants.{Sessions, Assets, Labels, Numbers, Bars, Revisions, Results}
 use Rattle.pl_pipeline.specs.Table.{Pipeline}
-use Rattle.pl_words.specs.Request.{Dated, ExplainRequest, WorldNames}
+use Rattle.pl_words.specs.declared.request.DateWord.{DateWord}
+use Rattle.pl_words.specs.declared.request.ExplainRequest.{ExplainRequest}
+use Rattle.pl_words.specs.declared.request.WorldNames.{WorldNames}
 use Rattle.pl_load.specs.Cells.{cell_steps}
 use Rattle.pl_load.specs.declared.fault.Fault.{Fault}
 use Rattle.pl_load.specs.Contents.{Contents}
@@ -167,7 +169,7 @@ found None f h = absurd (cc)
 found (Some x) f h = (x, refl)
 
 -- the dates are of sessions, and the last is not before the first
-pub record AreFound (from to : Dated) (days : List ℤ) : Type 0 where
+pub record AreFound (from to : DateWord) (days : List ℤ) : Type 0 where
   pub first : ℕ
   pub first_is : session_of days from.day ≡ Some first
   pub last : ℕ
@@ -187,7 +189,7 @@ not-before i j known h = forward (or_parts (nat_lt j i) _ h).0
 places : (o p : Option ℕ) (i j : ℕ) → o ≡ Some i → p ≡ Some j → unwrap_or o 0 ≤ unwrap_or p 0 → i ≤ j
 places o p i j e f h = rw (e, f) at h
 
-pub dates-found : (from to : Dated) (as_of : Option Dated) (days : List ℤ) → first_fault (dates_steps from to as_of days) ≡ None → AreFound from to days
+pub dates-found : (from to : DateWord) (as_of : Option DateWord) (days : List ℤ) → first_fault (dates_steps from to as_of days) ≡ None → AreFound from to days
 unfolding dates_steps
 dates-found from to as_of days h =
     let one = or-none (when (not (is_some (session_of days from.day))) _) _ h in

@@ -16,7 +16,11 @@ use Rattle.pl_outside.specs.declared.keeper.Table.{Table}
 use Rattle.pl_numbers.specs.Numbers.{NumberTable}
 use Rattle.pl_words.specs.declared.request.InputFile.{InputFile}
 use Rattle.pl_words.specs.declared.request.InputFile.TheVariants.{Pipeline as PipelineFile, Sessions, Assets, Labels, Numbers, Results, Bars, Revisions}
-use Rattle.pl_words.specs.Request.{Request, Run, Daily, RunRequest, WorldNames, name_asked, adjustments_of}
+use Rattle.pl_words.specs.declared.request.Request.{Request}
+use Rattle.pl_words.specs.declared.request.RunRequest.{RunRequest}
+use Rattle.pl_words.specs.declared.request.WorldNames.{WorldNames}
+use Rattle.pl_words.specs.declared.request.Request.TheVariants.{Run, Daily}
+use Rattle.pl_words.specs.Request.{name_asked, adjustments_of}
 use Rattle.pl_load.specs.Contents.{Contents, AreHeld}
 use Rattle.pl_load.specs.Held.{adjustments_asked, assets_held, assets_in, bars_in, days_held, days_in, labels_asked, numbers_asked, results_asked, pipeline_held, pipeline_in, revised_asked, world_held}
 use Rattle.pl_load.specs.Range.{index_of}

@@ -13,7 +13,10 @@ use Rattle.pl_pipeline.specs.Table.{Pipeline, table}
 use Rattle.pl_pipeline.specs.Text.{text}
 use Rattle.pl_outside.specs.declared.keeper.Table.TheVariants.{Splits, Mergers, Dividends}
 use Rattle.pl_words.specs.declared.request.InputFile.TheVariants.{Pipeline as PipelineFile}
-use Rattle.pl_words.specs.Request.{Request, RunRequest, WorldNames, numbers_named}
+use Rattle.pl_words.specs.declared.request.Request.{Request}
+use Rattle.pl_words.specs.declared.request.RunRequest.{RunRequest}
+use Rattle.pl_words.specs.declared.request.WorldNames.{WorldNames}
+use Rattle.pl_words.specs.Request.{numbers_named}
 use Rattle.pl_load.specs.declared.fault.Fault.{Fault}
 use Rattle.pl_load.specs.Contents.{Contents}
 use Rattle.pl_load.specs.Ends.{Ends}

@@ -13,7 +13,7 @@ use Rattle.pl_adjust.specs.declared.revisions.Revision.{Revision}
 use Rattle.pl_outside.specs.declared.keeper.Table.{Table}
 use Rattle.pl_outside.specs.declared.keeper.Table.TheVariants.{Splits, Mergers, Dividends}
 use Rattle.pl_words.specs.declared.request.InputFile.TheVariants.{Revisions}
-use Rattle.pl_words.specs.Request.{WorldNames}
+use Rattle.pl_words.specs.declared.request.WorldNames.{WorldNames}
 use Rattle.pl_load.specs.Contents.{Contents}
 use Rattle.pl_load.specs.Held.{pipeline_held, days_held, assets_held, revisions_in, world_held}
 

@@ -11,7 +11,8 @@ use Rattle.pl_derivation.specs.Lines.{Line}
 use Rattle.pl_derivation.specs.Lines.Line.{SeenLine, ValueLine, SeenValueLine}
 use Rattle.pl_derivation.specs.Texts as texts
 use Rattle.pl_derivation.specs.Walks.{derivation}
-use Rattle.pl_words.specs.Request.{Explain, ExplainRequest}
+use Rattle.pl_words.specs.declared.request.ExplainRequest.{ExplainRequest}
+use Rattle.pl_words.specs.declared.request.Request.TheVariants.{Explain}
 use Rattle.pl_load.specs.Cells.{term_asked}
 use Rattle.pl_load.specs.Contents.{Contents}
 use Rattle.pl_load.specs.Held.{pipeline_held, world_held}

@@ -5,7 +5,9 @@ use Rattle.pl_spec.specs.World.{Adjustment}
 use Rattle.pl_outside.specs.Files.{Files}
 use Rattle.pl_outside.specs.Lists.{Lists}
 use Rattle.pl_outside.specs.Taken.{TakesAll}
-use Rattle.pl_words.specs.Request.{Request, Run, Daily, Bench, RunRequest}
+use Rattle.pl_words.specs.declared.request.Request.{Request}
+use Rattle.pl_words.specs.declared.request.RunRequest.{RunRequest}
+use Rattle.pl_words.specs.declared.request.Request.TheVariants.{Run, Daily, Bench}
 use Rattle.pl_load.specs.Contents.{Contents}
 use Rattle.pl_load.specs.Steps.{first_fault}
 use Rattle.pl_load.specs.Work.{work}

@@ -2,7 +2,7 @@
 use Rattle.std.specs.Prelude.{◌≡◌, ◌⊎◌, ℕ, List, ◌++◌, codes, Option}
 use Rattle.pl_outside.specs.declared.sink.Sink.{Ghosts}
 use Rattle.pl_outside.specs.Taken.{IsTold}
-use Rattle.pl_words.specs.Request.{Request}
+use Rattle.pl_words.specs.declared.request.Request.{Request}
 use Rattle.pl_load.specs.Views.{ShelfView, KeeperView, Change}
 use Rattle.pl_cli.specs.Runs.{IsRun}
 use Rattle.pl_edge.specs.declared.command_line.StartError.{StartError}

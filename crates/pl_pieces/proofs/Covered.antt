@@ -12,7 +12,8 @@ use Rattle.pl_pipeline.specs.Term.{term_at}
 use Rattle.pl_laws.proofs.Reaches.{below_least}
 use Rattle.pl_terms.specs.Uses.{outputs}
 use Rattle.pl_cut.specs.Laws.{Covers}
-use Rattle.pl_words.specs.Request.{RunRequest, Run}
+use Rattle.pl_words.specs.declared.request.RunRequest.{RunRequest}
+use Rattle.pl_words.specs.declared.request.Request.TheVariants.{Run}
 use Rattle.pl_load.specs.Contents.{Contents}
 use Rattle.pl_load.specs.Held.{pipeline_held, days_held}
 use Rattle.pl_load.specs.Planning.{reach_at}

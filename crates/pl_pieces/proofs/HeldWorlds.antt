@@ -35,7 +35,7 @@ use Rattle.pl_adjust.proofs.Sids.{All-by_day}
 use Rattle.pl_outside.specs.declared.keeper.Table.{Table}
 use Rattle.pl_outside.specs.declared.keeper.Table.TheVariants.{Splits, Mergers, Dividends}
 use Rattle.pl_words.specs.declared.request.InputFile.TheVariants.{Assets, Labels, Numbers, Results, Bars, Revisions}
-use Rattle.pl_words.specs.Request.{WorldNames}
+use Rattle.pl_words.specs.declared.request.WorldNames.{WorldNames}
 use Rattle.pl_world.proofs.Moved.{AreRead-labels}
 use Rattle.pl_load.specs.Contents.{Contents}
 use Rattle.pl_load.specs.Held.{adjustments_from, adjustments_held, adjustments_of_rows, assets_held, bars_held, days_held, labels_asked, labels_in, numbers_asked, numbers_held, numbers_in, results_asked, results_in, revisions_in, world_held}

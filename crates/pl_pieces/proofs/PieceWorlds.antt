@@ -29,7 +29,8 @@ use Rattle.pl_outside.specs.declared.keeper.Table.TheVariants.{Splits, Mergers, 
 use Rattle.pl_words.specs.declared.request.InputFile.TheVariants as files
 use Rattle.pl_words.specs.declared.request.WorldPart.{WorldPart}
 use Rattle.pl_words.specs.declared.request.WorldPart.TheVariants as parts
-use Rattle.pl_words.specs.Request.{RunRequest, numbers_named}
+use Rattle.pl_words.specs.declared.request.RunRequest.{RunRequest}
+use Rattle.pl_words.specs.Request.{numbers_named}
 use Rattle.pl_world.specs.Laws.{ShowAlike}
 use Rattle.pl_world.proofs.Moved.{show-alike}
 use Rattle.pl_load.specs.Contents.{Contents}

@@ -9,7 +9,9 @@ use Rattle.pl_terms.specs.Checked.{IsChecked}
 use Rattle.pl_cut.specs.Cuts.{cut}
 use Rattle.pl_cut.specs.Laws.{HaveOneTable}
 use Rattle.pl_cut.proofs.Cuts.{cuts_have_the_rows}
-use Rattle.pl_words.specs.Request.{RunRequest, WorldNames, numbers_named}
+use Rattle.pl_words.specs.declared.request.RunRequest.{RunRequest}
+use Rattle.pl_words.specs.declared.request.WorldNames.{WorldNames}
+use Rattle.pl_words.specs.Request.{numbers_named}
 use Rattle.pl_load.specs.Contents.{Contents}
 use Rattle.pl_load.specs.Held.{days_held, pipeline_held, world_held}
 use Rattle.pl_load.specs.Range.{index_of}

@@ -25,7 +25,11 @@ use Rattle.pl_terms.specs.Checked.{IsChecked}
 use Rattle.pl_words.specs.declared.request.InputFile.TheVariants as files
 use Rattle.pl_words.specs.declared.request.WorldPart.{WorldPart}
 use Rattle.pl_words.specs.declared.request.WorldPart.TheVariants as parts
-use Rattle.pl_words.specs.Request.{Request, Cut, RunRequest, WorldNames, numbers_named}
+use Rattle.pl_words.specs.declared.request.Request.{Request}
+use Rattle.pl_words.specs.declared.request.RunRequest.{RunRequest}
+use Rattle.pl_words.specs.declared.request.WorldNames.{WorldNames}
+use Rattle.pl_words.specs.declared.request.Request.TheVariants.{Cut}
+use Rattle.pl_words.specs.Request.{numbers_named}
 use Rattle.pl_load.specs.Contents.{Contents}
 use Rattle.pl_load.specs.Held.{pipeline_held, days_held, world_held}
 use Rattle.pl_load.specs.Range.{index_of}

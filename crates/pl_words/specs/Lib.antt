@@ -4,4 +4,3 @@ pub mod Parts
 pub mod Commands
 pub mod Apps
 pub mod Request
-pub mod Views

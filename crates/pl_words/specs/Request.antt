@@ -1,5 +1,5 @@
--- What the words ask for.
-use Rattle.std.specs.Prelude.{ℕ, ◌≤◌, ⊤, ℤ, List, [], ◌∷◌, Bool, false, ◌==◌, ◌&&◌, nat_le, if◌then◌else◌, Option, Some, None, option_map, option_and_then, is_some, find, length, slice_index_or, bytes_eq, codes}
+-- What the words ask for: the code's own request, whose words are lists of bytes.
+use Rattle.std.specs.Prelude.{ℕ, ◌≤◌, ⊤, List, [], ◌∷◌, Bool, false, ◌==◌, ◌&&◌, nat_le, if◌then◌else◌, Option, Some, None, option_map, option_and_then, is_some, find, length, slice_index_or, bytes_eq, codes}
 use Rattle.std.specs.List.{list_all}
 use Rattle.std.specs.Option.{option_or}
 use Rattle.pl_spec.specs.Limits.{most_chunk, most_window}
@@ -10,6 +10,19 @@ use Rattle.pl_spec.specs.declared.Column.{Column}
 use Rattle.pl_spec.specs.declared.Column.TheVariants.{OpenPrice, High, Low, Close, Volume}
 use Rattle.pl_spec.specs.declared.Format as form
 use Rattle.pl_spec.specs.declared.Format.TheVariants.{Csv, Fixed, Cells}
+pub use Rattle.pl_words.specs.declared.request.DateWord.{DateWord}
+pub use Rattle.pl_words.specs.declared.request.Options.{Options}
+pub use Rattle.pl_words.specs.declared.request.WorldNames.{WorldNames}
+pub use Rattle.pl_words.specs.declared.request.RunRequest.{RunRequest}
+pub use Rattle.pl_words.specs.declared.request.CutRequest.{CutRequest}
+pub use Rattle.pl_words.specs.declared.request.PlanRequest.{PlanRequest}
+pub use Rattle.pl_words.specs.declared.request.BenchRequest.{BenchRequest}
+pub use Rattle.pl_words.specs.declared.request.PayoutsRequest.{PayoutsRequest}
+pub use Rattle.pl_words.specs.declared.request.ExplainRequest.{ExplainRequest}
+pub use Rattle.pl_words.specs.declared.request.VerifyRequest.{VerifyRequest}
+pub use Rattle.pl_words.specs.declared.request.WindowsRequest.{WindowsRequest}
+pub use Rattle.pl_words.specs.declared.request.Request.{Request}
+pub use Rattle.pl_words.specs.declared.request.Request.TheVariants.{Run, Fmt, Check, Plan, Bench, Payouts, Explain, Verify, Daily, Cut, Windows}
 use Rattle.pl_words.specs.declared.request.RangeDate.{RangeDate}
 use Rattle.pl_words.specs.declared.request.RangeDate.TheVariants.{From, To, AsOf, At}
 use Rattle.pl_words.specs.declared.request.WorldPart.{WorldPart}
@@ -23,103 +36,7 @@ use Rattle.pl_words.specs.declared.commands.CommandName.TheVariants as command
 use Rattle.pl_words.specs.Commands.{command_named, places_of, options_of}
 use Rattle.pl_words.specs.Parts.{Word, parts, names_of, values_of, is_text, one_value}
 
--- a date as it is written, and its day
-pub record Dated : Type 0 where
-  pub text : List ℕ
-  pub day : ℤ
-
--- how many sessions a table is computed of at a time, its form, whether its numbers are told, and the date as
--- of which it is
-pub record Options : Type 0 where
-  pub chunk : ℕ
-  pub format : form.Format
-  pub stats : Bool
-  pub as_of : Option Dated
-
--- the names of the files of a world, and those of its labels, numbers, results, adjustments and revisions
--- where it has some; results are numbers of a second file
-pub record WorldNames : Type 0 where
-  pub sessions : List ℕ
-  pub assets : List ℕ
-  pub bars : List ℕ
-  pub labels : Option (List ℕ)
-  pub numbers : Option (List ℕ)
-  pub results : Option (List ℕ)
-  pub adjustments : Option (List ℕ)
-  pub revisions : Option (List ℕ)
-
--- the table of a pipeline over a world, from a date to a date
-pub record RunRequest : Type 0 where
-  pub pipeline : List ℕ
-  pub world : WorldNames
-  pub from : Dated
-  pub to : Dated
-  pub options : Options
-
--- the cell of a column for an asset on a date, of a pipeline over a world
-pub record ExplainRequest : Type 0 where
-  pub pipeline : List ℕ
-  pub world : WorldNames
-  pub sid : ℕ
-  pub date : Dated
-  pub column : List ℕ
-
--- the lines of the derivation of that name, of a pipeline over a world
-pub record VerifyRequest : Type 0 where
-  pub pipeline : List ℕ
-  pub world : WorldNames
-  pub derivation : List ℕ
-
--- a part of what a table reads of its world
-pub record CutRequest : Type 0 where
-  pub table : RunRequest
-  pub part : WorldPart
-
--- the plan of a pipeline over the sessions of that name, from a date to a date
-pub record PlanRequest : Type 0 where
-  pub pipeline : List ℕ
-  pub sessions : List ℕ
-  pub from : Dated
-  pub to : Dated
-
--- the stated pipeline over the stated world of that number, so many sessions at a time
-pub record BenchRequest : Type 0 where
-  pub number : ℕ
-  pub chunk : ℕ
-
--- the payouts of the file of that name, over the sessions, assets and bars of the others
-pub record PayoutsRequest : Type 0 where
-  pub sessions : List ℕ
-  pub assets : List ℕ
-  pub bars : List ℕ
-  pub payouts : List ℕ
-
--- the windows of so many sessions over a bar column of a world, from a date to a date
-pub record WindowsRequest : Type 0 where
-  pub world : WorldNames
-  pub column : Column
-  pub from : Dated
-  pub to : Dated
-  pub window : ℕ
-
--- the table of a pipeline, the canonical text of a pipeline file, whether it keeps the rules, a plan, the
--- numbers of a run over a stated world, the ratios of payouts, the derivation of a cell, whether a derivation
--- is right, a table that is computed session by session, a part of what a table reads, or the windows of a bar
--- column
-pub data Request : Type 0 where
-  Run : RunRequest → Request
-  Fmt : (pipeline : List ℕ) → Request
-  Check : (pipeline : List ℕ) → Request
-  Plan : PlanRequest → Request
-  Bench : BenchRequest → Request
-  Payouts : PayoutsRequest → Request
-  Explain : ExplainRequest → Request
-  Verify : VerifyRequest → Request
-  Daily : RunRequest → Request
-  Cut : CutRequest → Request
-  Windows : WindowsRequest → Request
-
-abbrev pub dated : Word → Option Dated
+abbrev pub dated : Word → Option DateWord
 dated text = option_map (λ day. record { text = text; day = day }) (date_in text)
 
 abbrev pub name : List Word → ℕ → Word
@@ -180,11 +97,11 @@ abbrev pub stats_by : Values → Option Bool
 stats_by values = option_map (λ value. is_some value) (one_value (values option.Stats))
 
 -- none where no such date is given
-abbrev pub as_of_or : Option Word → Option (Option Dated)
+abbrev pub as_of_or : Option Word → Option (Option DateWord)
 as_of_or None = Some None
 as_of_or (Some text) = option_map Some (dated text)
 
-abbrev pub as_of_by : Values → Option (Option Dated)
+abbrev pub as_of_by : Values → Option (Option DateWord)
 as_of_by values = option_and_then as_of_or (one_value (values option.AsOf))
 
 abbrev pub options_by : Values → Option Options
@@ -218,7 +135,7 @@ world_in names values =
     (one_value (values option.Revisions))) (one_value (values option.Adjustments))) (one_value (values option.Results)))
     (one_value (values option.Numbers))) (one_value (values option.Labels))
 
-abbrev pub table_over : List Word → Options → Dated → Dated → WorldNames → RunRequest
+abbrev pub table_over : List Word → Options → DateWord → DateWord → WorldNames → RunRequest
 table_over names options from to world =
     record { pipeline = name names 0; world = world; from = from; to = to; options = options }
 
@@ -249,7 +166,7 @@ cut_over part table = record { table = table; part = part }
 abbrev pub cut_in : List Word → Values → Option CutRequest
 cut_in names values = option_and_then (λ part. option_map (cut_over part) (table_in names values (usual Csv))) (part_by values)
 
-abbrev pub plan_over : List Word → Dated → Dated → PlanRequest
+abbrev pub plan_over : List Word → DateWord → DateWord → PlanRequest
 plan_over names from to = record { pipeline = name names 0; sessions = name names 1; from = from; to = to }
 
 -- two names and two dates
@@ -268,7 +185,7 @@ abbrev pub payouts_over : List Word → PayoutsRequest
 payouts_over names =
     record { sessions = name names 0; assets = name names 1; bars = name names 2; payouts = name names 3 }
 
-abbrev pub explain_over : List Word → ℕ → Dated → WorldNames → ExplainRequest
+abbrev pub explain_over : List Word → ℕ → DateWord → WorldNames → ExplainRequest
 explain_over names sid date world =
     record { pipeline = name names 0; world = world; sid = sid; date = date; column = name names 6 }
 
@@ -315,7 +232,7 @@ bar_column_in text = find (λ c. bytes_eq text (column_name c)) (OpenPrice ∷ H
 abbrev pub window_in : Word → Option ℕ
 window_in text = option_and_then (λ n. if nat_le 1 n && nat_le n most_window then Some n else None) (sid_in text)
 
-abbrev pub windows_over : Column → Dated → Dated → ℕ → WorldNames → WindowsRequest
+abbrev pub windows_over : Column → DateWord → DateWord → ℕ → WorldNames → WindowsRequest
 windows_over column from to window world =
     record { world = world; column = column; from = from; to = to; window = window }
 

@@ -1,6 +1,6 @@
 //! The words after the command, cut into names and options by clap.
 
-ghost use Rattle.std.specs.Prelude.{◌≡◌, [], IfOk, None, map, string_bytes, Some, MatchOption, MatchResult, option_map, false};
+ghost use Rattle.std.specs.Prelude.{◌≡◌, [], IfOk, None, map, string_bytes, Some, MatchOption, MatchResult, false};
 ghost use Rattle.clap.specs.Words.{FailsBy, app_of, fault_of, found_of, matches_of, rows_of, rule_of, with_rule};
 ghost use Rattle.clap.specs.declared.error.kind.ErrorKind.TheVariants.{OutOfMemory};
 ghost use Rattle.pl_words.specs.Parts.{parts, is_short, has_short, one_value};
@@ -8,6 +8,7 @@ ghost use Rattle.pl_words.specs.Commands.{options_of};
 ghost use Rattle.pl_words.specs.Apps.{app_for, bare_app, long_rule, names_rule, option_rule, IsAnswered, values_at, values_in};
 
 use crate::commands::{CommandName, OptionName};
+use crate::request::Word;
 use crate::text::{Refused, is_text};
 use clap::error::ErrorKind;
 use clap::{Arg, ArgAction, ArgMatches, Command, Error};
@@ -50,9 +51,9 @@ pub(crate) fn values<'m, 'a>(matches: &'m ArgMatches<'a>, id: &str) -> Option<&'
 pub(crate) fn value<'a>(
     matches: &ArgMatches<'a>,
     option: OptionName,
-) -> Result<Option<&'a str>, Refused>
+) -> Result<Option<Word<'a>>, Refused>
     ensures { MatchResult result
-        (λ v. one_value (values_in matches.now option) ≡ Some (option_map (λ s. s.now) v))
+        (λ v. one_value (values_in matches.now option) ≡ Some v)
         (λ _. one_value (values_in matches.now option) ≡ None) }
 {
     match values(matches, option.text()) {
@@ -62,16 +63,16 @@ pub(crate) fn value<'a>(
 }
 
 #[tactic(auto, using(crate::proofs::Reading::one_of))]
-fn one<'a>(values: &[&'a str]) -> Result<Option<&'a str>, Refused>
-    ensures { MatchResult result (λ v. one_value (map (λ s. s.now) values.now)
-        ≡ Some (option_map (λ s. s.now) v))
+fn one<'a>(values: &[&'a str]) -> Result<Option<Word<'a>>, Refused>
+    ensures { MatchResult result
+        (λ v. one_value (map (λ s. s.now) values.now) ≡ Some v)
         (λ _. one_value (map (λ s. s.now) values.now) ≡ None) }
 {
     if values.is_empty() {
         return Ok(None);
     }
     if values.len() == 1 && is_text(values[0]) {
-        Ok(Some(values[0]))
+        Ok(Some(Word::new(values[0])))
     } else {
         Err(Refused)
     }

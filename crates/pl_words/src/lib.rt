@@ -15,6 +15,6 @@ mod text;
 pub use read::read_words;
 pub use request::{
     BenchRequest, CutRequest, DateWord, ExplainRequest, InputFile, Options, PayoutsRequest,
-    PlanRequest, RangeDate, Request, RunRequest, VerifyRequest, WindowsRequest, WorldNames,
+    PlanRequest, RangeDate, Request, RunRequest, VerifyRequest, WindowsRequest, Word, WorldNames,
     WorldPart, adjustments_asked, column_asked, date_asked, name_asked,
 };

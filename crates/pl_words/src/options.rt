@@ -1,13 +1,12 @@
 //! The options of a table, by the values that each was given.
 
-ghost use Rattle.std.specs.Prelude.{◌≡◌, ◌≤◌, None, Some, MatchOption, length, map, option_map};
+ghost use Rattle.std.specs.Prelude.{◌≡◌, ◌≤◌, length, map};
 ghost use Rattle.pl_words.specs.Apps.{values_in};
 ghost use Rattle.pl_words.specs.Request.{as_of_by, dated, chunk_in, chunk_by, format_in, format_by, stats_by, options_by, part_by, part_in, usual, bar_column_in, bars_world_in, column_in, window_in, world_in};
-ghost use Rattle.pl_words.specs.Views.{dated_of, options_of, world_names_of};
 
 use crate::commands::OptionName;
 use crate::cut::value;
-use crate::request::{DateWord, Options, WorldNames, WorldPart};
+use crate::request::{DateWord, Options, Word, WorldNames, WorldPart};
 use clap::ArgMatches;
 use pl_fixed::{is_name, read_day, read_sid};
 use pl_spec::{Column, Format};
@@ -16,8 +15,7 @@ use pl_spec::{Column, Format};
 const MOST_CHUNK: u32 = 4096;
 
 pub(crate) fn options<'a>(matches: &ArgMatches<'a>) -> Option<Options<'a>>
-    ensures { MatchOption result (options_by (values_in matches.now) ≡ None)
-        (λ s. options_by (values_in matches.now) ≡ Some (options_of s)) }
+    ensures { result ≡ options_by (values_in matches.now) }
 {
     let chunk = chunk(matches)?;
     let format = format(matches)?;
@@ -34,9 +32,7 @@ pub(crate) fn options<'a>(matches: &ArgMatches<'a>) -> Option<Options<'a>>
 /// The names of a world: three of the names, and the values of five options.
 pub(crate) fn world_in<'a>(names: &[&'a str], matches: &ArgMatches<'a>) -> Option<WorldNames<'a>>
     requires { 4 ≤ length names.now }
-    ensures { MatchOption result
-        (world_in (map (λ v. v.now) names.now) (values_in matches.now) ≡ None)
-        (λ r. world_in (map (λ v. v.now) names.now) (values_in matches.now) ≡ Some (world_names_of r)) }
+    ensures { result ≡ world_in (map (λ v. v.now) names.now) (values_in matches.now) }
 {
     let labels = value(matches, OptionName::Labels).ok()?;
     let numbers = value(matches, OptionName::Numbers).ok()?;
@@ -44,9 +40,9 @@ pub(crate) fn world_in<'a>(names: &[&'a str], matches: &ArgMatches<'a>) -> Optio
     let adjustments = value(matches, OptionName::Adjustments).ok()?;
     let revisions = value(matches, OptionName::Revisions).ok()?;
     Some(WorldNames {
-        sessions: names[1],
-        assets: names[2],
-        bars: names[3],
+        sessions: Word::new(names[1]),
+        assets: Word::new(names[2]),
+        bars: Word::new(names[3]),
         labels,
         numbers,
         results,
@@ -65,17 +61,14 @@ pub(crate) fn bars_world_in<'a>(
     matches: &ArgMatches<'a>,
 ) -> Option<WorldNames<'a>>
     requires { 3 ≤ length names.now }
-    ensures { MatchOption result
-        (bars_world_in (map (λ v. v.now) names.now) (values_in matches.now) ≡ None)
-        (λ r. bars_world_in (map (λ v. v.now) names.now) (values_in matches.now)
-        ≡ Some (world_names_of r)) }
+    ensures { result ≡ bars_world_in (map (λ v. v.now) names.now) (values_in matches.now) }
 {
     let adjusted = value(matches, OptionName::Adjustments).ok()?;
     let revised = value(matches, OptionName::Revisions).ok()?;
     Some(WorldNames {
-        sessions: names[0],
-        assets: names[1],
-        bars: names[2],
+        sessions: Word::new(names[0]),
+        assets: Word::new(names[1]),
+        bars: Word::new(names[2]),
         labels: None,
         numbers: None,
         results: None,
@@ -86,7 +79,7 @@ pub(crate) fn bars_world_in<'a>(
 
 /// The options of a table whose words give its form alone.
 pub(crate) fn usual<'a>(format: Format) -> Options<'a>
-    ensures { options_of result ≡ usual format }
+    ensures { result ≡ usual format }
 {
     Options {
         chunk: USUAL_CHUNK,
@@ -102,7 +95,7 @@ pub(crate) fn chunk(matches: &ArgMatches<'_>) -> Option<u32>
     match value(matches, OptionName::Chunk) {
         Err(_) => None,
         Ok(None) => Some(USUAL_CHUNK),
-        Ok(Some(text)) => chunk_in(text),
+        Ok(Some(text)) => chunk_in(text.text()),
     }
 }
 
@@ -112,7 +105,7 @@ pub(crate) fn format(matches: &ArgMatches<'_>) -> Option<Format>
     match value(matches, OptionName::Format) {
         Err(_) => None,
         Ok(None) => Some(Format::Csv),
-        Ok(Some(text)) => format_in(text),
+        Ok(Some(text)) => format_in(text.text()),
     }
 }
 
@@ -122,7 +115,7 @@ pub(crate) fn part(matches: &ArgMatches<'_>) -> Option<WorldPart>
     match value(matches, OptionName::Part) {
         Err(_) => None,
         Ok(None) => None,
-        Ok(Some(text)) => part_in(text),
+        Ok(Some(text)) => part_in(text.text()),
     }
 }
 
@@ -153,13 +146,12 @@ fn stats(matches: &ArgMatches<'_>) -> Option<bool>
 }
 
 fn as_of<'a>(matches: &ArgMatches<'a>) -> Option<Option<DateWord<'a>>>
-    ensures { MatchOption result (as_of_by (values_in matches.now) ≡ None)
-        (λ d. as_of_by (values_in matches.now) ≡ Some (option_map dated_of d)) }
+    ensures { result ≡ as_of_by (values_in matches.now) }
 {
     match value(matches, OptionName::AsOf) {
         Err(_) => None,
         Ok(None) => Some(None),
-        Ok(Some(text)) => Some(Some(date_in(text)?)),
+        Ok(Some(text)) => Some(Some(date_in(text.text())?)),
     }
 }
 
@@ -217,17 +209,20 @@ pub(crate) fn bar_column_in(text: &str) -> Option<Column>
 }
 
 pub(crate) fn date_in<'a>(text: &'a str) -> Option<DateWord<'a>>
-    ensures { MatchOption result (dated text.now ≡ None) (λ d. dated text.now ≡ Some (dated_of d)) }
+    ensures { result ≡ dated text.now }
 {
     let day = read_day(text.as_bytes())?;
-    Some(DateWord { text, day })
+    Some(DateWord {
+        text: Word::new(text),
+        day,
+    })
 }
 
-pub(crate) fn column_in<'a>(text: &'a str) -> Option<&'a str>
-    ensures { option_map (λ n. n.now) result ≡ column_in text.now }
+pub(crate) fn column_in<'a>(text: &'a str) -> Option<Word<'a>>
+    ensures { result ≡ column_in text.now }
 {
     if is_name(text.as_bytes()) {
-        Some(text)
+        Some(Word::new(text))
     } else {
         None
     }

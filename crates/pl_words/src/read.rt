@@ -1,13 +1,12 @@
 //! The words, read as a request.
 
-ghost use Rattle.std.specs.Prelude.{◌≡◌, None, Some, IfOk, IfSome, MatchOption, map, length, string_bytes, option_map};
+ghost use Rattle.std.specs.Prelude.{◌≡◌, IfOk, IfSome, map, length, string_bytes, option_map};
 ghost use Rattle.std.specs.List.{list_all};
 ghost use Rattle.pl_words.specs.Parts.{is_text};
 ghost use Rattle.pl_words.specs.Commands.{places_of};
 ghost use Rattle.pl_words.specs.Apps.{names_in, values_in};
 ghost use Rattle.pl_words.specs.declared.commands.CommandName.TheVariants as commands;
 ghost use Rattle.pl_words.specs.Request.{HasChunk, Plan, asked, counted, payouts_over, plan_in, request, request_in, table_in};
-ghost use Rattle.pl_words.specs.Views.{Says, options_of, payouts_of, request_of, run_of};
 
 use crate::commands::{CommandName, command_named};
 use crate::cut::{cut, values};
@@ -17,7 +16,7 @@ use crate::options::{
 };
 use crate::request::{
     BenchRequest, CutRequest, ExplainRequest, Options, PayoutsRequest, PlanRequest, Request,
-    RunRequest, VerifyRequest, WindowsRequest,
+    RunRequest, VerifyRequest, WindowsRequest, Word,
 };
 use crate::text::is_text;
 use clap::ArgMatches;
@@ -30,8 +29,7 @@ use std::alloc::Global;
 /// want of memory.
 #[tactic(auto, unfolding(crate::specs::Request::request))]
 pub fn read_words<'a>(alloc: Global, words: &'a [String]) -> Result<Option<Request<'a>>, Memory>
-    ensures asked { IfOk result (λ o. MatchOption o (request (map (λ s. string_bytes s) words.now) ≡ None)
-        (λ r. request (map (λ s. string_bytes s) words.now) ≡ Some (request_of r))) }
+    ensures asked { IfOk result (λ o. o ≡ request (map (λ s. string_bytes s) words.now)) }
     ensures chunk { IfSome (request (map (λ s. string_bytes s) words.now)) HasChunk }
 {
     match words {
@@ -48,8 +46,7 @@ fn read_command<'a>(
     command: CommandName,
     words: &'a [String],
 ) -> Result<Option<Request<'a>>, Memory>
-    ensures { IfOk result (λ o. MatchOption o (asked command (map (λ s. string_bytes s) words.now) ≡ None)
-        (λ r. asked command (map (λ s. string_bytes s) words.now) ≡ Some (request_of r))) }
+    ensures { IfOk result (λ o. o ≡ asked command (map (λ s. string_bytes s) words.now)) }
 {
     if !are_texts(words) {
         return Ok(None);
@@ -61,10 +58,7 @@ fn read_command<'a>(
 }
 
 fn read_matches<'a>(command: CommandName, matches: &ArgMatches<'a>) -> Option<Request<'a>>
-    ensures { MatchOption result
-        (counted command (names_in matches.now) (values_in matches.now) ≡ None)
-        (λ r. counted command (names_in matches.now) (values_in matches.now)
-        ≡ Some (request_of r)) }
+    ensures { result ≡ counted command (names_in matches.now) (values_in matches.now) }
 {
     let names = values(matches, "names")?;
     if names.len() == command.places() {
@@ -80,12 +74,12 @@ fn request_in<'a>(
     matches: &ArgMatches<'a>,
 ) -> Option<Request<'a>>
     requires { length names.now ≡ places_of command }
-    ensures { Says result (request_in command (map (λ v. v.now) names.now) (values_in matches.now)) }
+    ensures { result ≡ request_in command (map (λ v. v.now) names.now) (values_in matches.now) }
 {
     match command {
         CommandName::Run => run_in(names, matches),
-        CommandName::Check => Some(Request::Check(names[0])),
-        CommandName::Fmt => Some(Request::Fmt(names[0])),
+        CommandName::Check => Some(Request::Check(Word::new(names[0]))),
+        CommandName::Fmt => Some(Request::Fmt(Word::new(names[0]))),
         CommandName::Plan => plan_in(names),
         CommandName::Bench => bench_in(names, matches),
         CommandName::Payouts => Some(Request::Payouts(payouts_over(names))),
@@ -99,7 +93,7 @@ fn request_in<'a>(
 
 fn run_in<'a>(names: &[&'a str], matches: &ArgMatches<'a>) -> Option<Request<'a>>
     requires { length names.now ≡ 6 }
-    ensures { Says result (request_in commands.Run (map (λ v. v.now) names.now) (values_in matches.now)) }
+    ensures { result ≡ request_in commands.Run (map (λ v. v.now) names.now) (values_in matches.now) }
 {
     let options = options(matches)?;
     Some(Request::Run(table_in(names, matches, options)?))
@@ -107,7 +101,7 @@ fn run_in<'a>(names: &[&'a str], matches: &ArgMatches<'a>) -> Option<Request<'a>
 
 fn daily_in<'a>(names: &[&'a str], matches: &ArgMatches<'a>) -> Option<Request<'a>>
     requires { length names.now ≡ 6 }
-    ensures { Says result (request_in commands.Daily (map (λ v. v.now) names.now) (values_in matches.now)) }
+    ensures { result ≡ request_in commands.Daily (map (λ v. v.now) names.now) (values_in matches.now) }
 {
     let options = usual(format(matches)?);
     Some(Request::Daily(table_in(names, matches, options)?))
@@ -115,7 +109,7 @@ fn daily_in<'a>(names: &[&'a str], matches: &ArgMatches<'a>) -> Option<Request<'
 
 fn cut_in<'a>(names: &[&'a str], matches: &ArgMatches<'a>) -> Option<Request<'a>>
     requires { length names.now ≡ 6 }
-    ensures { Says result (request_in commands.Cut (map (λ v. v.now) names.now) (values_in matches.now)) }
+    ensures { result ≡ request_in commands.Cut (map (λ v. v.now) names.now) (values_in matches.now) }
 {
     let part = part(matches)?;
     let table = table_in(names, matches, usual(Format::Csv))?;
@@ -128,14 +122,13 @@ fn table_in<'a>(
     options: Options<'a>,
 ) -> Option<RunRequest<'a>>
     requires { length names.now ≡ 6 }
-    ensures { let asked = table_in (map (λ v. v.now) names.now) (values_in matches.now) (options_of options.entry) in
-        MatchOption result (asked ≡ None) (λ r. asked ≡ Some (run_of r)) }
+    ensures { result ≡ table_in (map (λ v. v.now) names.now) (values_in matches.now) options.entry }
 {
     let from = date_in(names[4])?;
     let to = date_in(names[5])?;
     let world = world_in(names, matches)?;
     Some(RunRequest {
-        pipeline: names[0],
+        pipeline: Word::new(names[0]),
         world,
         from,
         to,
@@ -145,13 +138,13 @@ fn table_in<'a>(
 
 fn plan_in<'a>(names: &[&'a str]) -> Option<Request<'a>>
     requires { length names.now ≡ 4 }
-    ensures { Says result (option_map Plan (plan_in (map (λ v. v.now) names.now))) }
+    ensures { result ≡ option_map Plan (plan_in (map (λ v. v.now) names.now)) }
 {
     let from = date_in(names[2])?;
     let to = date_in(names[3])?;
     Some(Request::Plan(PlanRequest {
-        pipeline: names[0],
-        sessions: names[1],
+        pipeline: Word::new(names[0]),
+        sessions: Word::new(names[1]),
         from,
         to,
     }))
@@ -159,7 +152,7 @@ fn plan_in<'a>(names: &[&'a str]) -> Option<Request<'a>>
 
 fn bench_in<'a>(names: &[&str], matches: &ArgMatches<'_>) -> Option<Request<'a>>
     requires { length names.now ≡ 1 }
-    ensures { Says result (request_in commands.Bench (map (λ v. v.now) names.now) (values_in matches.now)) }
+    ensures { result ≡ request_in commands.Bench (map (λ v. v.now) names.now) (values_in matches.now) }
 {
     // The bytes of a sid are those of any number of 32 bits without sign or leading zeros.
     let number = read_sid(names[0].as_bytes())?;
@@ -169,26 +162,26 @@ fn bench_in<'a>(names: &[&str], matches: &ArgMatches<'_>) -> Option<Request<'a>>
 
 fn payouts_over<'a>(names: &[&'a str]) -> PayoutsRequest<'a>
     requires { length names.now ≡ 4 }
-    ensures { payouts_of result ≡ payouts_over (map (λ v. v.now) names.now) }
+    ensures { result ≡ payouts_over (map (λ v. v.now) names.now) }
 {
     PayoutsRequest {
-        sessions: names[0],
-        assets: names[1],
-        bars: names[2],
-        payouts: names[3],
+        sessions: Word::new(names[0]),
+        assets: Word::new(names[1]),
+        bars: Word::new(names[2]),
+        payouts: Word::new(names[3]),
     }
 }
 
 fn explain_in<'a>(names: &[&'a str], matches: &ArgMatches<'a>) -> Option<Request<'a>>
     requires { length names.now ≡ 7 }
-    ensures { Says result (request_in commands.Explain (map (λ v. v.now) names.now) (values_in matches.now)) }
+    ensures { result ≡ request_in commands.Explain (map (λ v. v.now) names.now) (values_in matches.now) }
 {
     let sid = read_sid(names[4].as_bytes())?;
     let date = date_in(names[5])?;
     let column = column_in(names[6])?;
     let world = world_in(names, matches)?;
     Some(Request::Explain(ExplainRequest {
-        pipeline: names[0],
+        pipeline: Word::new(names[0]),
         world,
         sid,
         date,
@@ -198,19 +191,19 @@ fn explain_in<'a>(names: &[&'a str], matches: &ArgMatches<'a>) -> Option<Request
 
 fn verify_in<'a>(names: &[&'a str], matches: &ArgMatches<'a>) -> Option<Request<'a>>
     requires { length names.now ≡ 5 }
-    ensures { Says result (request_in commands.Verify (map (λ v. v.now) names.now) (values_in matches.now)) }
+    ensures { result ≡ request_in commands.Verify (map (λ v. v.now) names.now) (values_in matches.now) }
 {
     let world = world_in(names, matches)?;
     Some(Request::Verify(VerifyRequest {
-        pipeline: names[0],
+        pipeline: Word::new(names[0]),
         world,
-        derivation: names[4],
+        derivation: Word::new(names[4]),
     }))
 }
 
 fn windows_in<'a>(names: &[&'a str], matches: &ArgMatches<'a>) -> Option<Request<'a>>
     requires { length names.now ≡ 7 }
-    ensures { Says result (request_in commands.Windows (map (λ v. v.now) names.now) (values_in matches.now)) }
+    ensures { result ≡ request_in commands.Windows (map (λ v. v.now) names.now) (values_in matches.now) }
 {
     let column = bar_column_in(names[3])?;
     let first = date_in(names[4])?;

@@ -2,9 +2,9 @@
 
 ghost use Rattle.std.specs.Prelude.{◌≡◌, [], option_map, option_and_then, unwrap_or};
 ghost use Rattle.pl_words.specs.Request.{adjustments_of, column_asked, column_named, date_asked, date_named, file_named, name_asked, numbers_named, pipeline_of, table_date, world_file, world_of};
-ghost use Rattle.pl_words.specs.Views.{dated_of, request_of, run_of, text_of, world_names_of};
 
 use pl_spec::{Column, Format};
+use std::marker::Model;
 
 /// A file that a command reads, by what it is to the command.
 #[derive(Clone, Copy, Debug, PartialEq, Eq)]
@@ -44,16 +44,46 @@ pub enum WorldPart {
     Revisions,
 }
 
+/// A word of a command: a name or a date as it is written. Clauses see it as its bytes.
+#[derive(Drop)]
+pub struct Word<'a> {
+    text: &'a str,
+}
+
+impl<'a> Model for Word<'a> {
+    ghost use Rattle.std.specs.Prelude.{List, ℕ};
+
+    ghost Value = { List ℕ };
+
+    ghost view = { λ word. word.text.now };
+}
+
+impl<'a> Word<'a> {
+    /// The word of this text.
+    pub fn new(text: &'a str) -> Word<'a>
+        ensures { result ≡ text.entry.now }
+    {
+        Word { text }
+    }
+
+    /// Its text.
+    pub fn text(&self) -> &'a str
+        ensures { result.now ≡ self.now }
+    {
+        self.text
+    }
+}
+
 /// A date as it is written, `YYYY-MM-DD`, and its day, counted from 1970-01-01.
-#[derive(Clone, Copy)]
+#[derive(Drop)]
 pub struct DateWord<'a> {
-    pub text: &'a str,
+    pub text: Word<'a>,
     pub day: i32,
 }
 
 /// How many sessions a table is computed of at a time, from 1 to 4096, its form, whether its numbers are
 /// told, and the date as of which it is.
-#[derive(Clone, Copy)]
+#[derive(Drop)]
 pub struct Options<'a> {
     pub chunk: u32,
     pub format: Format,
@@ -63,22 +93,22 @@ pub struct Options<'a> {
 
 /// The names of the files of a world, and those of its labels, numbers, results, adjustments and revisions
 /// where it has some. Results are numbers of a second file.
-#[derive(Clone, Copy)]
+#[derive(Drop)]
 pub struct WorldNames<'a> {
-    pub sessions: &'a str,
-    pub assets: &'a str,
-    pub bars: &'a str,
-    pub labels: Option<&'a str>,
-    pub numbers: Option<&'a str>,
-    pub results: Option<&'a str>,
-    pub adjustments: Option<&'a str>,
-    pub revisions: Option<&'a str>,
+    pub sessions: Word<'a>,
+    pub assets: Word<'a>,
+    pub bars: Word<'a>,
+    pub labels: Option<Word<'a>>,
+    pub numbers: Option<Word<'a>>,
+    pub results: Option<Word<'a>>,
+    pub adjustments: Option<Word<'a>>,
+    pub revisions: Option<Word<'a>>,
 }
 
 /// What a table is asked for: the names of a pipeline and of a world, two dates, and its options.
-#[derive(Clone, Copy)]
+#[derive(Drop)]
 pub struct RunRequest<'a> {
-    pub pipeline: &'a str,
+    pub pipeline: Word<'a>,
     pub world: WorldNames<'a>,
     pub from: DateWord<'a>,
     pub to: DateWord<'a>,
@@ -86,17 +116,17 @@ pub struct RunRequest<'a> {
 }
 
 /// A table, and which part of what it reads of its world is asked for.
-#[derive(Clone, Copy)]
+#[derive(Drop)]
 pub struct CutRequest<'a> {
     pub table: RunRequest<'a>,
     pub part: WorldPart,
 }
 
 /// What a plan is asked for: the names of its two files, and two dates.
-#[derive(Clone, Copy)]
+#[derive(Drop)]
 pub struct PlanRequest<'a> {
-    pub pipeline: &'a str,
-    pub sessions: &'a str,
+    pub pipeline: Word<'a>,
+    pub sessions: Word<'a>,
     pub from: DateWord<'a>,
     pub to: DateWord<'a>,
 }
@@ -110,35 +140,35 @@ pub struct BenchRequest {
 }
 
 /// The names of the files whose payouts are turned into ratios.
-#[derive(Clone, Copy)]
+#[derive(Drop)]
 pub struct PayoutsRequest<'a> {
-    pub sessions: &'a str,
-    pub assets: &'a str,
-    pub bars: &'a str,
-    pub payouts: &'a str,
+    pub sessions: Word<'a>,
+    pub assets: Word<'a>,
+    pub bars: Word<'a>,
+    pub payouts: Word<'a>,
 }
 
 /// The names of a pipeline, of a world and of a column, and the asset and the date of the cell that is asked
 /// for.
-#[derive(Clone, Copy)]
+#[derive(Drop)]
 pub struct ExplainRequest<'a> {
-    pub pipeline: &'a str,
+    pub pipeline: Word<'a>,
     pub world: WorldNames<'a>,
     pub sid: u32,
     pub date: DateWord<'a>,
-    pub column: &'a str,
+    pub column: Word<'a>,
 }
 
 /// The names of a derivation, and of the pipeline and the world of which it tells.
-#[derive(Clone, Copy)]
+#[derive(Drop)]
 pub struct VerifyRequest<'a> {
-    pub pipeline: &'a str,
+    pub pipeline: Word<'a>,
     pub world: WorldNames<'a>,
-    pub derivation: &'a str,
+    pub derivation: Word<'a>,
 }
 
 /// The names of a world, a bar column, two dates, and how many sessions a window has, from 1 to 1260.
-#[derive(Clone, Copy)]
+#[derive(Drop)]
 pub struct WindowsRequest<'a> {
     pub world: WorldNames<'a>,
     pub column: Column,
@@ -148,14 +178,13 @@ pub struct WindowsRequest<'a> {
 }
 
 /// A command with what it is asked for.
-#[derive(Clone, Copy)]
 pub enum Request<'a> {
     /// The table of a pipeline.
     Run(RunRequest<'a>),
     /// The canonical text of the pipeline file of that name.
-    Fmt(&'a str),
+    Fmt(Word<'a>),
     /// Whether the pipeline file of that name keeps the rules of the language.
-    Check(&'a str),
+    Check(Word<'a>),
     /// The plan of a pipeline.
     Plan(PlanRequest<'a>),
     /// The numbers of a run over a stated world.
@@ -174,33 +203,50 @@ pub enum Request<'a> {
     Windows(WindowsRequest<'a>),
 }
 
+// One call lets it go, so that no caller's proof goes into its parts.
+impl Drop for Request<'_> {
+    fn drop(self) {
+        match self {
+            Request::Run(_request) | Request::Daily(_request) => {}
+            Request::Fmt(_name) | Request::Check(_name) => {}
+            Request::Plan(_request) => {}
+            Request::Bench(_request) => {}
+            Request::Payouts(_request) => {}
+            Request::Explain(_request) => {}
+            Request::Verify(_request) => {}
+            Request::Cut(_request) => {}
+            Request::Windows(_request) => {}
+        }
+    }
+}
+
 /// The name of a file that words ask for; nothing where they ask for none.
 pub fn name_asked<'a>(asked: Option<&Request<'a>>, file: InputFile) -> &'a str
-    ensures { result.now ≡ unwrap_or (name_asked (option_map (λ q. request_of q.now) asked.entry) file) [] }
+    ensures { result.now ≡ unwrap_or (name_asked (option_map (λ q. q.now) asked.entry) file) [] }
 {
     match asked {
-        Some(request) => request.file(file).unwrap_or(""),
+        Some(request) => text_of(request.file(file)),
         None => "",
     }
 }
 
 /// The text of a date that words ask for; nothing where they ask for none.
 pub fn date_asked<'a>(asked: Option<&Request<'a>>, date: RangeDate) -> &'a str
-    ensures { result.now ≡ unwrap_or (date_asked (option_map (λ q. request_of q.now) asked.entry) date) [] }
+    ensures { result.now ≡ unwrap_or (date_asked (option_map (λ q. q.now) asked.entry) date) [] }
 {
     match asked {
-        Some(request) => request.date(date).unwrap_or(""),
+        Some(request) => text_of(request.date(date)),
         None => "",
     }
 }
 
 /// The name of the adjustments that words ask for; nothing where they ask for none.
 pub fn adjustments_asked<'a>(asked: Option<&Request<'a>>) -> &'a str
-    ensures { result.now ≡ unwrap_or (adjustments_of (option_map (λ q. request_of q.now) asked.entry)) [] }
+    ensures { result.now ≡ unwrap_or (adjustments_of (option_map (λ q. q.now) asked.entry)) [] }
 {
     match asked {
         Some(request) => match request.world() {
-            Some(world) => world.adjustments.unwrap_or(""),
+            Some(world) => text_of(world.adjustments.as_ref()),
             None => "",
         },
         None => "",
@@ -209,31 +255,31 @@ pub fn adjustments_asked<'a>(asked: Option<&Request<'a>>) -> &'a str
 
 /// The name of the column whose cell words ask for; nothing where they ask for none.
 pub fn column_asked<'a>(asked: Option<&Request<'a>>) -> &'a str
-    ensures { result.now ≡ unwrap_or (column_asked (option_map (λ q. request_of q.now) asked.entry)) [] }
+    ensures { result.now ≡ unwrap_or (column_asked (option_map (λ q. q.now) asked.entry)) [] }
 {
     match asked {
-        Some(Request::Explain(cell)) => cell.column,
+        Some(Request::Explain(cell)) => cell.column.text(),
         _ => "",
     }
 }
 
 impl<'a> Request<'a> {
-    fn pipeline(&self) -> Option<&'a str>
-        ensures { text_of result ≡ pipeline_of (request_of self.now) }
+    fn pipeline(&self) -> Option<&Word<'a>>
+        ensures { option_map (λ w. w.now) result ≡ pipeline_of self.now }
     {
         match self {
-            Request::Run(table) | Request::Daily(table) => Some(table.pipeline),
-            Request::Cut(cut) => Some(cut.table.pipeline),
+            Request::Run(table) | Request::Daily(table) => Some(&table.pipeline),
+            Request::Cut(cut) => Some(&cut.table.pipeline),
             Request::Fmt(name) | Request::Check(name) => Some(name),
-            Request::Plan(plan) => Some(plan.pipeline),
-            Request::Explain(cell) => Some(cell.pipeline),
-            Request::Verify(verify) => Some(verify.pipeline),
+            Request::Plan(plan) => Some(&plan.pipeline),
+            Request::Explain(cell) => Some(&cell.pipeline),
+            Request::Verify(verify) => Some(&verify.pipeline),
             Request::Bench(_) | Request::Payouts(_) | Request::Windows(_) => None,
         }
     }
 
     fn world(&self) -> Option<&WorldNames<'a>>
-        ensures { option_map (λ w. world_names_of w.now) result ≡ world_of (request_of self.now) }
+        ensures { option_map (λ w. w.now) result ≡ world_of self.now }
     {
         match self {
             Request::Run(table) | Request::Daily(table) => Some(&table.world),
@@ -246,24 +292,24 @@ impl<'a> Request<'a> {
     }
 
     // The name of a file, where the request has it.
-    fn file(&self, file: InputFile) -> Option<&'a str>
-        ensures { text_of result ≡ file_named (request_of self.now) file }
+    fn file(&self, file: InputFile) -> Option<&Word<'a>>
+        ensures { option_map (λ w. w.now) result ≡ file_named self.now file }
     {
         match (self, file) {
-            (Request::Plan(plan), InputFile::Sessions) => Some(plan.sessions),
-            (Request::Payouts(payouts), InputFile::Sessions) => Some(payouts.sessions),
-            (Request::Payouts(payouts), InputFile::Assets) => Some(payouts.assets),
-            (Request::Payouts(payouts), InputFile::Bars) => Some(payouts.bars),
-            (Request::Payouts(payouts), InputFile::Payouts) => Some(payouts.payouts),
-            (Request::Verify(verify), InputFile::Derivation) => Some(verify.derivation),
+            (Request::Plan(plan), InputFile::Sessions) => Some(&plan.sessions),
+            (Request::Payouts(payouts), InputFile::Sessions) => Some(&payouts.sessions),
+            (Request::Payouts(payouts), InputFile::Assets) => Some(&payouts.assets),
+            (Request::Payouts(payouts), InputFile::Bars) => Some(&payouts.bars),
+            (Request::Payouts(payouts), InputFile::Payouts) => Some(&payouts.payouts),
+            (Request::Verify(verify), InputFile::Derivation) => Some(&verify.derivation),
             (_, InputFile::Pipeline) => self.pipeline(),
             _ => self.world_file(file),
         }
     }
 
     // The name of a file of its world, where it is over one.
-    fn world_file(&self, file: InputFile) -> Option<&'a str>
-        ensures { text_of result ≡ option_and_then (λ w. world_file w file) (world_of (request_of self.now)) }
+    fn world_file(&self, file: InputFile) -> Option<&Word<'a>>
+        ensures { option_map (λ w. w.now) result ≡ option_and_then (λ w. world_file w file) (world_of self.now) }
     {
         match self.world() {
             Some(world) => world.file(file),
@@ -272,17 +318,17 @@ impl<'a> Request<'a> {
     }
 
     // A date as it is written, where the request has it.
-    fn date(&self, date: RangeDate) -> Option<&'a str>
-        ensures { text_of result ≡ date_named (request_of self.now) date }
+    fn date(&self, date: RangeDate) -> Option<&Word<'a>>
+        ensures { option_map (λ w. w.now) result ≡ date_named self.now date }
     {
         match (self, date) {
             (Request::Run(table) | Request::Daily(table), _) => table.date(date),
             (Request::Cut(cut), _) => cut.table.date(date),
-            (Request::Plan(plan), RangeDate::From) => Some(plan.from.text),
-            (Request::Plan(plan), RangeDate::To) => Some(plan.to.text),
-            (Request::Explain(cell), RangeDate::At) => Some(cell.date.text),
-            (Request::Windows(windows), RangeDate::From) => Some(windows.from.text),
-            (Request::Windows(windows), RangeDate::To) => Some(windows.to.text),
+            (Request::Plan(plan), RangeDate::From) => Some(&plan.from.text),
+            (Request::Plan(plan), RangeDate::To) => Some(&plan.to.text),
+            (Request::Explain(cell), RangeDate::At) => Some(&cell.date.text),
+            (Request::Windows(windows), RangeDate::From) => Some(&windows.from.text),
+            (Request::Windows(windows), RangeDate::To) => Some(&windows.to.text),
             _ => None,
         }
     }
@@ -290,49 +336,59 @@ impl<'a> Request<'a> {
 
 impl<'a> WorldNames<'a> {
     /// The name of a file of numbers: that of the first one, or else that of the results.
-    pub fn numbers_named(&self) -> Option<&'a str>
-        ensures { text_of result ≡ numbers_named (world_names_of self.now) }
+    pub fn numbers_named(&self) -> Option<&Word<'a>>
+        ensures { option_map (λ w. w.now) result ≡ numbers_named self.now }
     {
-        match self.numbers {
+        match &self.numbers {
             Some(name) => Some(name),
-            None => self.results,
+            None => self.results.as_ref(),
         }
     }
 
-    fn file(&self, file: InputFile) -> Option<&'a str>
-        ensures { text_of result ≡ world_file (world_names_of self.now) file }
+    fn file(&self, file: InputFile) -> Option<&Word<'a>>
+        ensures { option_map (λ w. w.now) result ≡ world_file self.now file }
     {
         match file {
-            InputFile::Sessions => Some(self.sessions),
-            InputFile::Assets => Some(self.assets),
-            InputFile::Labels => self.labels,
-            InputFile::Numbers => self.numbers,
-            InputFile::Results => self.results,
-            InputFile::Bars => Some(self.bars),
-            InputFile::Revisions => self.revisions,
+            InputFile::Sessions => Some(&self.sessions),
+            InputFile::Assets => Some(&self.assets),
+            InputFile::Labels => self.labels.as_ref(),
+            InputFile::Numbers => self.numbers.as_ref(),
+            InputFile::Results => self.results.as_ref(),
+            InputFile::Bars => Some(&self.bars),
+            InputFile::Revisions => self.revisions.as_ref(),
             InputFile::Pipeline | InputFile::Payouts | InputFile::Derivation => None,
         }
     }
 }
 
 impl<'a> RunRequest<'a> {
-    fn date(&self, date: RangeDate) -> Option<&'a str>
-        ensures { text_of result ≡ table_date (run_of self.now) date }
+    fn date(&self, date: RangeDate) -> Option<&Word<'a>>
+        ensures { option_map (λ w. w.now) result ≡ table_date self.now date }
     {
         match date {
-            RangeDate::From => Some(self.from.text),
-            RangeDate::To => Some(self.to.text),
-            RangeDate::AsOf => text_of(self.options.as_of),
+            RangeDate::From => Some(&self.from.text),
+            RangeDate::To => Some(&self.to.text),
+            RangeDate::AsOf => word_of(&self.options.as_of),
             RangeDate::At => None,
         }
     }
 }
 
-fn text_of<'a>(date: Option<DateWord<'a>>) -> Option<&'a str>
-    ensures { text_of result ≡ option_map (λ d. d.text) (option_map dated_of date.entry) }
+fn word_of<'d, 'a>(date: &'d Option<DateWord<'a>>) -> Option<&'d Word<'a>>
+    ensures { option_map (λ w. w.now) result ≡ option_map (λ d. d.text) date.now }
 {
     match date {
-        Some(date) => Some(date.text),
+        Some(date) => Some(&date.text),
         None => None,
+    }
+}
+
+// The text of a word; nothing where there is none.
+fn text_of<'a>(word: Option<&Word<'a>>) -> &'a str
+    ensures { result.now ≡ unwrap_or (option_map (λ w. w.now) word.entry) [] }
+{
+    match word {
+        Some(word) => word.text(),
+        None => "",
     }
 }

@@ -3,7 +3,7 @@ use Rattle.std.proofs.lemmas.Result.{err_from_is_err_and}
 use Rattle.pl_outside.proofs.Pieces.{writes-over}
 use Rattle.pl_terms.specs.Checked.{pipeline_of}
 use Rattle.pl_words.specs.declared.request.InputFile.TheVariants.{Pipeline}
-use Rattle.pl_words.specs.Request.{Check}
+use Rattle.pl_words.specs.declared.request.Request.TheVariants.{Check}
 use Rattle.pl_load.specs.Work.{work}
 use Rattle.pl_load.specs.Views.{unchanged}
 use Rattle.pl_load.proofs.Joined.{file-read, pipeline-one}

@@ -1,7 +1,6 @@
 use Rattle.std.proofs.Common.{◌≡◌, ◌≤◌, ◌+◌, inr}
 use Rattle.std.proofs.lemmas.Result.{err_from_is_err_and, on_ok_weaker, IfOk-weaker}
-use Rattle.pl_words.specs.Request.{Run}
-use Rattle.pl_words.specs.Views.{run_of}
+use Rattle.pl_words.specs.declared.request.Request.TheVariants.{Run}
 use Rattle.pl_load.specs.Work.{work}
 use Rattle.pl_cli.specs.Commands.{line_of_stats}
 use Rattle.pl_cli.specs.Views.{sink_view}
@@ -13,13 +12,13 @@ pub returns-in_err-loaded : goal.returns-in_err-loaded
 unfolding work
 returns-in_err-loaded g c =
     let p = err_from_is_err_and c.from_residual.result c.from_residual.ensures.1 in
-    rw (p.1, p.2) (stopped {q = Run (run_of c.args.request.now)} _ _ c.in_err-loaded.ensures.load)
+    rw (p.1, p.2) (stopped {q = Run c.args.request.now} _ _ c.in_err-loaded.ensures.load)
 
 pub returns : goal.returns
 unfolding work
 returns g c =
     let w = c.write_loaded.ensures in
-    let q = run_of c.args.request.now in
+    let q = c.args.request.now in
     let h = c.in_ok-loaded.ensures.load in
     let l = c.in_ok-loaded.loaded in
     written-or {q = Run q} (sink_view g.O.Sink c.args.out.now) (sink_view g.O.Sink c.write_loaded.new.out) _ _ h c.write_loaded.result

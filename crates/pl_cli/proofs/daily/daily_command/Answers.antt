@@ -1,7 +1,6 @@
 use Rattle.std.proofs.Common.{◌≡◌, ◌≤◌, ◌+◌, inr}
 use Rattle.std.proofs.lemmas.Result.{err_from_is_err_and, on_ok_weaker}
-use Rattle.pl_words.specs.Request.{Daily}
-use Rattle.pl_words.specs.Views.{run_of}
+use Rattle.pl_words.specs.declared.request.Request.TheVariants.{Daily}
 use Rattle.pl_cli.specs.Views.{sink_view}
 use Rattle.pl_cli.proofs.Ended.{stopped, seen-or, kept-view, quiet, written-or}
 use Rattle.pl_cli.proofs.Days.{days-load, days-text, days-steps}
@@ -10,13 +9,13 @@ use Rattle.pl_cli.proofs.daily.daily_command.Goals as goal
 pub returns-in_err-loaded : goal.returns-in_err-loaded
 returns-in_err-loaded g c =
     let p = err_from_is_err_and c.from_residual.result c.from_residual.ensures.1 in
-    let q = run_of c.args.request.now in
+    let q = c.args.request.now in
     rw (p.1, p.2) (stopped {q = Daily q} _ _ (days-load q c.in_err-loaded.ensures.load))
 
 pub returns : goal.returns
 returns g c =
     let w = c.write_days.ensures in
-    let q = run_of c.args.request.now in
+    let q = c.args.request.now in
     let h = days-load q c.in_ok-loaded.ensures.load in
     let l = c.in_ok-loaded.loaded in
     written-or {q = Daily q} (sink_view g.O.Sink c.args.out.now) (sink_view g.O.Sink c.write_days.new.out) _ _ h c.write_days.result

@@ -1,7 +1,7 @@
 use Rattle.std.proofs.Common.{refl}
 use Rattle.std.proofs.lemmas.Result.{err_from_is_err_and}
 use Rattle.pl_outside.proofs.Pieces.{writes-over}
-use Rattle.pl_words.specs.Request.{Verify}
+use Rattle.pl_words.specs.declared.request.Request.TheVariants.{Verify}
 use Rattle.pl_load.specs.Work.{work}
 use Rattle.pl_load.specs.Views.{unchanged}
 use Rattle.pl_cli.proofs.Ended.{wanting, written, seen-writes, none, no-more, quiet, when-ok}

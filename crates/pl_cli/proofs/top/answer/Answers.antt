@@ -1,14 +1,13 @@
 use Rattle.std.proofs.Common.{◌≡◌, ◌∙◌, ap, Option, Some, option_map, Bor}
-use Rattle.pl_words.specs.declared.request.Request.{Request as Code}
-use Rattle.pl_words.specs.Views.{request_of}
+use Rattle.pl_words.specs.declared.request.Request.{Request}
 use Rattle.pl_load.specs.Views.{shelf_view, keeper_view}
 use Rattle.pl_cli.specs.Views.{sink_view}
 use Rattle.pl_cli.proofs.Ended.{no-command}
 use Rattle.pl_cli.proofs.top.answer.Goals as goal
 
 -- the request that is lent, as it reads
-lent : {o : Option (Bor Code)} {q : Bor Code} {r : Code} → o ≡ Some q → q.now ≡ r → option_map (λ (q : Bor Code). request_of q.now) o ≡ Some (request_of r)
-lent here is = ap (option_map (λ (q : Bor Code). request_of q.now)) here ∙ ap (λ (r : Code). Some (request_of r)) is
+lent : {o : Option (Bor Request)} {q : Bor Request} {r : Request} → o ≡ Some q → q.now ≡ r → option_map (λ (q : Bor Request). q.now) o ≡ Some r
+lent here is = ap (option_map (λ (q : Bor Request). q.now)) here ∙ ap (λ (r : Request). Some r) is
 
 pub returns-in-None : goal.returns-in-None
 returns-in-None g c =

@@ -1,17 +1,17 @@
-use Rattle.std.proofs.Common.{Err, refl, ◌∙◌, ap}
+use Rattle.std.proofs.Common.{Err, refl, sym, ◌∙◌, ap}
 use Rattle.pl_load.specs.Faults.{judged_status}
 use Rattle.pl_load.specs.Views.{shelf_view, keeper_view}
 use Rattle.pl_cli.specs.Views.{sink_view}
 use Rattle.pl_load.specs.declared.fault.Fault.TheVariants.{Memory}
 use Rattle.pl_cli.specs.Commands.{fault_of}
-use Rattle.pl_cli.proofs.Finished.{asked-is, asked-lent, run-as, run-of, no-words}
+use Rattle.pl_cli.proofs.Finished.{asked-borrowed, run-as, run-of, no-words}
 use Rattle.pl_cli.proofs.Causes.{by-answer, part-left, part-alone, sink-left}
 use Rattle.pl_cli.proofs.top.work_on.Goals as goal
 
 pub returns-in-Ok : goal.returns-in-Ok
 returns-in-Ok g c =
-    let words = asked-is _ _ c.in-Ok.ensures.asked in
-    let asked = asked-lent _ _ c.as_ref.result c.in-Ok.ensures.asked c.as_ref.ensures.value in
+    let words = sym c.in-Ok.ensures.asked in
+    let asked = words ∙ sym (asked-borrowed _ c.as_ref.result c.as_ref.ensures.value) in
     let ended = c.answer-ended.result in
     let e = c.answer-ended.ensures in
     let run = run-of _ _ ended _ refl e.ended in

@@ -1,8 +1,7 @@
 use Rattle.std.proofs.Common.{◌≡◌, Some, false, refl}
 use Rattle.std.proofs.lemmas.Result.{err_from_is_err_and}
 use Rattle.pl_words.specs.declared.request.InputFile.TheVariants as file
-use Rattle.pl_words.specs.Request.{Payouts}
-use Rattle.pl_words.specs.Views.{payouts_of}
+use Rattle.pl_words.specs.declared.request.Request.TheVariants.{Payouts}
 use Rattle.pl_load.specs.Held.{assets_in, bars_in, payouts_in}
 use Rattle.pl_load.proofs.Joined.{is_file, file-read, file-one, stops, part-stops, part-stops-later, part-done, stops-later, both-done}
 use Rattle.pl_load.proofs.Works.{paid_after_days, paid_after_assets, paid-days, paid-assets}
@@ -11,13 +10,13 @@ use Rattle.pl_load.proofs.payouts.load_payouts.Goals as goal
 pub returns-in_err-sessions-clause-load : goal.returns-in_err-sessions-clause-load
 returns-in_err-sessions-clause-load g c = λ keeper.
     let p = err_from_is_err_and c.from_residual.result c.from_residual.ensures.1 in
-    let asked = Some (Payouts (payouts_of c.args.request.now)) in
+    let asked = Some (Payouts c.args.request.now) in
     rw (p.1, p.2) (stops (file-read keeper asked file.Sessions refl (file-one file.Sessions _) c.in_err-sessions.ensures) _ (λ held. refl))
 
 pub returns-in_err-assets-clause-load : goal.returns-in_err-assets-clause-load
 returns-in_err-assets-clause-load g c = λ keeper.
     let p = err_from_is_err_and c.from_residual-in_err-assets.result c.from_residual-in_err-assets.ensures.1 in
-    let asked = Some (Payouts (payouts_of c.args.request.now)) in
+    let asked = Some (Payouts c.args.request.now) in
     rw (p.1, p.2)
     (stops-later (file-read keeper asked file.Sessions refl (file-one file.Sessions _) c.in_ok-sessions.ensures)
     (part-stops (paid_after_days c.in_ok-sessions.sessions) (file-read keeper asked file.Assets refl (file-one file.Assets _) c.in_err-assets.ensures) _ (λ held. refl)) (is_file file.Sessions) false
@@ -26,7 +25,7 @@ returns-in_err-assets-clause-load g c = λ keeper.
 pub returns-in_err-bars-clause-load : goal.returns-in_err-bars-clause-load
 returns-in_err-bars-clause-load g c = λ keeper.
     let p = err_from_is_err_and c.from_residual-in_err-bars.result c.from_residual-in_err-bars.ensures.1 in
-    let asked = Some (Payouts (payouts_of c.args.request.now)) in
+    let asked = Some (Payouts c.args.request.now) in
     rw (p.1, p.2)
     (stops-later (file-read keeper asked file.Sessions refl (file-one file.Sessions _) c.in_ok-sessions.ensures)
     (part-stops-later (paid_after_days c.in_ok-sessions.sessions) (file-read keeper asked file.Assets refl (file-one file.Assets _) c.in_ok-assets.ensures)
@@ -36,7 +35,7 @@ returns-in_err-bars-clause-load g c = λ keeper.
 pub returns-in_err-payouts-clause-load : goal.returns-in_err-payouts-clause-load
 returns-in_err-payouts-clause-load g c = λ keeper.
     let p = err_from_is_err_and c.from_residual-in_err-payouts.result c.from_residual-in_err-payouts.ensures.1 in
-    let asked = Some (Payouts (payouts_of c.args.request.now)) in
+    let asked = Some (Payouts c.args.request.now) in
     rw (p.1, p.2)
     (stops-later (file-read keeper asked file.Sessions refl (file-one file.Sessions _) c.in_ok-sessions.ensures)
     (part-stops-later (paid_after_days c.in_ok-sessions.sessions) (file-read keeper asked file.Assets refl (file-one file.Assets _) c.in_ok-assets.ensures)
@@ -46,7 +45,7 @@ returns-in_err-payouts-clause-load g c = λ keeper.
 
 pub returns-clause-load : goal.returns-clause-load
 returns-clause-load g c = λ keeper.
-    let asked = Some (Payouts (payouts_of c.args.request.now)) in
+    let asked = Some (Payouts c.args.request.now) in
     both-done (file-read keeper asked file.Sessions refl (file-one file.Sessions _) c.in_ok-sessions.ensures)
     (part-done (paid_after_days c.in_ok-sessions.sessions) (λ held. (assets_in (held.file file.Assets) ≡ c.in_ok-assets.assets) × (bars_in c.in_ok-sessions.sessions c.in_ok-assets.assets (held.file file.Bars) ≡ c.in_ok-bars.bars) × (payouts_in c.in_ok-assets.assets (held.file file.Payouts) ≡ c.in_ok-payouts.payouts))
     (file-read keeper asked file.Assets refl (file-one file.Assets _) c.in_ok-assets.ensures)

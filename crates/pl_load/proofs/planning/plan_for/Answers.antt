@@ -2,8 +2,7 @@ use Rattle.std.proofs.Common.{◌∙◌, Some, None, true, false, refl, sym}
 use Rattle.std.proofs.lemmas.Result.{err_from_is_err_and}
 use Rattle.pl_terms.specs.Checked.{pipeline_of}
 use Rattle.pl_words.specs.declared.request.InputFile.TheVariants.{Sessions}
-use Rattle.pl_words.specs.Request.{Plan}
-use Rattle.pl_words.specs.Views.{plan_of}
+use Rattle.pl_words.specs.declared.request.Request.TheVariants.{Plan}
 use Rattle.pl_load.specs.Range.{range_steps}
 use Rattle.pl_load.proofs.StepsRead.{dates-quiet, plan-quiet}
 use Rattle.pl_load.proofs.Joined.{is_file, file-read, file-one, judged, judged-as, refused, stops, part-stops, stops-later, last-done}
@@ -13,13 +12,13 @@ use Rattle.pl_load.proofs.planning.plan_for.Goals as goal
 pub returns-in_err-sessions : goal.returns-in_err-sessions
 returns-in_err-sessions g c = λ keeper.
     let p = err_from_is_err_and c.from_residual.result c.from_residual.ensures.1 in
-    let q = plan_of c.args.request.now in
+    let q = c.args.request.now in
     rw (p.1, p.2) (stops (file-read keeper (Some (Plan q)) Sessions refl (file-one Sessions _) c.in_err-sessions.ensures) _ (λ held. refl))
 
 pub returns-in_err-range : goal.returns-in_err-range
 returns-in_err-range g c = λ keeper.
     let p = err_from_is_err_and c.from_residual-in_err-range.result c.from_residual-in_err-range.ensures.1 in
-    let q = plan_of c.args.request.now in
+    let q = c.args.request.now in
     let range = c.in_err-range.ensures in
     rw (p.1, p.2)
     (stops-later (file-read keeper (Some (Plan q)) Sessions refl (file-one Sessions _) c.in_ok-sessions.ensures)
@@ -29,7 +28,7 @@ returns-in_err-range g c = λ keeper.
 
 pub returns : goal.returns
 returns g c = λ keeper.
-    let q = plan_of c.args.request.now in
+    let q = c.args.request.now in
     let pipeline = pipeline_of c.args.checked.now in
     let days = c.in_ok-sessions.sessions in
     let range = c.in_ok-range.ensures in

@@ -6,5 +6,5 @@ use Rattle.pl_words.proofs.read.bench_in.Goals as goal
 
 pub returns : goal.returns
 returns c =
-    bench_read c.args.names.now (values_in c.args.matches.now) _ _ _ c.requires
-    (ap sid_in (sym c.as_bytes.ensures.value) ∙ sym c.in_ok-number.ensures.exact) (sym c.in_ok-chunk.ensures)
+    sym (bench_read c.args.names.now (values_in c.args.matches.now) _ _ _ c.requires
+    (ap sid_in (sym c.as_bytes.ensures.value) ∙ sym c.in_ok-number.ensures.exact) (sym c.in_ok-chunk.ensures))

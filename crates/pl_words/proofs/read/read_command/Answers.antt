@@ -1,7 +1,6 @@
-use Rattle.std.proofs.Common.{rules, ◌≡◌, None, Some, map, string_bytes, MatchOption, subst, sym, true}
+use Rattle.std.proofs.Common.{rules, ◌≡◌, ◌∙◌, map, string_bytes, sym, true}
 use Rattle.std.specs.List.{list_all}
 use Rattle.pl_words.specs.Parts.{is_text}
-use Rattle.pl_words.specs.Views.{request_of}
 use Rattle.pl_words.proofs.Requests.{asked_none, asked_some}
 use Rattle.pl_words.proofs.read.read_command.Goals as goal
 
@@ -11,4 +10,4 @@ returns-in-None c = search (rules, asked_none)
 pub returns-in-Some : goal.returns-in-Some
 returns-in-Some c =
     let texts : list_all is_text (map (λ s. string_bytes s) c.args.words.now) ≡ true = search rules in
-    subst (λ q. MatchOption c.read_matches.result (q ≡ None) (λ r. q ≡ Some (request_of r))) (sym (asked_some c.args.command (map (λ s. string_bytes s) c.args.words.now) c.in-Some.matches texts (search rules))) c.read_matches.ensures
+    c.read_matches.ensures ∙ sym (asked_some c.args.command (map (λ s. string_bytes s) c.args.words.now) c.in-Some.matches texts (search rules))
