@@ -28,16 +28,21 @@ pub(crate) fn cells_differ(
     words: &[String],
     table: &[u8],
 ) -> Result<bool> {
-    match read_words(alloc, words) {
-        Ok(Some(Request::Run(request) | Request::Daily(request))) => {
+    let mut asked = match read_words(alloc, words) {
+        Ok(asked) => asked,
+        Err(_) => bail!("memory"),
+    };
+    match &mut asked {
+        Some(Request::Run(request) | Request::Daily(request)) => {
+            // of the whole world
+            request.options.as_of = None;
             run_differs(alloc, case, request, table)
         }
-        Ok(_) => Ok(false),
-        Err(_) => bail!("memory"),
+        _ => Ok(false),
     }
 }
 
-fn run_differs(alloc: Global, case: &Case, request: RunRequest<'_>, table: &[u8]) -> Result<bool> {
+fn run_differs(alloc: Global, case: &Case, request: &RunRequest<'_>, table: &[u8]) -> Result<bool> {
     let labels = labels_of(alloc, case, request.world.labels.as_ref())?;
     match loaded_of(alloc, case, request)? {
         Some(loaded) => table_differs::<Brand>(alloc, &loaded, &labels, table, Blank::new(1)),
@@ -45,13 +50,12 @@ fn run_differs(alloc: Global, case: &Case, request: RunRequest<'_>, table: &[u8]
     }
 }
 
-// What a run reads, up to all sessions; none where it is refused.
-fn loaded_of(alloc: Global, case: &Case, mut request: RunRequest<'_>) -> Result<Option<Loaded>>
+// What a run reads; none where it is refused.
+fn loaded_of(alloc: Global, case: &Case, request: &RunRequest<'_>) -> Result<Option<Loaded>>
     ensures { IfOk result (λ loaded. IfSome loaded IsReadyRun) }
 {
-    request.options.as_of = None;
     let mut parts = Parts::new(alloc, case, SOUND)?;
-    Ok(parts.load(alloc, &request))
+    Ok(parts.load(alloc, request))
 }
 
 // The texts of a labels file by their codes: in the order in which they stand there first, as they are
