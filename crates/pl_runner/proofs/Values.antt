@@ -1,22 +1,23 @@
 -- What a session's values and rows are where it was fed last.
-use Rattle.std.proofs.Common.{◌≡◌, ℕ, suc, ◌+◌, ◌<◌, ◌≤◌, true, ℤ, pos, ◌<ℤ◌, ◌≤ℤ◌, List, [], ◌∷◌, ◌++◌, length, map, drop, get_or, drop-cons, refl, sym, ◌∙◌, ap, subst, arith, AllPairs, slice_get, max, inl, inr, ◌-◌, false}
+use Rattle.std.proofs.Common.{Bool, Option, Some, None, filter, ◌≡◌, ℕ, suc, ◌+◌, ◌<◌, ◌≤◌, true, ℤ, pos, ◌<ℤ◌, ◌≤ℤ◌, List, [], ◌∷◌, ◌++◌, length, map, drop, get_or, drop-cons, refl, sym, ◌∙◌, ap, subst, arith, AllPairs, slice_get, max, inl, inr, ◌-◌, false}
 use Rattle.std.specs.Prelude.{nat_le}
 use Rattle.std.proofs.lemmas.Bool.{cases_lt}
 use Rattle.std.proofs.lemmas.Bool.Decides.{nat_tests}
 use Rattle.std.specs.Int.{int_min}
 use Rattle.std.specs.Int.RustNames.{int_le}
 use Rattle.std.proofs.lemmas.Int.{ints}
-use Rattle.std.proofs.lemmas.List.{drop_all}
+use Rattle.std.proofs.lemmas.List.{drop_all, length-map}
 use Rattle.pl_spec.specs.declared.AssetRow.{AssetRow}
 use Rattle.pl_spec.specs.declared.Format.{Format}
 use Rattle.pl_pipeline.specs.Graph.{least_of, reach}
 use Rattle.pl_pipeline.specs.Lows.{least_reach}
 use Rattle.pl_spec.specs.Parts.{ColumnNumber, sid_at}
-use Rattle.pl_pipeline.specs.Table.{Pipeline, Row, kept_sids, table_row, session_rows, table, value_of}
+use Rattle.pl_pipeline.specs.Table.{Pipeline, Row, is_kept, kept_sids, table_row, session_rows, table, value_of}
 use Rattle.pl_pipeline.specs.Term.{Graph, term_at}
 use Rattle.pl_pipeline.specs.Text.{row_line}
 use Rattle.pl_spec.specs.World as worlds
 use Rattle.pl_spec.specs.World.{IsWorld}
+use Rattle.pl_spec.proofs.Lists.{filter-few}
 use Rattle.pl_spec.proofs.Signed.{min-rises}
 use Rattle.pl_laws.proofs.AsOf.{slice_get-take}
 use Rattle.pl_laws.proofs.Calendars.{least_reach-same}
@@ -79,6 +80,31 @@ lines-next w p format s sids i h =
 
 pub lines-end : (w : worlds.World) (p : Pipeline) (format : Format) (s : ℕ) (sids : List ℕ) (i : ℕ) → length sids ≤ i → lines_of w p format s (drop i sids) ≡ []
 lines-end w p format s sids i h = ap (lines_of w p format s) (drop_all i sids h)
+
+-- a row more, and the sum of the rows that are left
+pub rows-next : (w : worlds.World) (p : Pipeline) (s : ℕ) (sids : List ℕ) (i : ℕ) → i < length sids
+    → map (table_row w p (pos s)) (drop i sids) ≡ table_row w p (pos s) (get_or sids i 0) ∷ map (table_row w p (pos s)) (drop (i + 1) sids)
+rows-next w p s sids i h =
+    let e : suc i ≡ i + 1 = omega arith in
+    ap (map (table_row w p (pos s))) (drop-cons sids i 0 h ∙ ap (λ (n : ℕ). get_or sids i 0 ∷ drop n sids) e)
+
+-- a session has at most as many rows as there are assets
+pub few-rows : (w : worlds.World) (p : Pipeline) (d : ℤ) → length (session_rows w p d) ≤ length w.assets
+few-rows w p d =
+    let a = length-map (kept_sids w p d) (table_row w p d) in
+    let b = filter-few (is_kept w p p.screen d) (worlds.living_sids w d) in
+    let c = few-living w d in
+    omega (arith, a, b, c)
+  where
+    few-living : (w : worlds.World) (d : ℤ) → length (worlds.living_sids w d) ≤ length w.assets
+    few-living w d = here (worlds.day_of w d) refl
+      where
+        here : (o : Option ℤ) → worlds.day_of w d ≡ o → length (worlds.living_sids w d) ≤ length w.assets
+        here None e = rw e (omega arith)
+        here (Some day) e =
+            let a = length-map (filter (worlds.lives_on day) w.assets) (λ (x : AssetRow). x.sid) in
+            let b = filter-few (worlds.lives_on day) w.assets in
+            rw e (omega (arith, a, b))
 
 -- ---- a session that was fed last
 
@@ -175,6 +201,13 @@ left-none w p from to s h l =
 
 pub range-rows : (w : worlds.World) (p : Pipeline) (from s : ℕ) → from ≤ s → session_rows w p (pos s) ≡ rows_in_range w p from s
 range-rows w p from s h = let t : nat_le from s ≡ true = grind (arith, nat_tests) in rw t refl
+
+pub range-few : (w : worlds.World) (p : Pipeline) (from s : ℕ) → length (rows_in_range w p from s) ≤ length w.assets
+range-few w p from s = here (nat_le from s) refl
+  where
+    here : (b : Bool) → nat_le from s ≡ b → length (rows_in_range w p from s) ≤ length w.assets
+    here true e = rw e (few-rows w p (pos s))
+    here false e = rw e (omega arith)
 
 pub no-rows : (w : worlds.World) (p : Pipeline) (from s : ℕ) → (from ≤ s → ⊥) → [] ≡ rows_in_range w p from s
 no-rows w p from s h = elim (cases_lt s from) [

@@ -1,5 +1,5 @@
 -- The steps and the report of a run.
-use Rattle.std.specs.Prelude.{◌≡◌, ℕ, ◌+◌, ◌-◌, ◌*◌, ◌≤◌, pos, ◌+ℤ◌, length, sum_by}
+use Rattle.std.specs.Prelude.{List, ◌≡◌, ℕ, ◌+◌, ◌-◌, ◌*◌, ◌≤◌, pos, ◌+ℤ◌, length, sum_by}
 use Rattle.pl_spec.specs.World.{World}
 use Rattle.pl_pipeline.specs.Graph.{bound}
 use Rattle.pl_pipeline.specs.Table.{Pipeline, table, sum_of_cells}
@@ -37,6 +37,11 @@ pub record IsChunkDone (w : World) (p : Pipeline) (plan : Planned) (chunk : Chun
   pub buffers : (other : Chunk) → AreBuffersFor w p plan other before → AreBuffersFor w p plan other after
   pub peak : r.peak ≡ bound p.graph (outputs p)
   pub applied : r.applied ≡ saturated (steps_of_chunk w p plan chunk)
+
+-- how many rows there are, and the sum of their cells
+pub record AreTotals (w : World) (rows : List Row) (totals : Totals) : Type 0 where
+  pub rows : totals.rows ≡ length rows
+  pub sum : totals.sum ≡ rows_sum w.texts rows
 
 -- how many rows there are, the sum of their cells, the greatest number of arrays that were held at once, and
 -- the steps of the traversals, as far as 64 bits count

@@ -23,7 +23,7 @@ impl Totals {
     }
 
     /// Counts a row, whose cells have a sum.
-    pub(crate) fn count_row(&mut self, sum: i128)
+    pub fn count_row(&mut self, sum: i128)
         requires rows { self.old.rows < 2 ^ 63 }
         requires sum { unsigned_abs sum ≤ most_columns * LIMIT }
         ensures rows { self.new.rows ≡ self.old.rows + 1 }

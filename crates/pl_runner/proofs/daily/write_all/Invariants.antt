@@ -1,8 +1,9 @@
-use Rattle.std.proofs.Common.{◌≡◌, ◌≤◌, ◌+◌, ◌++◌, ℕ, length}
+use Rattle.std.proofs.Common.{◌≡◌, ◌≤◌, ◌+◌, ◌*◌, ◌+ℤ◌, ◌++◌, length}
 use Rattle.pl_outside.specs.Taken.{IsWrittenIn}
 use Rattle.pl_outside.proofs.Pieces.{Writing}
 use Rattle.pl_table.specs.Asked.{asked_pipeline, asked_table, asked_world}
 use Rattle.pl_table.specs.Outcomes.{lines}
+use Rattle.pl_table.specs.Sums.{rows_sum}
 use Rattle.pl_runner.specs.States.{IsState}
 use Rattle.pl_runner.proofs.Values.{rows_left}
 use Rattle.pl_runner.proofs.Work.{steps_below}
@@ -16,7 +17,10 @@ invariant-loop-session g l =
     record {
       state : IsState l.asked.world p l.session l.state;
       within : l.session ≤ l.asked.plan.now.to + 1;
-      pieces : (n : ℕ) × IsWrittenIn out.whole out.calls l.fn.out l.out n × (n + length (rows_left w p l.asked.plan.now.from l.asked.plan.now.to l.session) ≡ 1 + length (asked_table l.asked));
+      pieces : IsWrittenIn out.whole out.calls l.fn.out l.out (1 + l.totals.rows);
       writing : Writing out.taken out.faults out.sound out.room l.fn.out l.out (l.header ++ lines w p l.asked.format (asked_table l.asked)) (lines w p l.asked.format (rows_left w p l.asked.plan.now.from l.asked.plan.now.to l.session));
+      rows : l.totals.rows + length (rows_left w p l.asked.plan.now.from l.asked.plan.now.to l.session) ≡ length (asked_table l.asked);
+      sum : l.totals.sum +ℤ rows_sum w.texts (rows_left w p l.asked.plan.now.from l.asked.plan.now.to l.session) ≡ rows_sum w.texts (asked_table l.asked);
+      few : l.totals.rows ≤ l.session * length w.assets;
       steps : l.steps ≡ l.fn.steps + steps_below w p l.session;
     }

@@ -19,5 +19,5 @@ returns-clause-writes g c =
     let sid = sid-of-place assets f.daily.now.kept c.args.i c.requires.kept ∙ ap (λ (ks : List ℕ). sid_at assets (get_or ks c.args.i 0)) (sym c.kept.ensures.is) ∙ own in
     let text = c.put_sid.ensures.text ∙ ap (λ (n : ℕ). c.put_date.new.line ++ sid_part f.asked.format (sid_field f.asked.format n)) (sym sid) in
     writes-over (c.as_slice.ensures
-    ∙ put-together (world_in f) (pipeline_in f) f.asked.format (sid_of f c.args.i) f.session c.day.result _ _ _ _ _ c.day.ensures.exact c.clear.ensures date text c.put_values.ensures.text c.put_end.ensures)
+    ∙ put-together (world_in f) (pipeline_in f) f.asked.format (sid_of f c.args.i) f.session c.day.result _ _ _ _ _ c.day.ensures.exact c.clear.ensures date text c.put_values-sum.ensures.text c.put_end.ensures)
     c.write_bytes.ensures.writes

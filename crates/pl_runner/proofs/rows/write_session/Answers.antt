@@ -1,12 +1,14 @@
 use Rattle.std.proofs.Common.{◌≤◌, ap, sym, length, arith, []}
+use Rattle.std.proofs.lemmas.Int.{ints}
 use Rattle.pl_outside.proofs.Pieces.{writing-start, writing-end, writes-over, written-none}
 use Rattle.pl_table.specs.Asked.{asked_pipeline, asked_world}
 use Rattle.pl_table.specs.Outcomes.{lines}
+use Rattle.pl_table.specs.Sums.{rows_sum}
 use Rattle.pl_runner.proofs.Values.{range-rows, has-values, no-rows}
 use Rattle.pl_runner.proofs.rows.write_session.Goals as goal
 
-pub write_rows-requires : goal.write_rows-requires
-write_rows-requires g c =
+pub write_rows-requires-clause-fed : goal.write_rows-requires-clause-fed
+write_rows-requires-clause-fed g c =
     let a = c.args.asked.now in
     let from : a.plan.now.from ≤ c.args.session = omega (arith, c.from.ensures.value, c.if-from-session.true) in
     record {
@@ -22,16 +24,30 @@ returns-then-from-session-clause-writes g c =
     let from : a.plan.now.from ≤ c.args.session = omega (arith, c.from.ensures.value, c.if-from-session.true) in
     writes-over (ap (lines w p a.format) (range-rows w p a.plan.now.from c.args.session from)) c.write_rows.ensures.writes
 
-pub returns-then-from-session-clause-pieces : goal.returns-then-from-session-clause-pieces
-returns-then-from-session-clause-pieces g c =
+pub returns-then-from-session-clause-rows : goal.returns-then-from-session-clause-rows
+returns-then-from-session-clause-rows g c =
     let a = c.args.asked.now in let w = asked_world a in let p = asked_pipeline a in
     let from : a.plan.now.from ≤ c.args.session = omega (arith, c.from.ensures.value, c.if-from-session.true) in
-    rw (← ap length (range-rows w p a.plan.now.from c.args.session from)) c.write_rows.ensures.pieces
+    rw (← ap length (range-rows w p a.plan.now.from c.args.session from)) c.write_rows.ensures.rows
+
+pub returns-then-from-session-clause-sum : goal.returns-then-from-session-clause-sum
+returns-then-from-session-clause-sum g c =
+    let a = c.args.asked.now in let w = asked_world a in let p = asked_pipeline a in
+    let from : a.plan.now.from ≤ c.args.session = omega (arith, c.from.ensures.value, c.if-from-session.true) in
+    rw (← ap (rows_sum w.texts) (range-rows w p a.plan.now.from c.args.session from)) c.write_rows.ensures.sum
 
 pub returns-else-from-session-clause-pieces : goal.returns-else-from-session-clause-pieces
-returns-else-from-session-clause-pieces g c =
+returns-else-from-session-clause-pieces g c = written-none (omega arith)
+
+pub returns-else-from-session-clause-rows : goal.returns-else-from-session-clause-rows
+returns-else-from-session-clause-rows g c =
     let a = c.args.asked.now in let w = asked_world a in let p = asked_pipeline a in
-    written-none (sym (ap length (no-rows w p a.plan.now.from c.args.session (λ h. omega (arith, c.if-from-session.false, c.from.ensures.value, h)))))
+    omega (arith, ap length (no-rows w p a.plan.now.from c.args.session (λ h. omega (arith, c.if-from-session.false, c.from.ensures.value, h))))
+
+pub returns-else-from-session-clause-sum : goal.returns-else-from-session-clause-sum
+returns-else-from-session-clause-sum g c =
+    let a = c.args.asked.now in let w = asked_world a in let p = asked_pipeline a in
+    omega (arith, ints, ap (rows_sum w.texts) (no-rows w p a.plan.now.from c.args.session (λ h. omega (arith, c.if-from-session.false, c.from.ensures.value, h))))
 
 pub returns-else-from-session-clause-writes : goal.returns-else-from-session-clause-writes
 returns-else-from-session-clause-writes g c =
