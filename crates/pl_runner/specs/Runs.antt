@@ -2,7 +2,7 @@
 use Rattle.std.specs.Prelude.{List, ◌≡◌, ℕ, ◌+◌, ◌-◌, ◌*◌, ◌≤◌, pos, ◌+ℤ◌, length, sum_by}
 use Rattle.pl_spec.specs.World.{World}
 use Rattle.pl_pipeline.specs.Graph.{bound}
-use Rattle.pl_pipeline.specs.Table.{Pipeline, table, sum_of_cells}
+use Rattle.pl_pipeline.specs.Table.{Pipeline, Row, table, sum_of_cells}
 use Rattle.pl_spec.specs.Limits.{saturated}
 use Rattle.pl_terms.specs.Uses.{outputs}
 use Rattle.pl_planner.specs.Plans.{Planned}
@@ -39,9 +39,9 @@ pub record IsChunkDone (w : World) (p : Pipeline) (plan : Planned) (chunk : Chun
   pub applied : r.applied ≡ saturated (steps_of_chunk w p plan chunk)
 
 -- how many rows there are, and the sum of their cells
-pub record AreTotals (w : World) (rows : List Row) (totals : Totals) : Type 0 where
-  pub rows : totals.rows ≡ length rows
-  pub sum : totals.sum ≡ rows_sum w.texts rows
+pub record AreTotals (w : World) (all : List Row) (totals : Totals) : Type 0 where
+  pub rows : totals.rows ≡ length all
+  pub sum : totals.sum ≡ rows_sum w.texts all
 
 -- how many rows there are, the sum of their cells, the greatest number of arrays that were held at once, and
 -- the steps of the traversals, as far as 64 bits count

@@ -17,11 +17,11 @@ use Rattle.pl_terms.proofs.Graphs.{columns-long}
 use Rattle.pl_runner.proofs.rows.put_values.Goals as goal
 use Rattle.pl_runner.proofs.rows.put_values.Goals.{After-loop-column}
 
-pub put_value-requires-clause-column : goal.put_value-requires-clause-column
-put_value-requires-clause-column c = omega (arith, c.columns-column-end.ensures, columns-long c.args.fed.now.asked.checked.now.columns)
+pub put_value-sum-requires-clause-column : goal.put_value-sum-requires-clause-column
+put_value-sum-requires-clause-column c = omega (arith, c.columns-column-end.ensures, columns-long c.args.fed.now.asked.checked.now.columns)
 
-pub put_value-requires-clause-room : goal.put_value-requires-clause-room
-put_value-requires-clause-room c =
+pub put_value-sum-requires-clause-room : goal.put_value-sum-requires-clause-room
+put_value-sum-requires-clause-room c =
     omega (arith, c.columns-column-end.ensures, columns-long c.args.fed.now.asked.checked.now.columns, c.requires.fed.asked.checked.few_columns, c.requires.room, c.loop-column.invariant.within)
 
 pub loop-column-preserved : goal.loop-column-preserved
@@ -31,14 +31,14 @@ loop-column-preserved c =
     let d = has-column f.asked.checked.now.columns i (omega (arith, c.columns-column-end.ensures)) in
     let inside = slice_get_within p.columns i d.0 d.1 in
     let few : i < most_columns = omega (arith, inside, c.requires.fed.asked.checked.few_columns) in
-    let put = c.put_value.ensures.value d.0 d.1 in
-    let fr : FitsSigned w128 c.put_value.result = search rules in
-    let grown = sum-grows (to_z w128 c.loop-column.sum-bits) c.put_value.result i c.loop-column.invariant.small c.put_value.ensures.small few in
-    let is = ap (λ (x : ℤ). to_z w128 (of_z w128 (to_z w128 c.loop-column.sum-bits +ℤ x))) (to_z-of_z w128 c.put_value.result fr) ∙ to_z-of_z w128 _ grown.0 in
+    let put = c.put_value-sum.ensures.value d.0 d.1 in
+    let fr : FitsSigned w128 c.put_value-sum.result = search rules in
+    let grown = sum-grows (to_z w128 c.loop-column.sum-bits) c.put_value-sum.result i c.loop-column.invariant.small c.put_value-sum.ensures.small few in
+    let is = ap (λ (x : ℤ). to_z w128 (of_z w128 (to_z w128 c.loop-column.sum-bits +ℤ x))) (to_z-of_z w128 c.put_value-sum.result fr) ∙ to_z-of_z w128 _ grown.0 in
     record {
       text = parts-more c.args.line.now _ _ _ _ _ c.loop-column.invariant.text put.text (fields-more w p f.asked.format a (pos f.session) p.columns i d.0 inside d.1);
-      within = omega (arith, c.loop-column.invariant.within, c.put_value.ensures.within);
-      sum = is ∙ ap (λ (x : ℤ). x +ℤ c.put_value.result) c.loop-column.invariant.sum
+      within = omega (arith, c.loop-column.invariant.within, c.put_value-sum.ensures.within);
+      sum = is ∙ ap (λ (x : ℤ). x +ℤ c.put_value-sum.result) c.loop-column.invariant.sum
           ∙ ap (λ (x : ℤ). values_sum w.texts (row_values w p a (pos f.session) (take i p.columns)) +ℤ x) put.sum
           ∙ sym (values_sum-more w p a (pos f.session) p.columns i d.0 inside d.1);
       small = subst (λ (x : ℤ). unsigned_abs x ≤ (i + 1) * LIMIT) (sym is) grown.1;
