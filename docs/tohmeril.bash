@@ -38,10 +38,10 @@ _tohmeril() {
     esac
     if [[ $word == -* ]]; then
         case $command in
-            run) options="--labels --numbers --adjustments --revisions --chunk --format --stats --asof" ;;
-            daily) options="--labels --numbers --adjustments --revisions --format" ;;
-            cut) options="--labels --numbers --adjustments --revisions --part" ;;
-            explain | verify) options="--labels --numbers --adjustments --revisions" ;;
+            run) options="--labels --numbers --results --adjustments --revisions --chunk --format --stats --asof" ;;
+            daily) options="--labels --numbers --results --adjustments --revisions --format" ;;
+            cut) options="--labels --numbers --results --adjustments --revisions --part" ;;
+            explain | verify) options="--labels --numbers --results --adjustments --revisions" ;;
             windows) options="--adjustments --revisions" ;;
             bench) options="--chunk" ;;
         esac

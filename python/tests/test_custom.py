@@ -587,15 +587,16 @@ def test_more_results_than_a_file_takes(part, pipe, data, monkeypatch):
     text, frame = run_text(pipe, *ends, data), run_pipeline(pipe, *ends, data)
     users = len(data.files[part].read_text().splitlines()) - 1
     most = dict(_results.MOST)
-    for limit in (users + 60, users + 333, *[users] * (part == "numbers")):  # of which the pipeline reads none
-        monkeypatch.setitem(_results.MOST, part, limit)
+    users, of = (0, "results") if part == "numbers" else (users, part)  # numbers stand in a file of their own
+    for limit in (users + 60, users + 333):
+        monkeypatch.setitem(_results.MOST, of, limit)
         assert run_text(pipe, *ends, data) == text
         pd.testing.assert_frame_equal(run_pipeline(pipe, *ends, data, pieces=2), frame)
         pd.testing.assert_frame_equal(run_chunked_pipeline(pipe, *ends, 10, data, cut=True, progress=False), frame)
-    monkeypatch.setitem(_results.MOST, part, 5)
+    monkeypatch.setitem(_results.MOST, of, 5)
     with pytest.raises(LimitFault, match=f"limit: {part}\n"):
         run_text(pipe, *ends, data)
-    assert most["numbers"] == 2_000_000 and most["labels"] == 200_000  # docs/FILES.md
+    assert most["results"] == 2_000_000 and most["labels"] == 200_000  # docs/FILES.md
 
 
 def test_progress(data, capsys):

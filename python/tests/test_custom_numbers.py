@@ -1,11 +1,13 @@
-"""The user's own numbers beside what is computed: all of them are judged once, and then the names that are read are kept."""
+"""The user's own numbers beside what is computed: they are read where they are, or where they have no room beside it the
+names that are read are kept.
+"""
 
 import io
 from decimal import Decimal
 
 import pytest
 
-from tohmeril import Data, DataFault, _results, explain, run_text
+from tohmeril import Data, DataFault, LimitFault, _results, derivations, explain, program, run_text
 from tohmeril.pipeline import CustomFactor, Pipeline
 from tohmeril.pipeline.data import Column, DataSet, EquityPricing
 
@@ -44,30 +46,32 @@ def kept(monkeypatch):
     return found
 
 
-def test_a_file_is_judged_once(market, numbers, kept):
+def test_a_file_is_read_where_it_is(market, numbers, kept):
     data = Data(market, revisions=None, numbers=numbers)
     text = run_text(PIPE, FIRST, LAST, data)
-    assert not kept and b",2.500000\n" in text
-    assert run_text(PIPE, FIRST, LAST, data) == text and [each.tolist() for each in kept] == [[1, 3, 5]]
-    assert run_text(Pipeline({"a": Newest()}), FIRST, LAST, data).count(b"\n") == text.count(b"\n")
-    assert kept[-1].tolist() == [1]
-    numbers.write_text("\n".join([*LINES, "other,101,nothing,1\n"]))  # another file is judged anew
+    assert b",2.500000\n" in text and run_text(PIPE, FIRST, LAST, data) == text
+    assert run_text(Pipeline({"a": Newest()}), FIRST, LAST, data).count(b"\n") == text.count(b"\n") and not kept
+    numbers.write_text("\n".join([*LINES, "other,101,nothing,1\n"]))
     with pytest.raises(DataFault, match=f"{numbers}:6: data "):
         run_text(PIPE, FIRST, LAST, data)
 
 
 def test_numbers_beyond_what_a_run_reads(market, numbers, kept, monkeypatch):
     """Of a file that has no room beside the results there are the names that are read, with their faults."""
-    rows = run_text(Pipeline({"a": Newest()}), FIRST, LAST, Data(market, revisions=None, numbers=None)).count(b"\n")
-    monkeypatch.setitem(_results.MOST, "numbers", rows + 2)
-    many = [f"other,{sid},2022-07-{day:02},1" for sid in range(101, 121) for day in range(5, 25)]
-    numbers.write_text("\n".join([*LINES, *many]))
+
+    def is_full(words):
+        if f"--numbers={numbers}" in words:
+            raise LimitFault("limit: numbers")
+
+    stream, ask = program.stream, derivations.ask_program
+    monkeypatch.setattr(program, "stream", lambda words: is_full(words) or stream(words))
+    monkeypatch.setattr(derivations, "ask_program", lambda *words, **of: is_full(words) or ask(*words, **of))
     data = Data(market, revisions=None, numbers=numbers)
     text = run_text(PIPE, FIRST, LAST, data)
-    assert {len(each) for each in kept} == {3} and b",2.500000\n" in text and b",4.000000\n" in text
+    assert [each.tolist() for each in kept] == [[1, 3, 5]] and b",2.500000\n" in text and b",4.000000\n" in text
     assert explain(PIPE, LAST, 101, "e", data).value == Decimal("2.5")
-    numbers.write_text("\n".join([*LINES, *many, "earnings,103,nothing,1"]))
-    with pytest.raises(DataFault, match=f"{numbers}:{6 + len(many)}: data "):
+    numbers.write_text("\n".join([*LINES, "earnings,103,nothing,1"]))
+    with pytest.raises(DataFault, match=f"{numbers}:6: data "):
         run_text(PIPE, FIRST, LAST, data)
 
 

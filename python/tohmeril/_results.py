@@ -31,7 +31,8 @@ FOUR = np.array([list(f"{number:04}".encode()) for number in range(10_000)], "u1
 MISSING = np.iinfo("i8").min
 GREATEST = 1e11
 ROWS = 1 << 17  # records that are written at a time
-MOST = {"numbers": 2_000_000, "labels": 200_000}  # records that a run reads
+MOST = {"results": 2_000_000, "labels": 200_000}  # records that a run reads, of results with those of numbers
+USERS = {"results": "numbers", "labels": "labels"}  # the part of the data beside which they stand
 LONGEST = 64  # bytes of a label
 
 
@@ -68,7 +69,8 @@ def to_millionths(values: Array) -> tuple[Array, Array]:
 
 
 class Records:
-    """Writes the results of some terms behind the user's own numbers and labels, session by session.
+    """Writes the results of some terms session by session: numbers into a file of results beside the user's numbers,
+    and labels behind the user's labels.
 
     Parameters
     ----------
@@ -111,7 +113,7 @@ class Records:
         if not len(columns):
             return
         known[columns] = values
-        self._counted("numbers", len(columns))
+        self._counted("results", len(columns))
         self.waiting.append((name, day, columns, values))
         self.rows += len(columns)
         if self.rows >= ROWS:
@@ -132,7 +134,7 @@ class Records:
         """Write all numbers that wait. Their order is free, so that those of equal length are written at once."""
         if not self.waiting:
             return
-        with open(self.files["numbers"], "ab") as file:
+        with open(self.files["results"], "ab") as file:
             for name in dict.fromkeys(name for name, *_ in self.waiting):
                 some = [(day, columns, values) for each, day, columns, values in self.waiting if each == name]
                 days = np.repeat(np.arange(len(some)), [len(columns) for _, columns, _ in some])
@@ -161,13 +163,24 @@ class Records:
     def _counted(self, part: str, count: int) -> None:
         """Count records, behind those of the user's file, which are there before the first."""
         if part not in self.files:
-            self.files[part] = self.folder / f"{part}.csv"
-            self.count[part], kept = _begin(self.users.get(part), self.files[part], part, self.names.get(part))
-            if kept is not None:
-                self.kept[part] = kept
+            self._begin(part)
         self.count[part] += count
         if self.count[part] > MOST[part]:
-            raise TooMany(part)
+            raise TooMany(USERS[part])
+
+    def _begin(self, part: str) -> None:
+        """Begin the file of a part; where the user's numbers have no room beside results, also one of some of them."""
+        own = USERS[part]
+        user, names = self.users.get(own), self.names.get(own)
+        if own == part or names is None:
+            self.files[part] = self.folder / f"{part}.csv"
+            self.count[part], kept = _begin(user if own == part else None, self.files[part], own, names)
+        else:
+            self.files[own], self.files[part] = self.folder / f"{own}.csv", self.folder / f"{part}.csv"
+            self.count[part], kept = _begin(user, self.files[own], own, names)
+            _begin(None, self.files[part], own, None)
+        if kept is not None:
+            self.kept[own] = kept
 
     def open(self, part: str) -> None:
         """Make the file of a part, which may get no record."""

@@ -102,12 +102,12 @@ def _parts(script: Script, names: Mapping[Term, str], data: Data, ends: Ends) ->
     days = data.days(*ends)
     leaves = [leaf for leaf in names if custom_of(leaf).sort == "factor"]
     assets = len(_sids(data))
-    if len(days) * len(leaves) * assets <= MOST["numbers"] or len(days) < 2:
+    if len(days) * len(leaves) * assets <= MOST["results"] or len(days) < 2:
         return [ends]
     order, first = order_of(script, *ends, data), bisect_left(data.sessions, ends[0])
     before = {need.custom: first - need.first for level in order.levels for need in level}
     rows = _existing(data, ends) / len(days)  # of a session
-    free = MOST["numbers"] / max(rows, 1) - sum(before[custom_of(leaf)] for leaf in leaves)
+    free = MOST["results"] / max(rows, 1) - sum(before[custom_of(leaf)] for leaf in leaves)
     return data.pieces(*ends, -(-len(days) // max(int(free / len(leaves)), 1)))
 
 
@@ -128,9 +128,9 @@ def computed(
 ) -> Iterator[Data]:
     """The data with what is computed for a range, within the block.
 
-    The user's own numbers and labels come first in their files, so that the program judges them. Where it has judged
-    them before, or they have no room beside results (`make_room`), there are those of the names that the pipeline
-    reads.
+    Numbers stand in a file of results, beside the user's own. The user's labels come first in the file with those that
+    are computed, so that the program judges them. Where it has judged them before, or labels or numbers have no room
+    beside results (`make_room`), there are those of the names that the pipeline reads.
 
     Raises
     ------
@@ -146,7 +146,7 @@ def computed(
         kept = {part: names_in(script, part) for part in users if stamps[part] in _known}
         found = Records(Path(folder), users, _sids(data), kept)
         for leaf in names:
-            found.open("labels" if leaf.sort == "label" else "numbers")
+            found.open("labels" if leaf.sort == "label" else "results")
         whole = copy.copy(data)
         whole.files = {**data.files, **found.files}
         sessions = bisect_right(data.sessions, ends[1])
@@ -185,9 +185,15 @@ def _no_bars(folder: Path) -> Path:
 
 @contextmanager
 def _of_user(users: Mapping[str, Path], found: Records) -> Iterator[None]:
-    """Say a fault of a file with the results as one of the user's own, whose records are its first."""
+    """Say a fault of a file with the results as one of the user's own, whose records are its first; and that the
+    user's numbers have no room beside the results.
+    """
     try:
         yield
+    except LimitFault as fault:
+        if fault.line == "limit: numbers" and found.count.get("results"):
+            raise TooMany("numbers") from None
+        raise
     except DataFault as fault:
         for part, path in found.files.items():
             if fault.path == str(path) and fault.record is not None and part in users:

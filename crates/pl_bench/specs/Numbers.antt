@@ -2,7 +2,7 @@
 use Rattle.std.specs.Prelude.{◌≡◌, ℕ, pos, List, length}
 use Rattle.std.specs.Int.RustNames.{unsigned_abs}
 use Rattle.pl_spec.specs.World.{World}
-use Rattle.pl_pipeline.specs.Graph.{bound}
+use Rattle.pl_planner.specs.Columns.{most_held}
 use Rattle.pl_pipeline.specs.Table.{Row, table, sum_of_cells}
 use Rattle.pl_terms.specs.Uses.{outputs}
 use Rattle.pl_planner.specs.Plans.{Planned}
@@ -19,7 +19,7 @@ bench_rows w = table w bench_pipeline 252 599
 
 -- how many arrays are held at once
 abbrev pub bench_bound : ℕ
-bench_bound = bound bench_pipeline.graph (outputs bench_pipeline)
+bench_bound = most_held bench_pipeline.graph (outputs bench_pipeline)
 
 -- how many rows there are, the sum of their cells modulo 2^64, how many arrays were held at once, and how
 -- many may be

@@ -39,19 +39,19 @@ factor-node bs names r (Some i) h =
     let same : x ≡ r = (let q : Some x ≡ Some r = h in cc) in
     subst (λ (y : Found Value). IsFactor y.value) same (factor-for bs i.number)
 
-factor-made : (bs : List Bound) (s : Terms) (r : Found Value) → made op.Age bs s ≡ Some r → IsFactor r.value
+factor-made : (bs : List Bound) (s : Terms) (r : Found Value) → made interned op.Age bs s ≡ Some r → IsFactor r.value
 unfolding made node_made
 factor-made bs s r h =
-    let w = bind-some (with_constants [] s.graph bs) (λ q. node_made op.Age q.0 (terms q.1 s.names)) r h in
+    let w = bind-some (with_constants interned [] s.graph bs) (λ q. node_made interned op.Age q.0 (terms q.1 s.names)) r h in
     factor-node w.0.0 s.names r (interned w.0.1 (node_for op.Age w.0.0 s.names)) w.2
 
-factor-called : (p : Place) (bs : List Bound) (ws : List Written) (s : Terms) → IfOk (called p op.Age bs ws s) (λ r. IsFactor r.value)
+factor-called : (p : Place) (bs : List Bound) (ws : List Written) (s : Terms) → IfOk (called interned p op.Age bs ws s) (λ r. IsFactor r.value)
 unfolding called applied
 factor-called p bs ws s =
-    found-ok (λ r. IsFactor r.value) BadArgument p (form op.Age false bs ws) (λ cs. applied p op.Age cs s) (λ cs e.
-    unless-ok (λ r. IsFactor r.value) (broken cs) p _ (λ b. some-ok (λ r. IsFactor r.value) TooManyTerms p (made op.Age cs s) (λ r h. factor-made cs s r h)))
+    found-ok (λ r. IsFactor r.value) BadArgument p (form op.Age false bs ws) (λ cs. applied interned p op.Age cs s) (λ cs e.
+    unless-ok (λ r. IsFactor r.value) (broken cs) p _ (λ b. some-ok (λ r. IsFactor r.value) TooManyTerms p (made interned op.Age cs s) (λ r h. factor-made cs s r h)))
 
-pub age-is-factor : (p : Place) (bs : List Bound) (ws : List Written) (s t : Terms) (x : Value) → called p op.Age bs ws s ≡ Ok (found x t) → IsFactor x
+pub age-is-factor : (p : Place) (bs : List Bound) (ws : List Written) (s t : Terms) (x : Value) → called interned p op.Age bs ws s ≡ Ok (found x t) → IsFactor x
 age-is-factor p bs ws s t x h = IfOk-at_ok (λ r. IsFactor r.value) h (factor-called p bs ws s)
 
 -- ---- in the code

@@ -1,214 +1,232 @@
 -- A typed script is its trees, numbered.
 use Rattle.std.proofs.Common.{◌≡◌, ℕ, ◌<◌, ◌≤◌, nat_le, nat_lt, Bool, true, false, ◌||◌, ◌⊎◌, List, [], ◌∷◌, ◌++◌, length, map, Option, Some, None, option_map, Result, Ok, Err, refl, sym, ap, subst, ◌∙◌, arith, inl, inr, bytes_eq}
-use Rattle.std.specs.Prelude.{is_some, not, option_to_list}
-use Rattle.std.specs.Option.{option_or}
-use Rattle.std.specs.List.{list_any}
+use Rattle.std.specs.Prelude.{is_some, not}
 use Rattle.std.proofs.lemmas.List.{length-map, map-append}
 use Rattle.pl_spec.specs.Limits.{most_columns}
-use Rattle.pl_pipeline.specs.Term.{Term, Graph, term_at}
+use Rattle.pl_spec.proofs.Each.{each_both, each_more, map_each}
+use Rattle.pl_pipeline.specs.Term.{Graph, term_at}
 use Rattle.pl_pipeline.specs.Table.{NamedColumn, Pipeline}
 use Rattle.pl_grammar.specs.declared.Place.{Place}
 use Rattle.pl_grammar.specs.Script.{Head, LetHead, ColumnHead, ScreenHead, Statement}
-use Rattle.pl_terms.proofs.Interning.{Later, later-still}
+use Rattle.pl_terms.specs.Nodes.{interned}
 use Rattle.pl_syntax.specs.Spells.{Parsed}
 use Rattle.pl_check.specs.declared.fault.CheckFault.{CheckFault}
 use Rattle.pl_check.specs.declared.fault.CheckFault.TheVariants.{TooManyTerms}
 use Rattle.pl_check.specs.Faults.{Broken, ◌>>=◌, or_fault}
-use Rattle.pl_check.specs.Values.{Value, Bars, Factor, Filter, Labels, Numbers, Text}
+use Rattle.pl_check.specs.Values.{Value, Bars, Factor, Filter, Number, Text}
+use Rattle.pl_check.specs.Results.{term_in}
 use Rattle.pl_check.specs.Operations.{function_named}
-use Rattle.pl_check.specs.Typed.{Terms, Found, found, Definition, bar_column, defined, is_storable, is_term_filter, term_of, require, is_taken, has_column, factor_value, stored, let_judged, column_judged, screen_judged, head_judged, statement_judged, statements_judged, worth, pipeline_of, ended, typed}
-use Rattle.pl_check.specs.Typed as typed
-use Rattle.pl_check.specs.Trees as by_tree
-use Rattle.pl_check.specs.Trees.{Meaning, Forest, After, after, with_trees, constant_of, factor_of, or_absent, TreeColumn, meaning, script_trees}
-use Rattle.pl_check.specs.Numbering.{tree_column, HasMany, AreNumbered, TypedAreTrees, FaultsAreTrees, TypedUnlessMany}
-use Rattle.pl_check.proofs.Unnumbered.{unnumbered, storable-bare, filter-bare}
-use Rattle.pl_check.proofs.Rooted.{tree_of, meaning_of, IsIn}
-use Rattle.std.specs.Result.{IfOk}
-use Rattle.std.proofs.lemmas.Result.{IfOk-at_ok}
-use Rattle.pl_check.proofs.Extended.{IsOver, of_meaning, of_judged, let-grows, column-grows, head-grows, statements-grow, ended-grows}
-use Rattle.pl_check.proofs.Counted.{Same, Means, factor-settles, factor-over}
-use Rattle.pl_check.proofs.Followed.{Agrees, then-agrees, weaker, AreMeant, meant-later, defined-is, worth-agrees}
+use Rattle.pl_check.specs.Typed.{Terms, Found, found, Definition, Judged, nothing, bar_column, defined, is_storable, is_term_filter, term_of, require, is_taken, has_column, factor_value, stored, let_judged, column_judged, screen_judged, head_judged, statement_judged, statements_judged, worth, pipeline_of, ended, typed_by, typed}
+use Rattle.pl_check.specs.Trees.{added, ScriptTrees, tree_column, trees_of, script_trees}
+use Rattle.pl_check.specs.Numbering.{HasMany, AreNumbered, TypedAreTrees, FaultsAreTrees, TypedUnlessMany}
 use Rattle.pl_check.specs.Standing.{ColumnsAreInGraph}
+use Rattle.pl_check.proofs.Growing.{terms}
 use Rattle.pl_check.proofs.Stated.{columns-kept}
-use Rattle.pl_spec.proofs.Each.{each_both, each_more, map_each}
+use Rattle.pl_check.proofs.Renumbered.{renumbered, storable-moved, filter-moved}
+use Rattle.pl_check.proofs.Rooted.{IsIn}
+use Rattle.pl_check.proofs.Extended.{of_value, of_judged, of_pipeline, let-adds, column-adds, head-adds, statements-add, ended-adds}
+use Rattle.pl_check.proofs.Counted.{Same, Further, MeansValue, means-behind, Puts, named, factor-puts}
+use Rattle.pl_check.proofs.Followed.{Agrees, then-agrees, weaker, moved_definition, DefinedIn, defined-later, defined-moved, worth-agrees}
 
 -- ---- what the statements so far say
 
 abbrev NumberIn : Graph → Option ℕ → Type 0
 NumberIn g o = (k : ℕ) → o ≡ Some k → k < length g
 
-record SameJudged (j : typed.Judged) (k : by_tree.Judged) : Type 0 where
-  same : Same j.terms k.forest
-  meant : AreMeant j.terms.graph j.definitions k.definitions
-  inside : ColumnsAreInGraph j.terms.graph j.columns
-  columns : map (tree_column j.terms.graph) j.columns ≡ k.columns
-  there : NumberIn j.terms.graph j.screen
-  screen : option_map (term_at j.terms.graph) j.screen ≡ k.screen
+abbrev moved_column : (ℕ → ℕ) → NamedColumn → NamedColumn
+moved_column to c = record { name = c.name; term = to c.term }
 
-columns-later : (g h : Graph) (cs : List NamedColumn) → Later g h → ColumnsAreInGraph g cs → map (tree_column h) cs ≡ map (tree_column g) cs
-columns-later g h cs l i =
-    map_each (tree_column h) (tree_column g) cs (each_more _ _ cs (λ (c : NamedColumn) (k : c.term < length g). ap (λ t. record { name = c.name; tree = t }) (l.same c.term k)) i)
+-- the same of a script and where no term is shared, but for the numbers of terms
+record SameJudged (j k : Judged) : Type 0 where
+  to : ℕ → ℕ
+  same : Same j.terms k.terms to
+  defined_in : DefinedIn k.terms.graph k.definitions
+  definitions : j.definitions ≡ map (moved_definition to) k.definitions
+  inside : ColumnsAreInGraph k.terms.graph k.columns
+  columns : j.columns ≡ map (moved_column to) k.columns
+  there : NumberIn k.terms.graph k.screen
+  screen : j.screen ≡ option_map to k.screen
 
-number-later : (g h : Graph) (o : Option ℕ) → Later g h → NumberIn g o → (NumberIn h o) × (option_map (term_at h) o ≡ option_map (term_at g) o)
-number-later g h None l i = (λ k e. absurd (let no : None ≡ Some k = e in cc), refl)
-number-later g h (Some t) l i =
-    (λ k e. (let a : k < length g = i k e in let b : length g ≤ length h = l.longer in omega arith), ap Some (l.same t (i t refl)))
+columns-later : (f g : Graph) (to more : ℕ → ℕ) (cs : List NamedColumn) → Further f g to more → ColumnsAreInGraph f cs → map (moved_column more) cs ≡ map (moved_column to) cs
+columns-later f g to more cs h i =
+    map_each (moved_column more) (moved_column to) cs (each_more _ _ cs (λ (c : NamedColumn) (l : c.term < length f). ap (λ t. record { name = c.name; term = t }) (h.kept c.term l)) i)
+
+number-later : (f g : Graph) (to more : ℕ → ℕ) (o : Option ℕ) → Further f g to more → NumberIn f o → NumberIn g o × (option_map more o ≡ option_map to o)
+number-later f g to more None h i = (λ k e. absurd (let no : None ≡ Some k = e in cc), refl)
+number-later f g to more (Some t) h i =
+    (λ k e. (let a : k < length f = i k e in let b : length f ≤ length g = h.longer in omega arith), ap Some (h.kept t (i t refl)))
 
 -- ---- the value of a statement
 
--- a value whose term has a tree
-abbrev Stored : Terms → Found Value → After Meaning → Type 0
-Stored s r m = Means s r m × ((t : Term) × (m.value.tree ≡ Some t))
+-- a value that is a term
+abbrev Stored : Graph → (ℕ → ℕ) → Found Value → Found Value → Type 0
+Stored f to x y = MeansValue f to x y × (term_in y.value ≡ Some (term_of y.value))
 
-require-agrees : {A B : Type 0} (F : B → Forest) (R : A → B → Type 0) (k : CheckFault) (p : Place) (b c : Bool) (r : Result A Broken) (q : Result B Broken) → c ≡ b → (b ≡ true → Agrees F R r q) → Agrees F R (require b k p r) (require c k p q)
-require-agrees F R k p true c r q e h = subst (λ z. Agrees F R r (require z k p q)) (sym e) (h refl)
-require-agrees F R k p false c r q e h = subst (λ z. Agrees F R (require false k p r) (require z k p q)) (sym e) (inr refl)
+require-agrees : {A B : Type 0} (F : B → Graph) (R : A → B → Type 0) (k : CheckFault) (p : Place) (b c : Bool) (r : Result A Broken) (q : Result B Broken) → b ≡ c → (c ≡ true → Agrees F R r q) → Agrees F R (require b k p r) (require c k p q)
+require-agrees F R k p b true r q e h = subst (λ z. Agrees F R (require z k p r) q) (sym e) (h refl)
+require-agrees F R k p b false r q e h = subst (λ z. Agrees F R (require z k p r) (require false k p q)) (sym e) (inr refl)
 
-storable-tree : (g : Graph) (v : Value) → is_storable v ≡ true → (t : Term) × (option_or (constant_of (unnumbered v)) (tree_of g v) ≡ Some t)
-storable-tree g (Bars c) h = absurd (let no : false ≡ true = h in cc)
-storable-tree g (Text t) h = absurd (let no : false ≡ true = h in cc)
-storable-tree g v h = (_, refl)
+stored-term : (g : Graph) (v : Value) (y : Value × Graph) → is_storable v ≡ true → factor_value added g v ≡ Some y → term_in y.0 ≡ Some (term_of y.0)
+unfolding factor_value
+stored-term g (Bars c) y h e = absurd (let no : false ≡ true = h in cc)
+stored-term g (Text t) y h e = absurd (let no : false ≡ true = h in cc)
+stored-term g (Number n) y h e = let q : Factor (length g) true ≡ y.0 = (let z : Some (Factor (length g) true, _) ≡ Some y = e in cc) in subst (λ x. term_in x ≡ Some (term_of x)) q refl
+stored-term g v y h e = let q : v ≡ y.0 = (let z : Some (v, g) ≡ Some y = e in cc) in subst (λ x. term_in x ≡ Some (term_of x)) q refl
 
-stored-agrees : (p : Place) (v : Value) (s : Terms) (f : Forest) → Same s f → IsIn s.graph v → Agrees of_meaning (Stored s) (stored p (found v s)) (by_tree.stored p (after (meaning_of s.graph v) f))
-unfolding stored by_tree.stored
-stored-agrees p v s f w i = require-agrees of_meaning (Stored s) _ p (is_storable v) (is_storable (unnumbered v)) _ _ (storable-bare v) (λ e. here e (factor_value s.graph v) refl)
+stored-agrees : (p : Place) (v : Value) (s f : Terms) (to : ℕ → ℕ) → Same s f to → IsIn f.graph v → Agrees of_value (Stored f.graph to) (stored interned p (found (renumbered to v) s)) (stored added p (found v f))
+unfolding stored
+stored-agrees p v s f to w i =
+    require-agrees of_value (Stored f.graph to) _ p (is_storable (renumbered to v)) (is_storable v) _ _ (storable-moved to v)
+    (λ e. here e (factor_value interned s.graph (renumbered to v)) (factor_value added f.graph v) refl (factor-puts s f to v w i))
   where
-    result : After Meaning
-    result = after (record { value = factor_of (unnumbered v); tree = option_or (constant_of (unnumbered v)) (tree_of s.graph v) }) (with_trees f (option_to_list (constant_of (unnumbered v))))
+    here : is_storable v ≡ true → (o q : Option (Value × Graph)) → factor_value added f.graph v ≡ q → Puts (MeansValue f.graph to) (named s.names o) (named f.names q)
+        → Agrees of_value (Stored f.graph to) (or_fault TooManyTerms p o >>= λ r. Ok (found r.0 (terms r.1 s.names))) (or_fault TooManyTerms p q >>= λ r. Ok (found r.0 (terms r.1 f.names)))
+    here e o None a h = absurd h
+    here e None (Some y) a h = inl (refl, h)
+    here e (Some x) (Some y) a h = (_, refl, (h, stored-term f.graph v y e a))
 
-    here : is_storable v ≡ true → (o : Option (Value × Graph)) → factor_value s.graph v ≡ o
-        → Agrees of_meaning (Stored s) (or_fault TooManyTerms p o >>= λ q. Ok (found q.0 (record { graph = q.1; names = s.names }))) (Ok result)
-    here e None h = inl (refl, factor-over s f v w h)
-    here e (Some q) h =
-        let k = factor-settles s f v q w i h in
-        (result, refl, (record { later = k.later; inside = k.inside; is = k.is; same = k.same }, storable-tree s.graph v e))
+stored-after : (f : Graph) (to : ℕ → ℕ) (r m : Found Value) (p : Place) → MeansValue f to r m → Agrees of_value (Stored f to) (stored interned p r) (stored added p m)
+stored-after f to r m p h =
+    subst (λ x. Agrees of_value (Stored f to) (stored interned p (found x r.terms)) (stored added p m)) (sym h.is)
+    (weaker of_value (Stored m.terms.graph h.to_after) (Stored f to) (stored interned p (found (renumbered h.to_after m.value) r.terms)) (stored added p m)
+    (λ x y k. (means-behind IsIn renumbered f m.terms.graph to h.to_after x y h.further k.0, k.1))
+    (stored-agrees p m.value r.terms m.terms h.to_after h.same h.inside))
 
 -- ---- one statement
 
-taken-same : (v : ℕ) (g : Graph) (ds : List Definition) (es : List by_tree.Definition) (n : List ℕ) → AreMeant g ds es → by_tree.is_taken v es n ≡ is_taken v ds n
-taken-same v g ds es n a = ap (λ o. is_some (bar_column n) || is_some (function_named v n) || is_some o) (defined-is g ds es n a) ∙ ap (λ b. is_some (bar_column n) || is_some (function_named v n) || b) (here (defined ds n))
+taken-same : (v : ℕ) (to : ℕ → ℕ) (ds es : List Definition) (n : List ℕ) → es ≡ map (moved_definition to) ds → is_taken v es n ≡ is_taken v ds n
+taken-same v to ds es n e =
+    ap (λ xs. is_taken v xs n) e ∙ ap (λ o. is_some (bar_column n) || is_some (function_named v n) || is_some o) (defined-moved to ds n)
+    ∙ ap (λ b. is_some (bar_column n) || is_some (function_named v n) || b) (here (defined ds n))
   where
-    here : (o : Option Value) → is_some (option_map (meaning_of g) o) ≡ is_some o
+    here : (o : Option Value) → is_some (option_map (renumbered to) o) ≡ is_some o
     here None = refl
     here (Some x) = refl
 
-meant-append : (g : Graph) (ds : List Definition) (es : List by_tree.Definition) (n : List ℕ) (v : Value) (m : Meaning) → AreMeant g ds es → IsIn g v → m ≡ meaning_of g v
-    → AreMeant g (ds ++ record { name = n; value = v } ∷ []) (es ++ record { name = n; meaning = m } ∷ [])
-meant-append g [] [] n v m a i e = (refl, i, e, tt)
-meant-append g (d ∷ ds) (e ∷ es) n v m a i q = (a.0, a.1, a.2, meant-append g ds es n v m a.3 i q)
-meant-append g ds es n v m a i q = absurd a
-
-let-agrees : (v : ℕ) (j : typed.Judged) (k : by_tree.Judged) (p : Place) (n : List ℕ) (r : Found Value) (m : After Meaning) → SameJudged j k → Means j.terms r m → Agrees of_judged SameJudged (let_judged v j p n r) (by_tree.let_judged v k p n m)
-unfolding let_judged by_tree.let_judged
+let-agrees : (v : ℕ) (j k : Judged) (p : Place) (n : List ℕ) (r m : Found Value) (w : SameJudged j k) → MeansValue k.terms.graph w.to r m → Agrees of_judged SameJudged (let_judged v j p n r) (let_judged v k p n m)
+unfolding let_judged
 let-agrees v j k p n r m w h =
-    require-agrees of_judged SameJudged _ p (not (is_taken v j.definitions n)) (not (by_tree.is_taken v k.definitions n)) _ _ (ap not (taken-same v j.terms.graph j.definitions k.definitions n w.meant))
+    require-agrees of_judged SameJudged _ p (not (is_taken v j.definitions n)) (not (is_taken v k.definitions n)) _ _ (ap not (taken-same v w.to k.definitions j.definitions n w.definitions))
     (λ e. (
       _,
       refl,
       record {
+        to = h.to_after;
         same = h.same;
-        meant = meant-append r.terms.graph j.definitions k.definitions n r.value m.value (meant-later j.terms.graph r.terms.graph j.definitions k.definitions h.later w.meant) h.inside h.is;
-        inside = columns-kept j.terms.graph r.terms.graph j.columns h.later.longer w.inside;
-        columns = columns-later j.terms.graph r.terms.graph j.columns h.later w.inside ∙ w.columns;
-        there = (number-later j.terms.graph r.terms.graph j.screen h.later w.there).0;
-        screen = (number-later j.terms.graph r.terms.graph j.screen h.later w.there).1 ∙ w.screen;
+        defined_in = each_both _ k.definitions (record { name = n; value = m.value } ∷ []) ds.0 (h.inside, tt);
+        definitions =
+            ap (λ xs. xs ++ record { name = n; value = r.value } ∷ []) (w.definitions ∙ sym ds.1) ∙ ap (λ x. map (moved_definition h.to_after) k.definitions ++ record { name = n; value = x } ∷ []) h.is
+            ∙ sym (map-append (moved_definition h.to_after) k.definitions (record { name = n; value = m.value } ∷ []));
+        inside = columns-kept k.terms.graph m.terms.graph k.columns h.further.longer w.inside;
+        columns = w.columns ∙ sym (columns-later k.terms.graph m.terms.graph w.to h.to_after k.columns h.further w.inside);
+        there = o.0;
+        screen = w.screen ∙ sym o.1;
       },
     ))
+  where
+    ds : DefinedIn m.terms.graph k.definitions × (map (moved_definition h.to_after) k.definitions ≡ map (moved_definition w.to) k.definitions)
+    ds = defined-later k.terms.graph m.terms.graph w.to h.to_after k.definitions h.further w.defined_in
 
-has-same : (g : Graph) (cs : List NamedColumn) (n : List ℕ) → list_any (λ (c : TreeColumn). bytes_eq n c.name) (map (tree_column g) cs) ≡ has_column cs n
-has-same g [] n = refl
-has-same g (c ∷ cs) n = ap (λ b. bytes_eq n c.name || b) (has-same g cs n)
+    o : NumberIn m.terms.graph k.screen × (option_map h.to_after k.screen ≡ option_map w.to k.screen)
+    o = number-later k.terms.graph m.terms.graph w.to h.to_after k.screen h.further w.there
 
--- the number of a term, and its tree
-term-tree : (g : Graph) (v : Value) (t : Term) → IsIn g v → tree_of g v ≡ Some t → (term_of v < length g) × (term_at g (term_of v) ≡ t)
-term-tree g (Factor k s) t i e = (i k refl, (let q : Some (term_at g k) ≡ Some t = e in cc))
-term-tree g (Filter k) t i e = (i k refl, (let q : Some (term_at g k) ≡ Some t = e in cc))
-term-tree g (Labels k) t i e = (i k refl, (let q : Some (term_at g k) ≡ Some t = e in cc))
-term-tree g (Numbers k) t i e = (i k refl, (let q : Some (term_at g k) ≡ Some t = e in cc))
-term-tree g v t i e = absurd (let no : None ≡ Some t = e in cc)
+has-same : (to : ℕ → ℕ) (cs : List NamedColumn) (n : List ℕ) → has_column (map (moved_column to) cs) n ≡ has_column cs n
+has-same to [] n = refl
+has-same to (c ∷ cs) n = ap (λ b. bytes_eq n c.name || b) (has-same to cs n)
 
-column-agrees : (j : typed.Judged) (k : by_tree.Judged) (p : Place) (n : List ℕ) (r : Found Value) (m : After Meaning) → SameJudged j k → Stored j.terms r m → Agrees of_judged SameJudged (column_judged j p n r) (by_tree.column_judged k p n m)
-unfolding column_judged by_tree.column_judged
-column-agrees j k p n r m w h =
-    require-agrees of_judged SameJudged _ p (not (has_column j.columns n)) (not (list_any (λ (c : TreeColumn). bytes_eq n c.name) k.columns)) _ _
-    (ap not (ap (list_any (λ (c : TreeColumn). bytes_eq n c.name)) (sym w.columns) ∙ has-same j.terms.graph j.columns n))
+-- the number of a term
+term-moved : (to : ℕ → ℕ) (v : Value) → term_in v ≡ Some (term_of v) → term_of (renumbered to v) ≡ to (term_of v)
+term-moved to (Bars c) h = absurd (let no : None ≡ Some 0 = h in cc)
+term-moved to (Number n) h = absurd (let no : None ≡ Some 0 = h in cc)
+term-moved to (Text t) h = absurd (let no : None ≡ Some 0 = h in cc)
+term-moved to v h = refl
+
+column-agrees : (j k : Judged) (p : Place) (n : List ℕ) (r m : Found Value) (w : SameJudged j k) → Stored k.terms.graph w.to r m → Agrees of_judged SameJudged (column_judged j p n r) (column_judged k p n m)
+unfolding column_judged
+column-agrees j k p n r m w (h, t) =
+    require-agrees of_judged SameJudged _ p (not (has_column j.columns n)) (not (has_column k.columns n)) _ _ (ap not (ap (λ cs. has_column cs n) w.columns ∙ has-same w.to k.columns n))
     (λ e. require-agrees of_judged SameJudged _ p (nat_lt (length j.columns) most_columns) (nat_lt (length k.columns) most_columns) _ _
-    (ap (λ x. nat_lt x most_columns) (ap length (sym w.columns) ∙ length-map j.columns (tree_column j.terms.graph)))
+    (ap (λ x. nat_lt x most_columns) (ap length w.columns ∙ length-map k.columns (moved_column w.to)))
     (λ q. (
       _,
       refl,
       record {
-        same = h.0.same;
-        meant = meant-later j.terms.graph r.terms.graph j.definitions k.definitions h.0.later w.meant;
-        inside = each_both _ j.columns (record { name = n; term = term_of r.value } ∷ []) (columns-kept j.terms.graph r.terms.graph j.columns h.0.later.longer w.inside) (own.0, tt);
+        to = h.to_after;
+        same = h.same;
+        defined_in = ds.0;
+        definitions = w.definitions ∙ sym ds.1;
+        inside = each_both _ k.columns (record { name = n; term = term_of m.value } ∷ []) (columns-kept k.terms.graph m.terms.graph k.columns h.further.longer w.inside) (h.inside (term_of m.value) t, tt);
         columns =
-            map-append (tree_column r.terms.graph) j.columns (record { name = n; term = term_of r.value } ∷ [])
-            ∙ ap (λ cs. cs ++ tree_column r.terms.graph (record { name = n; term = term_of r.value }) ∷ []) (columns-later j.terms.graph r.terms.graph j.columns h.0.later w.inside ∙ w.columns)
-            ∙ ap (λ t. k.columns ++ record { name = n; tree = t } ∷ []) (own.1 ∙ sym (ap or_absent h.1.1));
-        there = (number-later j.terms.graph r.terms.graph j.screen h.0.later w.there).0;
-        screen = (number-later j.terms.graph r.terms.graph j.screen h.0.later w.there).1 ∙ w.screen;
+            ap (λ cs. cs ++ record { name = n; term = term_of r.value } ∷ []) (w.columns ∙ sym (columns-later k.terms.graph m.terms.graph w.to h.to_after k.columns h.further w.inside))
+            ∙ ap (λ x. map (moved_column h.to_after) k.columns ++ record { name = n; term = x } ∷ []) (ap term_of h.is ∙ term-moved h.to_after m.value t)
+            ∙ sym (map-append (moved_column h.to_after) k.columns (record { name = n; term = term_of m.value } ∷ []));
+        there = o.0;
+        screen = w.screen ∙ sym o.1;
       },
     )))
   where
-    own : (term_of r.value < length r.terms.graph) × (term_at r.terms.graph (term_of r.value) ≡ h.1.0)
-    own = term-tree r.terms.graph r.value h.1.0 h.0.inside (sym (ap (λ (x : Meaning). x.tree) h.0.is) ∙ h.1.1)
+    ds : DefinedIn m.terms.graph k.definitions × (map (moved_definition h.to_after) k.definitions ≡ map (moved_definition w.to) k.definitions)
+    ds = defined-later k.terms.graph m.terms.graph w.to h.to_after k.definitions h.further w.defined_in
 
-filter-tree : (g : Graph) (v : Value) → is_term_filter v ≡ true → IsIn g v → NumberIn g (Some (term_of v)) × (Some (term_at g (term_of v)) ≡ tree_of g v)
-filter-tree g (Filter t) h i = (i, refl)
-filter-tree g v h i = absurd (let no : false ≡ true = h in cc)
+    o : NumberIn m.terms.graph k.screen × (option_map h.to_after k.screen ≡ option_map w.to k.screen)
+    o = number-later k.terms.graph m.terms.graph w.to h.to_after k.screen h.further w.there
 
-some-same : (g : Graph) (o : Option ℕ) → is_some (option_map (term_at g) o) ≡ is_some o
-some-same g None = refl
-some-same g (Some t) = refl
+filter-term : (v : Value) → is_term_filter v ≡ true → term_in v ≡ Some (term_of v)
+filter-term (Filter t) h = refl
+filter-term v h = absurd (let no : false ≡ true = h in cc)
 
-screen-agrees : (j : typed.Judged) (k : by_tree.Judged) (p : Place) (r : Found Value) (m : After Meaning) → SameJudged j k → Means j.terms r m → Agrees of_judged SameJudged (screen_judged j p r) (by_tree.screen_judged k p m)
-unfolding screen_judged by_tree.screen_judged
+some-same : (to : ℕ → ℕ) (o : Option ℕ) → is_some (option_map to o) ≡ is_some o
+some-same to None = refl
+some-same to (Some t) = refl
+
+screen-agrees : (j k : Judged) (p : Place) (r m : Found Value) (w : SameJudged j k) → MeansValue k.terms.graph w.to r m → Agrees of_judged SameJudged (screen_judged j p r) (screen_judged k p m)
+unfolding screen_judged
 screen-agrees j k p r m w h =
-    require-agrees of_judged SameJudged _ p (is_term_filter r.value) (is_term_filter m.value.value) _ _ (ap (λ (x : Meaning). is_term_filter x.value) h.is ∙ filter-bare r.value)
-    (λ e. require-agrees of_judged SameJudged _ p (not (is_some j.screen)) (not (is_some k.screen)) _ _ (ap not (ap is_some (sym w.screen) ∙ some-same j.terms.graph j.screen))
+    require-agrees of_judged SameJudged _ p (is_term_filter r.value) (is_term_filter m.value) _ _ (ap is_term_filter h.is ∙ filter-moved h.to_after m.value)
+    (λ e. require-agrees of_judged SameJudged _ p (not (is_some j.screen)) (not (is_some k.screen)) _ _ (ap not (ap is_some w.screen ∙ some-same w.to k.screen))
     (λ q. (
       _,
       refl,
       record {
+        to = h.to_after;
         same = h.same;
-        meant = meant-later j.terms.graph r.terms.graph j.definitions k.definitions h.later w.meant;
-        inside = columns-kept j.terms.graph r.terms.graph j.columns h.later.longer w.inside;
-        columns = columns-later j.terms.graph r.terms.graph j.columns h.later w.inside ∙ w.columns;
-        there = (filter-tree r.terms.graph r.value e h.inside).0;
-        screen = (filter-tree r.terms.graph r.value e h.inside).1 ∙ sym (ap (λ (x : Meaning). x.tree) h.is);
+        defined_in = ds.0;
+        definitions = w.definitions ∙ sym ds.1;
+        inside = columns-kept k.terms.graph m.terms.graph k.columns h.further.longer w.inside;
+        columns = w.columns ∙ sym (columns-later k.terms.graph m.terms.graph w.to h.to_after k.columns h.further w.inside);
+        there = λ t x. h.inside t (filter-term m.value e ∙ x);
+        screen = ap Some (ap term_of h.is ∙ term-moved h.to_after m.value (filter-term m.value e));
       },
     )))
+  where
+    ds : DefinedIn m.terms.graph k.definitions × (map (moved_definition h.to_after) k.definitions ≡ map (moved_definition w.to) k.definitions)
+    ds = defined-later k.terms.graph m.terms.graph w.to h.to_after k.definitions h.further w.defined_in
 
-stored-after : (s : Terms) (r : Found Value) (m : After Meaning) (p : Place) → Means s r m → Agrees of_meaning (Stored s) (stored p r) (by_tree.stored p m)
-stored-after s r m p h =
-    subst (λ x. Agrees of_meaning (Stored s) (stored p r) (by_tree.stored p (after x m.forest))) (sym h.is)
-    (weaker of_meaning (Stored r.terms) (Stored s) (stored p r) (by_tree.stored p (after (meaning_of r.terms.graph r.value) m.forest))
-    (λ x y k. (record { later = later-still s.graph r.terms.graph x.terms.graph h.later k.0.later; inside = k.0.inside; is = k.0.is; same = k.0.same }, k.1))
-    (stored-agrees p r.value r.terms m.forest h.same h.inside))
-
-head-agrees : (v : ℕ) (j : typed.Judged) (k : by_tree.Judged) (h : Head) (r : Found Value) (m : After Meaning) → SameJudged j k → Means j.terms r m → Agrees of_judged SameJudged (head_judged v j h r) (by_tree.head_judged v k h m)
+head-agrees : (v : ℕ) (j k : Judged) (h : Head) (r m : Found Value) (w : SameJudged j k) → MeansValue k.terms.graph w.to r m → Agrees of_judged SameJudged (head_judged interned v j h r) (head_judged added v k h m)
 head-agrees version j k (LetHead p n) r m w v =
-    then-agrees of_meaning of_judged (Stored j.terms) SameJudged (stored p r) (by_tree.stored p m) _ _ (stored-after j.terms r m p v) (λ q x y. let-agrees version j k p n q x w y.0) (λ x. let-grows version k p n x)
+    then-agrees of_value of_judged (Stored k.terms.graph w.to) SameJudged (stored interned p r) (stored added p m) _ _ (stored-after k.terms.graph w.to r m p v) (λ q x y. let-agrees version j k p n q x w y.0) (λ x. (_, let-adds version k p n x))
 head-agrees version j k (ColumnHead p n) r m w v =
-    then-agrees of_meaning of_judged (Stored j.terms) SameJudged (stored p r) (by_tree.stored p m) _ _ (stored-after j.terms r m p v) (λ q x y. column-agrees j k p n q x w y) (λ x. column-grows k p n x)
+    then-agrees of_value of_judged (Stored k.terms.graph w.to) SameJudged (stored interned p r) (stored added p m) _ _ (stored-after k.terms.graph w.to r m p v) (λ q x y. column-agrees j k p n q x w y) (λ x. (_, column-adds k p n x))
 head-agrees version j k (ScreenHead p) r m w v = screen-agrees j k p r m w v
 
 -- ---- all statements
 
-statement-agrees : (v : ℕ) (j : typed.Judged) (k : by_tree.Judged) (s : Statement) → SameJudged j k → Agrees of_judged SameJudged (statement_judged v j s) (by_tree.statement_judged v k s)
+statement-agrees : (v : ℕ) (j k : Judged) (s : Statement) → SameJudged j k → Agrees of_judged SameJudged (statement_judged interned v j s) (statement_judged added v k s)
 unfolding statement_judged
 statement-agrees v j k s w =
-    then-agrees of_meaning of_judged (Means j.terms) SameJudged (worth v j.definitions s.tree j.terms) (meaning v k.definitions s.tree k.forest) _ _ (worth-agrees v j.definitions k.definitions s.tree j.terms k.forest w.same w.meant)
-    (λ r m h. head-agrees v j k s.head r m w h) (λ m. head-grows v k s.head m)
+    then-agrees of_value of_judged (MeansValue k.terms.graph w.to) SameJudged (worth interned v j.definitions s.tree j.terms) (worth added v k.definitions s.tree k.terms) _ _
+    (worth-agrees v k.definitions j.definitions s.tree j.terms k.terms w.to w.same w.defined_in w.definitions)
+    (λ r m h. head-agrees v j k s.head r m w h) (λ m. (_, head-adds v k s.head m))
 
-statements-agree : (v : ℕ) (j : typed.Judged) (k : by_tree.Judged) (ss : List Statement) → SameJudged j k → Agrees of_judged SameJudged (statements_judged v j ss) (by_tree.statements_judged v k ss)
-unfolding statements_judged by_tree.statements_judged
+statements-agree : (v : ℕ) (j k : Judged) (ss : List Statement) → SameJudged j k → Agrees of_judged SameJudged (statements_judged interned v j ss) (statements_judged added v k ss)
+unfolding statements_judged
 statements-agree v j k [] w = (k, refl, w)
 statements-agree v j k (s ∷ ss) w =
-    then-agrees of_judged of_judged SameJudged SameJudged (statement_judged v j s) (by_tree.statement_judged v k s) _ _ (statement-agrees v j k s w) (λ x y h. statements-agree v x y ss h) (λ y. statements-grow v y ss)
+    then-agrees of_judged of_judged SameJudged SameJudged (statement_judged interned v j s) (statement_judged added v k s) _ _ (statement-agrees v j k s w) (λ x y h. statements-agree v x y ss h) (λ y. (_, statements-add v y ss))
 
-nothing-same : SameJudged typed.nothing by_tree.nothing
+nothing-same : SameJudged nothing nothing
 nothing-same = record {
+  to = λ k. k;
   same = record {
     graph = record {
       few = λ k n e. absurd (let no : None ≡ Some n = e in cc);
@@ -218,47 +236,72 @@ nothing-same = record {
     firsts = refl;
     names = refl;
     few = omega arith;
+    trees = λ k l. refl;
+    kinds = λ k n e. absurd (let no : None ≡ Some n = e in cc);
   };
-  meant = tt;
+  defined_in = tt;
+  definitions = refl;
   inside = tt;
   columns = refl;
   there = λ k e. absurd (let no : None ≡ Some k = e in cc);
   screen = refl;
 }
 
-numbered : (j : typed.Judged) (k : by_tree.Judged) → SameJudged j k → AreNumbered k (pipeline_of j)
-numbered j k w = record { terms = w.same.firsts; columns = w.columns; screen = w.screen; names = w.same.names; few = w.same.few }
+-- ---- the script
 
-Numbered : Pipeline → by_tree.Judged → Type 0
-Numbered p t = AreNumbered t p
+abbrev pub Numbered : Pipeline → Pipeline → Type 0
+Numbered p q = AreNumbered (trees_of q) p
 
-ended-agrees : (p : Place) (j : typed.Judged) (k : by_tree.Judged) → SameJudged j k → Agrees of_judged Numbered (ended p j) (by_tree.ended p k)
-unfolding Numbered
+numbered : (j k : Judged) → SameJudged j k → Numbered (pipeline_of j) (pipeline_of k)
+numbered j k w = record {
+  terms = w.same.firsts;
+  columns = ap (map (tree_column j.terms.graph)) w.columns ∙ all k.columns w.inside;
+  screen = ap (option_map (term_at j.terms.graph)) w.screen ∙ one k.screen w.there;
+  names = w.same.names;
+  few = w.same.few;
+}
+  where
+    all : (cs : List NamedColumn) → ColumnsAreInGraph k.terms.graph cs → map (tree_column j.terms.graph) (map (moved_column w.to) cs) ≡ map (tree_column k.terms.graph) cs
+    all [] i = refl
+    all (c ∷ cs) i =
+        ap (λ t. record { name = c.name; tree = t } ∷ map (tree_column j.terms.graph) (map (moved_column w.to) cs)) (w.same.trees c.term i.0) ∙ ap (λ xs. tree_column k.terms.graph c ∷ xs) (all cs i.1)
+
+    one : (o : Option ℕ) → NumberIn k.terms.graph o → option_map (term_at j.terms.graph) (option_map w.to o) ≡ option_map (term_at k.terms.graph) o
+    one None i = refl
+    one (Some t) i = ap Some (w.same.trees t (i t refl))
+
+ended-agrees : (p : Place) (j k : Judged) → SameJudged j k → Agrees of_pipeline Numbered (ended p j) (ended p k)
 ended-agrees p j k w =
-    require-agrees of_judged Numbered _ p (nat_le 1 (length j.columns)) (nat_le 1 (length k.columns)) _ _ (ap (nat_le 1) (ap length (sym w.columns) ∙ length-map j.columns (tree_column j.terms.graph))) (λ e. (k, refl, numbered j k w))
+    require-agrees of_pipeline Numbered _ p (nat_le 1 (length j.columns)) (nat_le 1 (length k.columns)) _ _ (ap (nat_le 1) (ap length w.columns ∙ length-map k.columns (moved_column w.to))) (λ e. (pipeline_of k, refl, numbered j k w))
 
-script-agrees : (s : Parsed) → Agrees of_judged Numbered (typed s) (script_trees s)
-unfolding typed script_trees
+script-agrees : (s : Parsed) → Agrees of_pipeline Numbered (typed s) (typed_by added s)
+unfolding typed
 script-agrees s =
-    then-agrees of_judged of_judged SameJudged Numbered (statements_judged s.version typed.nothing s.statements) (by_tree.statements_judged s.version by_tree.nothing s.statements) _ _
-    (statements-agree s.version typed.nothing by_tree.nothing s.statements nothing-same) (λ j k w. ended-agrees s.end j k w) (λ k. ended-grows s.end k)
+    then-agrees of_judged of_pipeline SameJudged Numbered (statements_judged interned s.version nothing s.statements) (statements_judged added s.version nothing s.statements) _ _
+    (statements-agree s.version nothing nothing s.statements nothing-same) (λ j k w. ended-agrees s.end j k w) (λ k. (_, ended-adds s.end k))
 
-faults : (s : Parsed) (b : Broken) → typed s ≡ Err b → ((b.fault ≡ TooManyTerms) × IfOk (script_trees s) (λ t. IsOver t.forest)) ⊎ (script_trees s ≡ Err b)
-unfolding Numbered
-faults s b h = subst (λ r. Agrees of_judged Numbered r (script_trees s)) h (script-agrees s)
+pub agrees-where : (s : Parsed) (r : Result Pipeline Broken) → typed s ≡ r → Agrees of_pipeline Numbered r (typed_by added s)
+agrees-where s r e = subst (λ r. Agrees of_pipeline Numbered r (typed_by added s)) e (script-agrees s)
+
+-- the trees of a pipeline, or its fault
+abbrev without_numbers : Result Pipeline Broken → Result ScriptTrees Broken
+without_numbers r = r >>= λ p. Ok (trees_of p)
 
 pub typed-are-trees : TypedAreTrees
-unfolding Numbered
-typed-are-trees s p h = subst (λ r. Agrees of_judged Numbered r (script_trees s)) h (script-agrees s)
+unfolding script_trees
+typed-are-trees s p h = let a = agrees-where s (Ok p) h in (trees_of a.0, ap without_numbers a.1, a.2)
 
 pub faults-are-trees : FaultsAreTrees
-unfolding Numbered
-faults-are-trees s b h = elim (faults s b h) [ inl x ↦ inl x.0 | inr x ↦ inr x ]
+unfolding script_trees
+faults-are-trees s b h = elim (agrees-where s (Err b) h) [ inl x ↦ inl x.0 | inr x ↦ inr (ap without_numbers x) ]
 
 pub typed-unless-many : TypedUnlessMany
-unfolding Numbered
-typed-unless-many s t h = here (typed s) refl
+unfolding script_trees
+typed-unless-many s t h = here (typed s) (typed_by added s) refl h (script-agrees s)
   where
-    here : (r : Result Pipeline Broken) → typed s ≡ r → ((p : Pipeline) × (typed s ≡ Ok p)) ⊎ ((b : Broken) × (typed s ≡ Err b) × (b.fault ≡ TooManyTerms) × HasMany t.forest.trees)
-    here (Ok p) e = inl (p, e)
-    here (Err b) e = elim (faults s b e) [ inl x ↦ inr (b, e, x.0, IfOk-at_ok _ h x.1) | inr x ↦ absurd (let no : Err b ≡ Ok t = sym x ∙ h in cc) ]
+    here : (r q : Result Pipeline Broken) → typed s ≡ r → without_numbers q ≡ Ok t → Agrees of_pipeline Numbered r q
+        → ((p : Pipeline) × (typed s ≡ Ok p)) ⊎ ((b : Broken) × (typed s ≡ Err b) × (b.fault ≡ TooManyTerms) × HasMany t.trees)
+    here (Ok p) q e k a = inl (p, e)
+    here (Err b) (Ok z) e k (inl x) = let i : trees_of z ≡ t = (let n : Ok (trees_of z) ≡ Ok t = k in cc) in inr (b, e, x.0, subst (λ (y : ScriptTrees). HasMany y.trees) i x.1)
+    here (Err b) (Ok z) e k (inr x) = absurd (let no : Ok z ≡ Err b = x in cc)
+    here (Err b) (Err c) e k a = absurd (let no : Err c ≡ Ok t = k in cc)

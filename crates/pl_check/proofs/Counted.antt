@@ -1,30 +1,32 @@
--- Putting terms into the graph, and into the list of their trees.
-use Rattle.std.proofs.Common.{◌≡◌, ℕ, ℤ, ◌<◌, ◌≤◌, Bool, true, false, cond, ◌⊎◌, List, [], ◌∷◌, ◌++◌, length, map, Option, Some, None, option_map, refl, sym, ap, ap₂, subst, ◌∙◌, arith, inl, inr, append_assoc, append-nil, length-append}
-use Rattle.std.specs.Prelude.{filter_map, option_and_then, option_to_list}
-use Rattle.std.specs.Option.{option_or}
-use Rattle.std.specs.List.{Contains, cons_option}
+-- Putting terms into the graph, and after the same terms where none is shared.
+use Rattle.std.proofs.Common.{◌≡◌, ℕ, ◌<◌, ◌≤◌, nat_lt, Bool, true, false, cond, ◌⊎◌, List, [], ◌∷◌, ◌++◌, length, map, Option, Some, None, slice_get, refl, sym, ap, subst, ◌∙◌, arith, inl, inr, append_assoc, length-append}
+use Rattle.std.specs.Prelude.{option_and_then}
+use Rattle.std.specs.List.{Contains}
+use Rattle.std.proofs.Math.Seq.{get_or-append_seam}
 use Rattle.std.proofs.lemmas.Bool.{cases_lt}
-use Rattle.std.proofs.lemmas.List.{map-append}
+use Rattle.std.proofs.lemmas.Bool.Decides.{nat_tests}
+use Rattle.std.proofs.lemmas.List.{map-append, length-map}
 use Rattle.std.proofs.lemmas.List.Elements.{Contains-get_or, Contains-append_left, Contains-append_right, Contains-append_cases}
+use Rattle.std.proofs.lemmas.Option.{slice_get_within}
 use Rattle.pl_pipeline.proofs.Distinct.{one_tree}
+use Rattle.pl_pipeline.proofs.Unfolds.{stands}
 use Rattle.pl_spec.specs.Limits.{most_terms}
-use Rattle.pl_spec.proofs.Each.{each_both}
-use Rattle.pl_pipeline.specs.Term.{Term, absent, TermInput, Node, Graph, IsGraph, MentionsBelow, tree_over, trees, term_at}
+use Rattle.pl_spec.proofs.Each.{each_both, each_more, each_of_map, map_each}
+use Rattle.pl_pipeline.specs.Term.{Term, absent, TermInput, Node, Graph, IsGraph, MentionsBelow, tree_at, tree_over, trees, term_at}
 use Rattle.pl_terms.specs.Nodes.{Interned, interned}
-use Rattle.pl_terms.proofs.Interning.{Later, later-same, later-still, later-more, length-trees, IsPut, put, IsFull, refused}
+use Rattle.pl_terms.proofs.Shared.{shared, parts}
+use Rattle.pl_terms.proofs.Interning.{later-more, length-trees, IsPut, put, IsFull, refused}
 use Rattle.pl_check.specs.declared.operation.Operation.{Operation}
-use Rattle.pl_check.specs.Values.{Value, Factor, Number, Bound, bound}
+use Rattle.pl_check.specs.Values.{Value, Factor, Filter, Labels, Numbers, Number, Bound, bound}
 use Rattle.pl_check.specs.Results.{constant, node_for, result_for, names_after}
 use Rattle.pl_check.specs.Typed.{Terms, Found, found, constant_value, factor_value, asks_factor, place_value, with_constants, with_node, node_made, made}
-use Rattle.pl_check.specs.Trees as by_tree
-use Rattle.pl_check.specs.Trees.{Meaning, Forest, After, with_trees, constant_tree, constant_of, factor_of, constant_in, settled, settled_trees, tree_for}
+use Rattle.pl_check.specs.Trees.{added}
 use Rattle.pl_check.specs.Numbering.{AreFirsts, HasMany}
-use Rattle.pl_check.proofs.Extended.{many-later, IsOver}
-use Rattle.pl_check.proofs.Placing.{bind-some}
+use Rattle.pl_check.proofs.Extended.{IsOver, over-later, trees-more, constants-add, node-adds}
 use Rattle.pl_check.proofs.Few.{few-inputs}
-use Rattle.pl_check.proofs.Unnumbered.{unnumbered, bare, names-bare, result-bare}
-use Rattle.pl_check.proofs.Rooted.{tree_of, meaning_of, IsIn, AllIn, values, all-later, trees-later, tree-for, node-mentions}
-use Rattle.pl_check.proofs.Growing.{terms}
+use Rattle.pl_check.proofs.Renumbered.{renumbered, moved, names-moved, result-moved}
+use Rattle.pl_check.proofs.Rooted.{IsIn, AllIn, values, moved_input, moved_node, node-moved, tree-moved, mentions-moved, node-mentions}
+use Rattle.pl_check.proofs.Growing.{terms, interned-grows}
 use Rattle.pl_check.proofs.Sorted.{result-term}
 
 -- ---- one tree more
@@ -35,26 +37,6 @@ firsts-more seen [] once more t h (inr x) = inr (λ c. x.0 (subst (λ xs. Contai
 firsts-more seen (u ∷ us) once more t (inl h) x = inl (h.0, firsts-more seen us once more t h.1 x)
 firsts-more seen (u ∷ us) once more t (inr h) x = inr (h.0, firsts-more (seen ++ u ∷ []) us once more t h.1 x)
 
--- a graph, and the trees of the same terms in the order of judging
-pub record Same (s : Terms) (f : Forest) : Type 0 where
-  pub graph : IsGraph s.graph
-  pub firsts : AreFirsts [] f.trees (trees s.graph)
-  pub names : s.names ≡ f.names
-  pub few : length s.graph ≤ most_terms
-
-put-same : (s : Terms) (f : Forest) (n : Node) (i : Interned) (t : Term) → Same s f → IsPut s.graph n i → tree_over (trees s.graph) n ≡ t → Same (terms i.graph s.names) (with_trees f (t ∷ []))
-put-same s f n i t w p e = record {
-  graph = p.graph;
-  firsts = subst (λ x. AreFirsts [] (f.trees ++ x ∷ []) (trees i.graph)) e (firsts-more [] f.trees (trees s.graph) (trees i.graph) (tree_over (trees s.graph) n) w.firsts p.trees);
-  names = w.names;
-  few = p.few w.few;
-}
-
-none-more : (s : Terms) (f : Forest) → Same s f → Same s (with_trees f [])
-none-more s f w = record { graph = w.graph; firsts = subst (λ ts. AreFirsts [] ts (trees s.graph)) (sym (append-nil f.trees)) w.firsts; names = w.names; few = w.few }
-
--- ---- one tree too many
-
 -- what is kept was there
 firsts-in : (seen all once : List Term) (t : Term) → AreFirsts seen all once → Contains once t → Contains (seen ++ all) t
 firsts-in seen [] once t h c = Contains-append_left seen [] t (subst (λ xs. Contains xs t) h c)
@@ -64,252 +46,312 @@ firsts-in seen (u ∷ us) once t (inl h) c = elim (Contains-append_cases seen us
 ]
 firsts-in seen (u ∷ us) once t (inr h) c = subst (λ xs. Contains xs t) (append_assoc seen (u ∷ []) us) (firsts-in (seen ++ u ∷ []) us once t h.1 c)
 
-itself : (t : Term) → Contains (t ∷ []) t
-itself t = Contains-get_or (t ∷ []) 0 absent (omega arith)
+-- A graph, and after it the terms where none is shared. Each of these has a number in the graph, with the same
+-- tree and a node of the same kind.
+pub record Same (s f : Terms) (to : ℕ → ℕ) : Type 0 where
+  pub graph : IsGraph s.graph
+  pub firsts : AreFirsts [] (trees f.graph) (trees s.graph)
+  pub names : s.names ≡ f.names
+  pub few : length s.graph ≤ most_terms
+  pub trees : (k : ℕ) → k < length f.graph → term_at s.graph (to k) ≡ term_at f.graph k
+  pub kinds : (k : ℕ) (m : Node) → slice_get f.graph k ≡ Some m → (n : Node) × (slice_get s.graph (to k) ≡ Some n) × (n.kind ≡ m.kind)
 
-many-trees : (s : Terms) (f : Forest) (n : Node) (t : Term) → Same s f → IsFull s.graph n → tree_over (trees s.graph) n ≡ t → HasMany (f.trees ++ t ∷ [])
-many-trees s f n t w p e = record {
-  some = trees more;
-  many = (let full : most_terms ≤ length s.graph = p.full in omega (arith, length-trees more, length-append s.graph (n ∷ [])));
-  different = λ j k h i q. one_tree more p.graph (term_at more k) j k (omega (arith, length-trees more)) (omega (arith, length-trees more)) q refl;
-  among = λ k h. elim (cases_lt k (length s.graph)) [
-    | inl l ↦ Contains-append_left f.trees (t ∷ []) (term_at more k) (subst (Contains f.trees) (sym ((later-more s.graph n).same k l))
-        (firsts-in [] f.trees (trees s.graph) (term_at s.graph k) w.firsts (Contains-get_or (trees s.graph) k absent (omega (arith, length-trees s.graph)))))
-    | inr l ↦
-        let at : length s.graph ≡ k = omega (arith, length-trees more, length-append s.graph (n ∷ [])) in
-        Contains-append_right f.trees (t ∷ []) (term_at more k) (subst (Contains (t ∷ [])) (sym e ∙ sym p.last ∙ ap (term_at more) at) (itself t))
-  ];
-}
-  where
-    more : Graph
-    more = s.graph ++ n ∷ []
+-- the terms that were there keep their numbers
+pub record Further (f g : Graph) (to more : ℕ → ℕ) : Type 0 where
+  pub longer : length f ≤ length g
+  pub kept : (k : ℕ) → k < length f → more k ≡ to k
+
+pub further-same : (f : Graph) (to : ℕ → ℕ) → Further f f to to
+further-same f to = record { longer = omega arith; kept = λ k l. refl }
+
+pub further-still : (f g h : Graph) (to more last : ℕ → ℕ) → Further f g to more → Further g h more last → Further f h to last
+further-still f g h to more last a b =
+    let p : length f ≤ length g = a.longer in
+    let q : length g ≤ length h = b.longer in
+    record { longer = omega arith; kept = λ k l. b.kept k (omega arith) ∙ a.kept k l }
+
+there : (s f : Terms) (to : ℕ → ℕ) → Same s f to → (k : ℕ) → k < length f.graph → to k < length s.graph
+there s f to w k l = let m = stands f.graph k l in let n = w.kinds k m.0 m.1 in slice_get_within s.graph (to k) n.0 n.1
+
+-- ---- values of later graphs
+
+pub in-later : (f g : Graph) (to more : ℕ → ℕ) (v : Value) → Further f g to more → IsIn f v → IsIn g v
+in-later f g to more v h i k e = let a : k < length f = i k e in let b : length f ≤ length g = h.longer in omega arith
+
+pub all-later : (f g : Graph) (to more : ℕ → ℕ) (vs : List Value) → Further f g to more → AllIn f vs → AllIn g vs
+all-later f g to more vs h i = each_more (IsIn f) (IsIn g) vs (λ v k. in-later f g to more v h k) i
+
+pub value-later : (f g : Graph) (to more : ℕ → ℕ) (v : Value) → Further f g to more → IsIn f v → renumbered more v ≡ renumbered to v
+value-later f g to more (Factor t s) h i = ap (λ k. Factor k s) (h.kept t (i t refl))
+value-later f g to more (Filter t) h i = ap Filter (h.kept t (i t refl))
+value-later f g to more (Labels t) h i = ap Labels (h.kept t (i t refl))
+value-later f g to more (Numbers t) h i = ap Numbers (h.kept t (i t refl))
+value-later f g to more v h i = refl
+
+pub bounds-later : (f g : Graph) (to more : ℕ → ℕ) (bs : List Bound) → Further f g to more → AllIn f (values bs) → map (moved more) bs ≡ map (moved to) bs
+bounds-later f g to more bs h i =
+    map_each (moved more) (moved to) bs (each_more _ _ bs (λ (b : Bound) k. ap (bound b.parameter) (value-later f g to more b.value h k)) (each_of_map (IsIn f) (λ (b : Bound). b.value) bs i))
+
+-- ---- one term more
+
+-- the numbers where the next term has a number too
+abbrev next : (ℕ → ℕ) → ℕ → ℕ → ℕ → ℕ
+next to b number k = cond (nat_lt k b) (to k) number
+
+next-old : (to : ℕ → ℕ) (b number k : ℕ) → k < b → next to b number k ≡ to k
+next-old to b number k l = let e : nat_lt k b ≡ true = grind (arith, nat_tests) in ap (λ a. cond a (to k) number) e
+
+next-last : (to : ℕ → ℕ) (b number : ℕ) → next to b number b ≡ number
+next-last to b number = let e : nat_lt b b ≡ false = grind (arith, nat_tests) in ap (λ a. cond a (to b) number) e
+
+last-tree : (g : Graph) (n : Node) → term_at (g ++ n ∷ []) (length g) ≡ tree_over (trees g) n
+last-tree g n = ap (λ ts. tree_at ts (length g)) (trees-more [] g n) ∙ ap (tree_at (trees g ++ tree_over (trees g) n ∷ [])) (sym (length-trees g)) ∙ get_or-append_seam (trees g) (tree_over (trees g) n) [] absent
+
+-- a node over terms that are there
+pub record Fits (f : Graph) (n : Node) : Type 0 where
+  pub few : length n.inputs ≤ 3
+  pub low : MentionsBelow n (length f)
+
+module _ (s f : Terms) (to : ℕ → ℕ) (n : Node) (w : Same s f to) (x : Fits f.graph n) where
+  few : length (moved_node to n).inputs ≤ 3
+  few = let l : length n.inputs ≤ 3 = x.few in omega (arith, length-map n.inputs (moved_input to))
+
+  low : MentionsBelow (moved_node to n) (length s.graph)
+  low = mentions-moved to (length f.graph) (length s.graph) n x.low (there s f to w)
+
+  tree : tree_over (trees s.graph) (moved_node to n) ≡ tree_over (trees f.graph) n
+  tree = tree-moved to (trees f.graph) (trees s.graph) (length f.graph) n x.low w.trees
+
+  pub next-further : (number : ℕ) → Further f.graph (f.graph ++ n ∷ []) to (next to (length f.graph) number)
+  next-further number = record { longer = omega (arith, length-append f.graph (n ∷ [])); kept = λ k l. next-old to (length f.graph) number k l }
+
+  -- it is there, or comes last
+  pub put-same : (i : Interned) (names more : List (List ℕ)) → names ≡ more → interned s.graph (moved_node to n) ≡ Some i
+      → Same (terms i.graph names) (terms (f.graph ++ n ∷ []) more) (next to (length f.graph) i.number)
+  put-same i names more e h = record {
+    graph = p.graph;
+    firsts =
+        subst (λ ts. AreFirsts [] ts (trees i.graph)) (ap (λ t. trees f.graph ++ t ∷ []) tree ∙ sym (trees-more [] f.graph n))
+        (firsts-more [] (trees f.graph) (trees s.graph) (trees i.graph) (tree_over (trees s.graph) (moved_node to n)) w.firsts p.trees);
+    names = e;
+    few = p.few w.few;
+    trees = λ k l. elim (cases_lt k (length f.graph)) [
+      | inl r ↦ ap (term_at i.graph) (next-old to (length f.graph) i.number k r) ∙ p.later.same (to k) (there s f to w k r) ∙ w.trees k r ∙ sym ((later-more f.graph n).same k r)
+      | inr r ↦
+          let at : k ≡ length f.graph = (let b : k < length (f.graph ++ n ∷ []) = l in omega (arith, length-append f.graph (n ∷ []))) in
+          ap (λ j. term_at i.graph (next to (length f.graph) i.number j)) at ∙ ap (term_at i.graph) (next-last to (length f.graph) i.number) ∙ p.tree ∙ tree
+          ∙ sym (last-tree f.graph n) ∙ ap (term_at (f.graph ++ n ∷ [])) (sym at)
+    ];
+    kinds = λ k m q. elim (parts f.graph n m k q) [
+      | inl r ↦
+          let a = w.kinds k m r in
+          (a.0, ap (slice_get i.graph) (next-old to (length f.graph) i.number k (slice_get_within f.graph k m r)) ∙ interned-grows s.graph (moved_node to n) i h (to k) a.0 a.1, a.2)
+      | inr r ↦ (
+        moved_node to n,
+        ap (λ j. slice_get i.graph (next to (length f.graph) i.number j)) r.0 ∙ ap (slice_get i.graph) (next-last to (length f.graph) i.number) ∙ (shared s.graph (moved_node to n) i h).0,
+        ap (λ (y : Node). y.kind) (sym r.1),
+      )
+    ];
+  }
+    where
+      p : IsPut s.graph (moved_node to n) i
+      p = put s.graph (moved_node to n) i w.graph few low h
+
+  -- there is no room for it: it is a tree too many
+  pub put-over : interned s.graph (moved_node to n) ≡ None → IsOver (f.graph ++ n ∷ [])
+  put-over h = subst HasMany (sym (trees-more [] f.graph n)) (record {
+    some = trees more;
+    many = (let full : most_terms ≤ length s.graph = p.full in omega (arith, length-trees more, length-append s.graph (moved_node to n ∷ [])));
+    different = λ j k a b q. one_tree more p.graph (term_at more k) j k (omega (arith, length-trees more)) (omega (arith, length-trees more)) q refl;
+    among = λ k a. elim (cases_lt k (length s.graph)) [
+      | inl l ↦ Contains-append_left (trees f.graph) (t ∷ []) (term_at more k) (subst (Contains (trees f.graph)) (sym ((later-more s.graph (moved_node to n)).same k l))
+          (firsts-in [] (trees f.graph) (trees s.graph) (term_at s.graph k) w.firsts (Contains-get_or (trees s.graph) k absent (omega (arith, length-trees s.graph)))))
+      | inr l ↦
+          let at : length s.graph ≡ k = omega (arith, length-trees more, length-append s.graph (moved_node to n ∷ [])) in
+          Contains-append_right (trees f.graph) (t ∷ []) (term_at more k) (subst (Contains (t ∷ [])) (sym tree ∙ sym p.last ∙ ap (term_at more) at) (Contains-get_or (t ∷ []) 0 absent (omega arith)))
+    ];
+  })
+    where
+      more : Graph
+      more = s.graph ++ moved_node to n ∷ []
+
+      t : Term
+      t = tree_over (trees f.graph) n
+
+      p : IsFull s.graph (moved_node to n)
+      p = refused s.graph (moved_node to n) w.graph few low h
+
+-- ---- what is found in both
+
+-- what is found, in the graph and where no term is shared: the same but for the numbers of terms
+pub record Means {A : Type 0} (In : Graph → A → Type 0) (move : (ℕ → ℕ) → A → A) (f : Graph) (to : ℕ → ℕ) (x y : Found A) : Type 0 where
+  pub to_after : ℕ → ℕ
+  pub further : Further f y.terms.graph to to_after
+  pub inside : In y.terms.graph y.value
+  pub is : x.value ≡ move to_after y.value
+  pub same : Same x.terms y.terms to_after
+
+abbrev pub MeansValue : Graph → (ℕ → ℕ) → Found Value → Found Value → Type 0
+MeansValue f to x y = Means IsIn renumbered f to x y
+
+abbrev MeansBounds : Graph → (ℕ → ℕ) → Found (List Bound) → Found (List Bound) → Type 0
+MeansBounds f to x y = Means (λ g bs. AllIn g (values bs)) (λ more bs. map (moved more) bs) f to x y
+
+-- what is found after something else
+pub means-behind : {A : Type 0} (In : Graph → A → Type 0) (move : (ℕ → ℕ) → A → A) (f g : Graph) (to more : ℕ → ℕ) (x y : Found A) → Further f g to more → Means In move g more x y → Means In move f to x y
+means-behind In move f g to more x y h m =
+    record { to_after = m.to_after; further = further-still f g y.terms.graph to more m.to_after h m.further; inside = m.inside; is = m.is; same = m.same }
+
+-- where there is no room in the graph, the trees are too many
+abbrev pub Puts : {A : Type 0} → (Found A → Found A → Type 0) → Option (Found A) → Option (Found A) → Type 0
+Puts R o None = ⊥
+Puts R None (Some y) = IsOver y.terms.graph
+Puts R (Some x) (Some y) = R x y
+
+-- with the names
+abbrev pub named : {A : Type 0} → List (List ℕ) → Option (A × Graph) → Option (Found A)
+named names None = None
+named names (Some r) = Some (found r.0 (terms r.1 names))
 
 -- ---- constants
 
--- a value and the graph after it are these trees
-pub record Settles (s : Terms) (f : Forest) (v : Value) (m : Meaning) (more : List Term) (r : Value × Graph) : Type 0 where
-  pub later : Later s.graph r.1
-  pub inside : IsIn r.1 r.0
-  pub is : m ≡ meaning_of r.1 r.0
-  pub same : Same (terms r.1 s.names) (with_trees f more)
-
-constant-mentions : (n : ℤ) (k : ℕ) → MentionsBelow (constant n) k
-constant-mentions n k = record {
-  inputs = λ i j e. absurd (let no : None ≡ Some (TermInput j) = e in cc);
-  mask = λ j e. absurd (let no : None ≡ Some j = e in cc);
-  group = λ j e. absurd (let no : None ≡ Some j = e in cc);
+constant-fits : (f : Graph) (n : _) → Fits f (constant n)
+constant-fits f n = record {
+  few = omega arith;
+  low = record {
+    inputs = λ i j e. absurd (let no : None ≡ Some (TermInput j) = e in cc);
+    mask = λ j e. absurd (let no : None ≡ Some j = e in cc);
+    group = λ j e. absurd (let no : None ≡ Some j = e in cc);
+  };
 }
 
-number-settles : (s : Terms) (f : Forest) (n : ℤ) (o : Option Interned) (r : Value × Graph) → Same s f → interned s.graph (constant n) ≡ o → constant_value o s.graph ≡ Some r
-    → Settles s f (Number n) (record { value = Factor 0 true; tree = Some (constant_tree n) }) (constant_tree n ∷ []) r
-number-settles s f n None r w e h = absurd (let no : None ≡ Some r = h in cc)
-number-settles s f n (Some i) r w e h =
-    let p = put s.graph (constant n) i w.graph (omega arith) (constant-mentions n (length s.graph)) e in
-    let same : (Factor i.number true, i.graph) ≡ r = (let q : Some (Factor i.number true, i.graph) ≡ Some r = h in cc) in
-    subst (Settles s f (Number n) (record { value = Factor 0 true; tree = Some (constant_tree n) }) (constant_tree n ∷ [])) same (record {
-      later = p.later;
-      inside = λ k q. subst (λ x. x < length i.graph) (let y : Some i.number ≡ Some k = q in let z : i.number ≡ k = cc in z) p.there;
-      is = ap (λ t. record { value = Factor 0 true; tree = Some t }) (sym p.tree);
-      same = put-same s f (constant n) i (constant_tree n) w p refl;
-    })
+same-puts : (s f : Terms) (to : ℕ → ℕ) (v : Value) → Same s f to → IsIn f.graph v → Means IsIn renumbered f.graph to (found (renumbered to v) s) (found v f)
+same-puts s f to v w i = record { to_after = to; further = further-same f.graph to; inside = i; is = refl; same = w }
 
-other-settles : (s : Terms) (f : Forest) (v : Value) (r : Value × Graph) → Same s f → IsIn s.graph v → Some (v, s.graph) ≡ Some r → Settles s f v (meaning_of s.graph v) [] r
-other-settles s f v r w i h =
-    let same : (v, s.graph) ≡ r = cc in
-    subst (Settles s f v (meaning_of s.graph v) []) same (record { later = later-same s.graph; inside = i; is = refl; same = none-more s f w })
-
--- a number, or any value, where a factor is asked
-abbrev pub FactorSettles : Terms → Forest → Value → Value × Graph → Type 0
-FactorSettles s f v r =
-    Settles s f v (record { value = factor_of (unnumbered v); tree = option_or (constant_of (unnumbered v)) (tree_of s.graph v) }) (option_to_list (constant_of (unnumbered v))) r
-
-pub factor-settles : (s : Terms) (f : Forest) (v : Value) (r : Value × Graph) → Same s f → IsIn s.graph v → factor_value s.graph v ≡ Some r → FactorSettles s f v r
+pub factor-puts : (s f : Terms) (to : ℕ → ℕ) (v : Value) → Same s f to → IsIn f.graph v
+    → Puts (MeansValue f.graph to) (named s.names (factor_value interned s.graph (renumbered to v))) (named f.names (factor_value added f.graph v))
 unfolding factor_value
-factor-settles s f (Number n) r w i h = number-settles s f n (interned s.graph (constant n)) r w refl h
-factor-settles s f v r w i h = other-settles s f v r w i h
-
--- and what there is no room for is a tree too many
-abbrev one_value : Value → Graph → Option (Value × Graph)
-one_value v g = Some (v, g)
-
-constant-none : (o : Option Interned) (g : Graph) → constant_value o g ≡ None → o ≡ None
-constant-none None g h = refl
-constant-none (Some i) g h = absurd (let no : one_value (Factor i.number true) i.graph ≡ None = h in cc)
-
-no-other : (s : Terms) (f : Forest) (v : Value) (ts : List Term) → one_value v s.graph ≡ None → HasMany ts
-no-other s f v ts h = absurd (let no : one_value v s.graph ≡ None = h in cc)
-
-pub factor-over : (s : Terms) (f : Forest) (v : Value) → Same s f → factor_value s.graph v ≡ None → HasMany (f.trees ++ option_to_list (constant_of (unnumbered v)))
-unfolding factor_value
-factor-over s f (Number n) w h =
-    many-trees s f (constant n) (constant_tree n) w (refused s.graph (constant n) w.graph (omega arith) (constant-mentions n (length s.graph)) (constant-none (interned s.graph (constant n)) s.graph h)) refl
-factor-over s f v w h = no-other s f v _ h
-
-bound-over : (s : Terms) (f : Forest) (b : Bound) → Same s f → place_value s.graph b ≡ None → HasMany (f.trees ++ option_to_list (constant_in (bare b)))
-bound-over s f b w h = here (asks_factor b.parameter) h
+factor-puts s f to (Number n) w i = here (interned s.graph (constant n)) refl
   where
-    here : (a : Bool) → cond a (factor_value s.graph b.value) (Some (b.value, s.graph)) ≡ None → HasMany (f.trees ++ option_to_list (cond a (constant_of (unnumbered b.value)) None))
-    here true e = factor-over s f b.value w e
-    here false e = no-other s f b.value _ e
+    x : Fits f.graph (constant n)
+    x = constant-fits f.graph n
 
--- where it is asked or not
-abbrev BoundSettles : Terms → Forest → Bound → Value × Graph → Type 0
-BoundSettles s f b r =
-    Settles s f b.value (record { value = (settled (bare b)).value; tree = option_or (constant_in (bare b)) (tree_of s.graph b.value) }) (option_to_list (constant_in (bare b))) r
-
-abbrev AskedSettles : Bool → Terms → Forest → Bound → Value × Graph → Type 0
-AskedSettles a s f b r =
-    Settles s f b.value (record { value = (cond a (bound b.parameter (factor_of (unnumbered b.value))) (bare b)).value; tree = option_or (cond a (constant_of (unnumbered b.value)) None) (tree_of s.graph b.value) })
-    (option_to_list (cond a (constant_of (unnumbered b.value)) None)) r
-
-bound-settles : (s : Terms) (f : Forest) (b : Bound) (r : Value × Graph) → Same s f → IsIn s.graph b.value → place_value s.graph b ≡ Some r → BoundSettles s f b r
-bound-settles s f b r w i h = here (asks_factor b.parameter) h
-  where
-    here : (a : Bool) → cond a (factor_value s.graph b.value) (Some (b.value, s.graph)) ≡ Some r → AskedSettles a s f b r
-    here true e = factor-settles s f b.value r w i e
-    here false e = other-settles s f b.value r w i e
-
--- what is given, after its constants
-record AllSettle (s : Terms) (f : Forest) (done bs : List Bound) (r : List Bound × Graph) : Type 0 where
-  later : Later s.graph r.1
-  inside : AllIn r.1 (values r.0)
-  bounds : map bare r.0 ≡ map bare done ++ map settled (map bare bs)
-  grown : map (tree_of r.1) (values r.0) ≡ map (tree_of s.graph) (values done) ++ settled_trees (map bare bs) (map (tree_of s.graph) (values bs))
-  same : Same (terms r.1 s.names) (with_trees f (filter_map constant_in (map bare bs)))
-
-one-bound : (b : Bound) (v : Value) → unnumbered v ≡ (settled (bare b)).value → bare (bound b.parameter v) ≡ settled (bare b)
-one-bound b v e = ap (bound b.parameter) e ∙ here (asks_factor b.parameter)
-  where
-    here : (a : Bool) → bound b.parameter (cond a (bound b.parameter (factor_of (unnumbered b.value))) (bare b)).value ≡ cond a (bound b.parameter (factor_of (unnumbered b.value))) (bare b)
-    here true = refl
-    here false = refl
-
-more-trees : (f : Forest) (o : Option Term) (ts : List Term) → with_trees (with_trees f (option_to_list o)) ts ≡ with_trees f (cons_option o ts)
-more-trees f None ts = ap (λ xs. record { trees = xs ++ ts; names = f.names }) (append-nil f.trees)
-more-trees f (Some t) ts = ap (λ xs. record { trees = xs; names = f.names }) (append_assoc f.trees (t ∷ []) ts)
-
-constants-settle : (done : List Bound) (s : Terms) (f : Forest) (bs : List Bound) (r : List Bound × Graph) → Same s f → AllIn s.graph (values done) → AllIn s.graph (values bs) → with_constants done s.graph bs ≡ Some r
-    → AllSettle s f done bs r
-unfolding with_constants
-constants-settle done s f [] r w i k h =
-    let same : (done, s.graph) ≡ r = (let q : Some (done, s.graph) ≡ Some r = h in cc) in
-    subst (AllSettle s f done []) same (record {
-      later = later-same s.graph;
-      inside = i;
-      bounds = sym (append-nil (map bare done));
-      grown = sym (append-nil (map (tree_of s.graph) (values done)));
-      same = none-more s f w;
-    })
-constants-settle done s f (b ∷ bs) r w i k h =
-    let x = bind-some (place_value s.graph b) (λ q. with_constants (done ++ bound b.parameter q.0 ∷ []) q.1 bs) r h in
-    let p = bound-settles s f b x.0 w k.0 x.1 in
-    let c = bound b.parameter x.0.0 in
-    let next = terms x.0.1 s.names in
-    let more = with_trees f (option_to_list (constant_in (bare b))) in
-    let split : values (done ++ c ∷ []) ≡ values done ++ x.0.0 ∷ [] = map-append (λ (y : Bound). y.value) done (c ∷ []) in
-    let q = constants-settle (done ++ c ∷ []) next more bs r p.same
-    (subst (AllIn x.0.1) (sym split) (each_both (IsIn x.0.1) (values done) (x.0.0 ∷ []) (all-later s.graph x.0.1 (values done) p.later i) (p.inside, tt)))
-    (all-later s.graph x.0.1 (values bs) p.later k.1) x.2 in
-    let first : bare c ≡ settled (bare b) = one-bound b x.0.0 (sym (ap (λ (m : Meaning). m.value) p.is)) in
-    let tree : tree_of x.0.1 x.0.0 ≡ option_or (constant_in (bare b)) (tree_of s.graph b.value) = sym (ap (λ (m : Meaning). m.tree) p.is) in
-    let rest = settled_trees (map bare bs) (map (tree_of s.graph) (values bs)) in
-    record {
-      later = later-still s.graph x.0.1 r.1 p.later q.later;
-      inside = q.inside;
-      bounds =
-          q.bounds ∙ ap (λ xs. xs ++ map settled (map bare bs)) (map-append bare done (c ∷ [])) ∙ append_assoc (map bare done) (bare c ∷ []) (map settled (map bare bs))
-          ∙ ap (λ y. map bare done ++ y ∷ map settled (map bare bs)) first;
-      grown =
-          q.grown ∙ ap (λ vs. map (tree_of x.0.1) vs ++ settled_trees (map bare bs) (map (tree_of x.0.1) (values bs))) split
-          ∙ ap (λ ts. ts ++ settled_trees (map bare bs) (map (tree_of x.0.1) (values bs))) (map-append (tree_of x.0.1) (values done) (x.0.0 ∷ []))
-          ∙ append_assoc (map (tree_of x.0.1) (values done)) (tree_of x.0.1 x.0.0 ∷ []) (settled_trees (map bare bs) (map (tree_of x.0.1) (values bs)))
-          ∙ ap (λ ts. ts ++ tree_of x.0.1 x.0.0 ∷ settled_trees (map bare bs) (map (tree_of x.0.1) (values bs))) (trees-later s.graph x.0.1 (values done) p.later i)
-          ∙ ap (λ ts. map (tree_of s.graph) (values done) ++ tree_of x.0.1 x.0.0 ∷ settled_trees (map bare bs) ts) (trees-later s.graph x.0.1 (values bs) p.later k.1)
-          ∙ ap (λ t. map (tree_of s.graph) (values done) ++ t ∷ rest) tree;
-      same = subst (Same (terms r.1 s.names)) (more-trees f (constant_in (bare b)) (filter_map constant_in (map bare bs))) q.same;
+    here : (o : Option Interned) → interned s.graph (constant n) ≡ o
+        → Puts (MeansValue f.graph to) (named s.names (constant_value o s.graph)) (Some (found (Factor (length f.graph) true) (terms (f.graph ++ constant n ∷ []) f.names)))
+    here None e = put-over s f to (constant n) w x e
+    here (Some j) e = record {
+      to_after = next to (length f.graph) j.number;
+      further = next-further s f to (constant n) w x j.number;
+      inside = λ k q. (let y : length f.graph ≡ k = (let z : Some (length f.graph) ≡ Some k = q in cc) in omega (arith, length-append f.graph (constant n ∷ [])));
+      is = ap (λ t. Factor t true) (sym (next-last to (length f.graph) j.number));
+      same = put-same s f to (constant n) w x j s.names f.names w.names e;
     }
+factor-puts s f to v w i = same-puts s f to v w i
 
--- either part of it finds nothing
-bind-none : {A B : Type 0} (o : Option A) (f : A → Option B) → option_and_then f o ≡ None → (o ≡ None) ⊎ ((x : A) × (o ≡ Some x) × (f x ≡ None))
-bind-none None f h = inl refl
-bind-none (Some x) f h = inr (x, refl, h)
+place-puts : (s f : Terms) (to : ℕ → ℕ) (b : Bound) → Same s f to → IsIn f.graph b.value
+    → Puts (MeansValue f.graph to) (named s.names (place_value interned s.graph (moved to b))) (named f.names (place_value added f.graph b))
+place-puts s f to b w i = here (asks_factor b.parameter)
+  where
+    here : (a : Bool) → Puts (MeansValue f.graph to) (named s.names (cond a (factor_value interned s.graph (renumbered to b.value)) (Some (renumbered to b.value, s.graph))))
+        (named f.names (cond a (factor_value added f.graph b.value) (Some (b.value, f.graph))))
+    here true = factor-puts s f to b.value w i
+    here false = same-puts s f to b.value w i
 
-constants-over : (done : List Bound) (s : Terms) (f : Forest) (bs : List Bound) → Same s f → AllIn s.graph (values bs) → with_constants done s.graph bs ≡ None → HasMany (f.trees ++ filter_map constant_in (map bare bs))
+bounds-behind : (f g : Graph) (to more : ℕ → ℕ) (o q : Option (Found (List Bound))) → Further f g to more → Puts (MeansBounds g more) o q → Puts (MeansBounds f to) o q
+bounds-behind f g to more o None h m = absurd m
+bounds-behind f g to more None (Some y) h m = m
+bounds-behind f g to more (Some x) (Some y) h m = means-behind (λ g bs. AllIn g (values bs)) (λ more bs. map (moved more) bs) f g to more x y h m
+
+constants-put : (s f : Terms) (to : ℕ → ℕ) (done bs : List Bound) → Same s f to → AllIn f.graph (values done) → AllIn f.graph (values bs)
+    → Puts (MeansBounds f.graph to) (named s.names (with_constants interned (map (moved to) done) s.graph (map (moved to) bs))) (named f.names (with_constants added done f.graph bs))
 unfolding with_constants
-constants-over done s f [] w k h = absurd (cc)
-constants-over done s f (b ∷ bs) w k h =
-    let own = constant_in (bare b) in
-    let rest = filter_map constant_in (map bare bs) in
-    let grown : (f.trees ++ option_to_list own) ++ rest ≡ f.trees ++ filter_map constant_in (map bare (b ∷ bs)) = ap (λ (x : Forest). x.trees) (more-trees f own rest) in
-    elim (bind-none (place_value s.graph b) (λ q. with_constants (done ++ bound b.parameter q.0 ∷ []) q.1 bs) h) [
-      | inl e ↦ subst HasMany grown (many-later (f.trees ++ option_to_list own) rest (bound-over s f b w e))
-      | inr x ↦
-          let p = bound-settles s f b x.0 w k.0 x.1 in
-          subst HasMany grown (constants-over (done ++ bound b.parameter x.0.0 ∷ []) (terms x.0.1 s.names) (with_trees f (option_to_list own)) bs p.same (all-later s.graph x.0.1 (values bs) p.later k.1) x.2)
-    ]
+constants-put s f to done [] w i k = record { to_after = to; further = further-same f.graph to; inside = i; is = refl; same = w }
+constants-put s f to done (b ∷ bs) w i k = here (λ t g more done. constants-put t g more done bs) (place_value interned s.graph (moved to b)) (place_value added f.graph b) (place-puts s f to b w k.0)
+  where
+    rest : List Bound → List Bound → Value × Graph → Option (List Bound × Graph)
+    rest done bs r = with_constants interned (done ++ bound b.parameter r.0 ∷ []) r.1 bs
+
+    -- what is given after it
+    Rest : Type 0
+    Rest =
+        (t g : Terms) (more : ℕ → ℕ) (done : List Bound) → Same t g more → AllIn g.graph (values done) → AllIn g.graph (values bs)
+        → Puts (MeansBounds g.graph more) (named t.names (with_constants interned (map (moved more) done) t.graph (map (moved more) bs))) (named g.names (with_constants added done g.graph bs))
+
+    here : Rest → (o q : Option (Value × Graph)) → Puts (MeansValue f.graph to) (named s.names o) (named f.names q)
+        → Puts (MeansBounds f.graph to) (named s.names (option_and_then (rest (map (moved to) done) (map (moved to) bs)) o))
+        (named f.names (option_and_then (λ r. with_constants added (done ++ bound b.parameter r.0 ∷ []) r.1 bs) q))
+    here again o None h = absurd h
+    here again None (Some y) h =
+        let z = constants-add (done ++ bound b.parameter y.0 ∷ []) y.1 bs in
+        subst (λ (r : Option (List Bound × Graph)). Puts (MeansBounds f.graph to) None (named f.names r)) (sym z.1) (over-later _ y.1 z.0.1 z.2 h)
+    here again (Some x) (Some y) h =
+        let c = bound b.parameter y.0 in
+        let split : values (done ++ c ∷ []) ≡ values done ++ y.0 ∷ [] = map-append (λ (z : Bound). z.value) done (c ∷ []) in
+        let m = again (terms x.1 s.names) (terms y.1 f.names) h.to_after (done ++ c ∷ []) h.same
+        (subst (AllIn y.1) (sym split) (each_both (IsIn y.1) (values done) (y.0 ∷ []) (all-later f.graph y.1 to h.to_after (values done) h.further i) (h.inside, tt)))
+        (all-later f.graph y.1 to h.to_after (values bs) h.further k.1) in
+        let front : map (moved h.to_after) (done ++ c ∷ []) ≡ map (moved to) done ++ bound b.parameter x.0 ∷ [] =
+        map-append (moved h.to_after) done (c ∷ []) ∙ ap (λ ds. ds ++ moved h.to_after c ∷ []) (bounds-later f.graph y.1 to h.to_after done h.further i)
+        ∙ ap (λ v. map (moved to) done ++ bound b.parameter v ∷ []) (sym h.is) in
+        bounds-behind f.graph y.1 to h.to_after (named s.names (rest (map (moved to) done) (map (moved to) bs) x)) (named f.names (with_constants added (done ++ c ∷ []) y.1 bs)) h.further
+        (subst (λ ds. Puts (MeansBounds y.1 h.to_after) (named s.names (with_constants interned ds x.1 (map (moved to) bs))) (named f.names (with_constants added (done ++ c ∷ []) y.1 bs))) front
+        (subst (λ cs. Puts (MeansBounds y.1 h.to_after) (named s.names (with_constants interned (map (moved h.to_after) (done ++ c ∷ [])) x.1 cs)) (named f.names (with_constants added (done ++ c ∷ []) y.1 bs)))
+        (bounds-later f.graph y.1 to h.to_after bs h.further k.1) m))
 
 -- ---- operations
 
--- what is found, in the graph and as a tree
-pub record Means (s : Terms) (r : Found Value) (m : After Meaning) : Type 0 where
-  pub later : Later s.graph r.terms.graph
-  pub inside : IsIn r.terms.graph r.value
-  pub is : m.value ≡ meaning_of r.terms.graph r.value
-  pub same : Same r.terms m.forest
-
-few-inputs-of : (o : Operation) (bs : List Bound) (names : List (List ℕ)) → length (node_for o bs names).inputs ≤ 3
+node-fits : (f : Graph) (o : Operation) (bs : List Bound) (names : List (List ℕ)) → AllIn f (values bs) → Fits f (node_for o bs names)
 unfolding node_for
-few-inputs-of o bs names = few-inputs o bs
+node-fits f o bs names i = record { few = few-inputs o bs; low = node-mentions f o bs names i }
 
-node-means : (o : Operation) (bs : List Bound) (s : Terms) (f : Forest) (r : Found Value) (i : Option Interned) → Same s f → AllIn s.graph (values bs) → interned s.graph (node_for o bs s.names) ≡ i → with_node o bs s.names i ≡ Some r
-    → Means s r (by_tree.with_node o (map bare bs) (map (tree_of s.graph) (values bs)) f)
-node-means o bs s f r None w k e h = absurd (let no : None ≡ Some r = h in cc)
-node-means o bs s f r (Some i) w k e h =
-    let p = put s.graph (node_for o bs s.names) i w.graph (few-inputs-of o bs s.names) (node-mentions s.graph o bs s.names k) e in
-    let names = names_after o bs s.names in
-    let ts = map (tree_of s.graph) (values bs) in
-    let same : found (result_for o bs i.number) (terms i.graph names) ≡ r = (let q : Some (found (result_for o bs i.number) (terms i.graph names)) ≡ Some r = h in cc) in
-    let tree : tree_over (trees s.graph) (node_for o bs s.names) ≡ tree_for o (map bare bs) ts f.names = tree-for s.graph o bs s.names ∙ ap (tree_for o (map bare bs) ts) w.names in
-    let kept = put-same s f (node_for o bs s.names) i (tree_for o (map bare bs) ts f.names) w p tree in
-    subst (λ (x : Found Value). Means s x (by_tree.with_node o (map bare bs) ts f)) same (record {
-      later = p.later;
-      inside = λ x q. subst (λ y. y < length i.graph) (let y : Some i.number ≡ Some x = sym (result-term o bs i.number) ∙ q in let z : i.number ≡ x = cc in z) p.there;
-      is = ap₂ (λ x t. record { value = x; tree = t }) (result-bare o bs i.number) (ap Some (sym (p.tree ∙ tree)) ∙ sym (ap (option_map (term_at i.graph)) (result-term o bs i.number)));
-      same = record { graph = kept.graph; firsts = kept.firsts; names = sym (names-bare o bs s.names) ∙ ap (names_after o (map bare bs)) w.names; few = kept.few };
-    })
+node-puts : (s f : Terms) (to : ℕ → ℕ) (o : Operation) (bs : List Bound) → Same s f to → AllIn f.graph (values bs) → Puts (MeansValue f.graph to) (node_made interned o (map (moved to) bs) s) (node_made added o bs f)
+unfolding node_made
+node-puts s f to o bs w i = here (interned s.graph (node_for o (map (moved to) bs) s.names)) refl
+  where
+    n : Node
+    n = node_for o bs f.names
 
-pub made-means : (o : Operation) (bs : List Bound) (s : Terms) (f : Forest) (r : Found Value) → Same s f → AllIn s.graph (values bs) → made o bs s ≡ Some r
-    → Means s r (by_tree.made o (map bare bs) (map (tree_of s.graph) (values bs)) f)
-unfolding made node_made by_tree.made
-made-means o bs s f r w k h =
-    let x = bind-some (with_constants [] s.graph bs) (λ q. node_made o q.0 (terms q.1 s.names)) r h in
-    let q = constants-settle [] s f bs x.0 w tt k x.1 in
-    let next = terms x.0.1 s.names in
-    let more = with_trees f (filter_map constant_in (map bare bs)) in
-    let m = node-means o x.0.0 next more r (interned x.0.1 (node_for o x.0.0 s.names)) q.same q.inside refl x.2 in
-    let one : by_tree.with_node o (map bare x.0.0) (map (tree_of x.0.1) (values x.0.0)) more ≡ by_tree.with_node o (map settled (map bare bs)) (settled_trees (map bare bs) (map (tree_of s.graph) (values bs))) more
-    = ap (λ cs. by_tree.with_node o cs (map (tree_of x.0.1) (values x.0.0)) more) q.bounds ∙ ap (λ ts. by_tree.with_node o (map settled (map bare bs)) ts more) q.grown in
-    subst (Means s r) one (record { later = later-still s.graph x.0.1 r.terms.graph q.later m.later; inside = m.inside; is = m.is; same = m.same })
+    x : Fits f.graph n
+    x = node-fits f.graph o bs f.names i
 
-node-none : (o : Operation) (bs : List Bound) (names : List (List ℕ)) (i : Option Interned) → with_node o bs names i ≡ None → i ≡ None
-node-none o bs names None h = refl
-node-none o bs names (Some i) h = absurd (let no : Some (found (result_for o bs i.number) (terms i.graph (names_after o bs names))) ≡ None = h in cc)
+    is-node : node_for o (map (moved to) bs) s.names ≡ moved_node to n
+    is-node = node-moved to o bs s.names ∙ ap (λ names. moved_node to (node_for o bs names)) w.names
 
--- a term for which there is no room is a tree too many
-pub made-over : (o : Operation) (bs : List Bound) (s : Terms) (f : Forest) → Same s f → AllIn s.graph (values bs) → made o bs s ≡ None → IsOver (by_tree.made o (map bare bs) (map (tree_of s.graph) (values bs)) f).forest
-unfolding made node_made by_tree.made
-made-over o bs s f w k h =
-    let own = filter_map constant_in (map bare bs) in
-    let more = with_trees f own in
-    elim (bind-none (with_constants [] s.graph bs) (λ q. node_made o q.0 (terms q.1 s.names)) h) [
-      | inl e ↦ many-later (f.trees ++ own) _ (constants-over [] s f bs w k e)
-      | inr x ↦
-          let q = constants-settle [] s f bs x.0 w tt k x.1 in
-          let next = terms x.0.1 s.names in
-          let full = refused x.0.1 (node_for o x.0.0 s.names) q.same.graph (few-inputs-of o x.0.0 s.names) (node-mentions x.0.1 o x.0.0 s.names q.inside)
-          (node-none o x.0.0 s.names (interned x.0.1 (node_for o x.0.0 s.names)) x.2) in
-          let tree : tree_over (trees x.0.1) (node_for o x.0.0 s.names) ≡ tree_for o (map settled (map bare bs)) (settled_trees (map bare bs) (map (tree_of s.graph) (values bs))) f.names
-          = tree-for x.0.1 o x.0.0 s.names ∙ ap (tree_for o (map bare x.0.0) (map (tree_of x.0.1) (values x.0.0))) q.same.names
-          ∙ ap (λ cs. tree_for o cs (map (tree_of x.0.1) (values x.0.0)) f.names) q.bounds ∙ ap (λ ts. tree_for o (map settled (map bare bs)) ts f.names) q.grown in
-          many-trees next more (node_for o x.0.0 s.names) (tree_for o (map settled (map bare bs)) (settled_trees (map bare bs) (map (tree_of s.graph) (values bs))) f.names) q.same full tree
-    ]
+    put-is : (q : Option Interned) → interned s.graph (node_for o (map (moved to) bs) s.names) ≡ q → interned s.graph (moved_node to n) ≡ q
+    put-is q e = ap (interned s.graph) (sym is-node) ∙ e
+
+    here : (q : Option Interned) → interned s.graph (node_for o (map (moved to) bs) s.names) ≡ q
+        → Puts (MeansValue f.graph to) (with_node o (map (moved to) bs) s.names q) (Some (found (result_for o bs (length f.graph)) (terms (f.graph ++ n ∷ []) (names_after o bs f.names))))
+    here None e = put-over s f to n w x (put-is None e)
+    here (Some j) e =
+        let more = next to (length f.graph) j.number in
+        let h = next-further s f to n w x j.number in
+        record {
+          to_after = more;
+          further = h;
+          inside = λ k q. (let y : length f.graph ≡ k = (let z : Some (length f.graph) ≡ Some k = sym (result-term o bs (length f.graph)) ∙ q in cc) in omega (arith, length-append f.graph (n ∷ [])));
+          is =
+              ap (result_for o (map (moved to) bs)) (sym (next-last to (length f.graph) j.number)) ∙ ap (λ cs. result_for o cs (more (length f.graph))) (sym (bounds-later f.graph (f.graph ++ n ∷ []) to more bs h i))
+              ∙ result-moved more o bs (length f.graph);
+          same = put-same s f to n w x j (names_after o (map (moved to) bs) s.names) (names_after o bs f.names) (names-moved to o bs s.names ∙ ap (names_after o bs) w.names) (put-is (Some j) e);
+        }
+
+pub made-puts : (s f : Terms) (to : ℕ → ℕ) (o : Operation) (bs : List Bound) → Same s f to → AllIn f.graph (values bs) → Puts (MeansValue f.graph to) (made interned o (map (moved to) bs) s) (made added o bs f)
+unfolding made
+made-puts s f to o bs w i = here (with_constants interned [] s.graph (map (moved to) bs)) (with_constants added [] f.graph bs) (constants-put s f to [] bs w tt i)
+  where
+    here : (a b : Option (List Bound × Graph)) → Puts (MeansBounds f.graph to) (named s.names a) (named f.names b)
+        → Puts (MeansValue f.graph to) (option_and_then (λ r. node_made interned o r.0 (terms r.1 s.names)) a) (option_and_then (λ r. node_made added o r.0 (terms r.1 f.names)) b)
+    here a None h = absurd h
+    here None (Some y) h =
+        let z = node-adds o y.0 (terms y.1 f.names) in
+        subst (λ r. Puts (MeansValue f.graph to) None r) (sym z.1) (over-later _ y.1 z.0.terms.graph z.2 h)
+    here (Some x) (Some y) h =
+        behind (node_made interned o x.0 (terms x.1 s.names)) (node_made added o y.0 (terms y.1 f.names))
+        (subst (λ bs. Puts (MeansValue y.1 h.to_after) (node_made interned o bs (terms x.1 s.names)) (node_made added o y.0 (terms y.1 f.names))) (sym h.is)
+        (node-puts (terms x.1 s.names) (terms y.1 f.names) h.to_after o y.0 h.same h.inside))
+      where
+        behind : (p q : Option (Found Value)) → Puts (MeansValue y.1 h.to_after) p q → Puts (MeansValue f.graph to) p q
+        behind p None m = absurd m
+        behind None (Some v) m = m
+        behind (Some u) (Some v) m = means-behind IsIn renumbered f.graph y.1 to h.to_after u v h.further m

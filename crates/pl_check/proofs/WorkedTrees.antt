@@ -7,13 +7,13 @@ use Rattle.pl_grammar.specs.declared.BinarySign.TheVariants as sign
 use Rattle.pl_grammar.specs.Tree.{number, binary}
 use Rattle.pl_grammar.specs.Script.{ColumnHead}
 use Rattle.pl_terms.specs.Sorts.{sort_of, is_safe_kind, is_safe_over}
-use Rattle.pl_check.specs.Typed.{asks_factor, object_of, bar_column}
+use Rattle.pl_check.specs.Typed.{asks_factor, object_of, bar_column, factor_value, with_constants, node_made, made, applied, combined, worth, stored, column_judged, statement_judged, statements_judged}
 use Rattle.pl_check.specs.Rules.{broken, takes, is_within, is_window, is_safe_for}
-use Rattle.pl_check.specs.Results.{kind_for, result_for, gives_input, columns_of}
+use Rattle.pl_check.specs.Results.{kind_for, node_for, result_for, gives_input, columns_of}
 use Rattle.pl_check.specs.Operations.{parameters}
 use Rattle.pl_check.specs.Parameters.{number_of}
 use Rattle.pl_check.specs.Values.{given}
-use Rattle.pl_check.specs.Trees.{tree_given, tree_for, made, applied, combined, meaning, stored, column_judged, statements_judged, script_trees}
+use Rattle.pl_check.specs.Trees.{script_trees}
 
 abbrev at : ℕ → Place
 at n = record { line = 1; col = n }
@@ -28,10 +28,10 @@ difference : script_trees (record {
   end = at 5;
 })
     ≡ Ok (record {
-      forest = record { trees = one ∷ one ∷ node (Point Sub) 1 one one absent absent absent ∷ []; names = [] };
-      definitions = [];
+      trees = one ∷ one ∷ node (Point Sub) 1 one one absent absent absent ∷ [];
+      names = [];
       columns = record { name = codes "a"; tree = node (Point Sub) 1 one one absent absent absent } ∷ [];
       screen = None;
     })
-unfolding script_trees statements_judged meaning combined applied made tree_for tree_given stored column_judged asks_factor object_of bar_column broken takes is_within is_window is_safe_for kind_for result_for sort_of is_safe_kind is_safe_over gives_input columns_of parameters number_of given
+unfolding script_trees statements_judged statement_judged worth combined applied made node_made with_constants factor_value node_for stored column_judged asks_factor object_of bar_column broken takes is_within is_window is_safe_for kind_for result_for sort_of is_safe_kind is_safe_over gives_input columns_of parameters number_of given
 difference = refl

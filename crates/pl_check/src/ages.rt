@@ -1,6 +1,7 @@
 //! The member `age`: how long ago a number beside bars was known.
 ghost use Rattle.std.specs.Prelude.{◌≡◌, ◌∷◌, [], option_map, OnErr, IfOk, Err};
 ghost use Rattle.pl_terms.specs.Kinds.{kind_of};
+ghost use Rattle.pl_terms.specs.Nodes.{interned};
 ghost use Rattle.pl_check.specs.Typed as spec;
 ghost use Rattle.pl_check.specs.Values as values;
 ghost use Rattle.pl_check.specs.Made.{terms_of};
@@ -94,7 +95,7 @@ fn called_age<'a, 'n>(
     requires name { IsInGraph (terms_of terms.old).graph (value_of name) }
     requires written { WrittenAreInGraph (terms_of terms.old).graph (all_written written.now) }
     requires sound { IsSound (terms_of terms.old) }
-    ensures { Finds value_of terms.new result (spec.called place Operation.Age
+    ensures { Finds value_of terms.new result (spec.called interned place Operation.Age
         (values.bound Name (value_of name.entry) ∷ []) (all_written written.entry.now) (terms_of terms.old)) }
 {
     let mut bound = Vec::new(terms.alloc);
@@ -122,7 +123,7 @@ fn named_age<'a>(
     requires written { WrittenAreInGraph (terms_of terms.old).graph (all_written written.now) }
     requires sound { IsSound (terms_of terms.old) }
     ensures { Finds value_of terms.new result
-        (spec.called place Operation.Age (values.bound Name (values.Text name.now) ∷ [])
+        (spec.called interned place Operation.Age (values.bound Name (values.Text name.now) ∷ [])
         (all_written written.entry.now) (terms_of terms.old)) }
 {
     called_age(place, Value::Text(name), written, terms)
@@ -138,7 +139,7 @@ pub(crate) fn aged<'a>(
     requires stands { IsInGraph (terms_of terms.old).graph (value_of object) }
     requires written { WrittenAreInGraph (terms_of terms.old).graph (all_written written.now) }
     requires sound { IsSound (terms_of terms.old) }
-    ensures { Finds value_of terms.new result (spec.aged place (value_of object.entry)
+    ensures { Finds value_of terms.new result (spec.aged interned place (value_of object.entry)
         (all_written written.entry.now) (terms_of terms.old)) }
 {
     match copied_name(terms, object)? {

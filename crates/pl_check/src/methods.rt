@@ -1,5 +1,6 @@
 //! Members with parentheses: those of known operations, summaries under masks, and the value of one asset.
 ghost use Rattle.std.specs.Prelude.{◌≡◌, ◌++◌, [], option_map, Some, OnOk, OnErr, Err};
+ghost use Rattle.pl_terms.specs.Nodes.{interned};
 ghost use Rattle.pl_check.specs.Typed as spec;
 ghost use Rattle.pl_check.specs.Made.{terms_of};
 ghost use Rattle.pl_check.specs.Seen.{value_of, written_of, all_written};
@@ -25,7 +26,7 @@ fn called_on<'a>(
     requires stands { IsInGraph (terms_of terms.old).graph (value_of object) }
     requires written { WrittenAreInGraph (terms_of terms.old).graph (all_written written.now) }
     requires sound { IsSound (terms_of terms.old) }
-    ensures { Finds value_of terms.new result (spec.method_of place (value_of object.entry)
+    ensures { Finds value_of terms.new result (spec.method_of interned place (value_of object.entry)
         (all_written written.entry.now) (terms_of terms.old) operation) }
 {
     if without_parentheses(operation) {
@@ -130,7 +131,7 @@ fn kept_where<'a>(
     requires object { IsInGraph (terms_of terms.old).graph (value_of object) }
     requires filter { IsInGraph (terms_of terms.old).graph (value_of filter) }
     requires sound { IsSound (terms_of terms.old) }
-    ensures { Finds value_of terms.new result (spec.kept_where place (value_of object.entry)
+    ensures { Finds value_of terms.new result (spec.kept_where interned place (value_of object.entry)
         (value_of filter.entry) (terms_of terms.old)) }
 {
     let given = [Written {
@@ -153,7 +154,7 @@ fn told_of<'a>(
     requires mask { IsInGraph (terms_of terms.old).graph (value_of mask) }
     requires written { WrittenAreInGraph (terms_of terms.old).graph (all_written written.now) }
     requires sound { IsSound (terms_of terms.old) }
-    ensures { Finds value_of terms.new result (spec.told_of (Some (value_of mask.entry)) place
+    ensures { Finds value_of terms.new result (spec.told_of interned (Some (value_of mask.entry)) place
         (value_of object.entry) (all_written written.entry.now) (terms_of terms.old) operation) }
 {
     let kept = kept_where(place, object, mask, terms)?;
@@ -173,7 +174,7 @@ pub(crate) fn told_method<'a>(
     requires stands { IsInGraph (terms_of terms.old).graph (value_of object) }
     requires written { WrittenAreInGraph (terms_of terms.old).graph (all_written written.now) }
     requires sound { IsSound (terms_of terms.old) }
-    ensures { Finds value_of terms.new result (spec.told_method place (value_of object.entry)
+    ensures { Finds value_of terms.new result (spec.told_method interned place (value_of object.entry)
         (all_written written.entry.now) (terms_of terms.old) operation) }
 {
     match mask_of(operation, written) {
@@ -198,7 +199,7 @@ fn asset_filter<'a>(
 ) -> Result<Value<'a>, CheckError>
     requires written { WrittenAreInGraph (terms_of terms.old).graph (all_written written.now) }
     requires sound { IsSound (terms_of terms.old) }
-    ensures { Finds value_of terms.new result (spec.called place Operation.StaticSids []
+    ensures { Finds value_of terms.new result (spec.called interned place Operation.StaticSids []
         (all_written written.entry.now) (terms_of terms.old)) }
 {
     let mut bound = Vec::new(terms.alloc);
@@ -215,7 +216,7 @@ fn greatest_where<'a>(
     requires object { IsInGraph (terms_of terms.old).graph (value_of object) }
     requires filter { IsInGraph (terms_of terms.old).graph (value_of filter) }
     requires sound { IsSound (terms_of terms.old) }
-    ensures { Finds value_of terms.new result (spec.greatest_where place (value_of object.entry)
+    ensures { Finds value_of terms.new result (spec.greatest_where interned place (value_of object.entry)
         (value_of filter.entry) (terms_of terms.old)) }
 {
     let kept = kept_where(place, object, filter, terms)?;
@@ -238,7 +239,7 @@ pub(crate) fn one_asset<'a>(
     requires stands { IsInGraph (terms_of terms.old).graph (value_of object) }
     requires written { WrittenAreInGraph (terms_of terms.old).graph (all_written written.now) }
     requires sound { IsSound (terms_of terms.old) }
-    ensures { Finds value_of terms.new result (spec.one_asset place (value_of object.entry)
+    ensures { Finds value_of terms.new result (spec.one_asset interned place (value_of object.entry)
         (all_written written.entry.now) (terms_of terms.old)) }
 {
     if written.len() != 1 {

@@ -5,16 +5,16 @@ use Rattle.std.proofs.lemmas.Bool.{true≢false, and_from, and_parts}
 use Rattle.std.proofs.lemmas.List.Folds.{list_all-append}
 use Rattle.pl_spec.specs.declared.AssetRow.{AssetRow}
 use Rattle.pl_outside.specs.declared.keeper.Table.{Table}
-use Rattle.pl_words.specs.declared.request.InputFile.TheVariants.{Labels as LabelsFile, Numbers as NumbersFile, Revisions as RevisionsFile, Derivation as DerivationFile}
+use Rattle.pl_words.specs.declared.request.InputFile.TheVariants.{Labels as LabelsFile, Numbers as NumbersFile, Results as ResultsFile, Revisions as RevisionsFile, Derivation as DerivationFile}
 use Rattle.pl_words.specs.Request.{Request, Run, Explain, Verify, Daily, Cut, Windows, WorldNames, adjustments_of}
 use Rattle.pl_load.specs.Cells.{cell_steps, lines_step}
 use Rattle.pl_load.specs.Contents.{Contents}
-use Rattle.pl_load.specs.Held.{assets_held, days_held, pipeline_held, world_held}
+use Rattle.pl_load.specs.Held.{assets_held, days_held, numbers_asked, pipeline_held, world_held}
 use Rattle.pl_load.specs.Steps.{Reading, WorkStep, ReachesRead, source_of}
 use Rattle.pl_load.specs.Steps.Source.{Load}
 use Rattle.pl_load.specs.Steps.Reading.{Bytes, Rows}
 use Rattle.pl_load.specs.Range.{dates_steps, first_window_steps, plan_steps, range_steps, windows_steps}
-use Rattle.pl_load.specs.Work.{labels_steps, numbers_steps, revisions_steps, data_steps, derivation_step, work}
+use Rattle.pl_load.specs.Work.{figures_steps, labels_steps, numbers_steps, results_steps, revisions_steps, data_steps, derivation_step, work}
 
 -- whether no step loads a table, whatever the faults are
 abbrev is_no_load : Option Reading → Bool
@@ -48,6 +48,16 @@ numbers-none : (assets : List AssetRow) (name file : Option (List ℕ)) → load
 numbers-none assets None file = refl
 numbers-none assets (Some n) file = refl
 
+results-none : (assets : List AssetRow) (numbers first name file : Option (List ℕ)) → loads_none (results_steps assets (numbers_asked assets numbers first) name file) ≡ true
+results-none assets numbers first None file = refl
+results-none assets numbers first (Some n) file = refl
+
+figures-none : (held : Contents) (q : WorldNames) → loads_none (figures_steps (assets_held held) held q) ≡ true
+figures-none held q =
+    let assets = assets_held held in
+    both-none (numbers_steps assets q.numbers (held.file NumbersFile)) _ (numbers-none assets q.numbers (held.file NumbersFile))
+    (results-none assets q.numbers (held.file NumbersFile) q.results (held.file ResultsFile))
+
 revisions-none : (days : List ℤ) (assets : List AssetRow) (name file : Option (List ℕ)) → loads_none (revisions_steps days assets name file) ≡ true
 revisions-none days assets None file = refl
 revisions-none days assets (Some n) file = refl
@@ -58,7 +68,7 @@ data-none : (held : Contents) (q : WorldNames) → q.adjustments ≡ None → lo
 unfolding data_steps
 data-none held q none =
     both-none (labels_steps (assets_held held) q.labels (held.file LabelsFile)) _ (labels-none (assets_held held) q.labels (held.file LabelsFile))
-    (both-none (numbers_steps (assets_held held) q.numbers (held.file NumbersFile)) _ (numbers-none (assets_held held) q.numbers (held.file NumbersFile))
+    (both-none (figures_steps (assets_held held) held q) _ (figures-none held q)
     (rw none (revisions-none (days_held held) (assets_held held) q.revisions (held.file RevisionsFile))))
 
 with-data : (held : Contents) (q : WorldNames) (rest : List WorkStep) → q.adjustments ≡ None → loads_none rest ≡ true → loads_none (data_steps held q ++ rest) ≡ true

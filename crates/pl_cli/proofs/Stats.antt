@@ -2,7 +2,7 @@
 use Rattle.std.proofs.Common.{◌≡◌, ◌∙◌, ℕ, Bool, true, cond, [], Option, Some, refl, sym, ap}
 use Rattle.std.specs.Int.RustNames.{unsigned_abs}
 use Rattle.pl_spec.specs.World.{World}
-use Rattle.pl_pipeline.specs.Graph.{bound}
+use Rattle.pl_planner.specs.Columns.{most_held}
 use Rattle.pl_pipeline.specs.Table.{Pipeline, table, sum_of_cells}
 use Rattle.pl_terms.specs.Uses.{outputs}
 use Rattle.pl_planner.specs.Plans.{Planned, IsPlanOf}
@@ -13,7 +13,7 @@ use Rattle.pl_table.specs.Numbers.{stats_line}
 use Rattle.pl_cli.specs.Texts.{table_stats, present_in}
 
 line-is : (w : World) (p : Pipeline) (plan : Planned) (size most : ℕ) (report : RunReport) (present : Option ℕ) → IsReport w p plan size report
-    → most ≡ bound p.graph (outputs p)
+    → most ≡ most_held p.graph (outputs p)
     → stats_line report.rows report.cells report.peak most report.applied present ≡ table_stats w p (table w p plan.from plan.to) (run_steps w p plan size) present
 line-is w p plan size most report present r e =
     let sum : report.cells ≡ unsigned_abs (sum_of_cells w.texts (table w p plan.from plan.to)) = ap unsigned_abs r.cells in

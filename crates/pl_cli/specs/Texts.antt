@@ -7,7 +7,7 @@ use Rattle.pl_cut.specs.Cuts.{Span, cut}
 use Rattle.pl_parts.specs.Texts.{sessions_text, assets_text, bars_text, labels_text, numbers_text, ratios_text, revisions_text}
 use Rattle.pl_pipeline.specs.Table.{Pipeline, Row, table, sum_of_cells}
 use Rattle.pl_pipeline.specs.Text.{text}
-use Rattle.pl_pipeline.specs.Graph.{bound}
+use Rattle.pl_planner.specs.Columns.{most_held}
 use Rattle.pl_spec.specs.Limits.{saturated}
 use Rattle.pl_terms.specs.Uses.{outputs}
 use Rattle.pl_planner.specs.Text.{plan_text}
@@ -53,7 +53,7 @@ check_text p =
 
 -- the plan of a pipeline for a range that begins with session from
 abbrev pub planned_text : List ℤ → Pipeline → ℕ → List ℕ
-planned_text days p from = plan_text p (extra_of days p from) (reach_at days p from) (bound p.graph (outputs p))
+planned_text days p from = plan_text p (extra_of days p from) (reach_at days p from) (most_held p.graph (outputs p))
 
 -- the derivation of the value of the column that is asked for
 abbrev pub derivation_text : World → Pipeline → ExplainRequest → List ℕ
@@ -149,7 +149,7 @@ present_in w p from to = if has_numbers p then Some (present_numbers w p from to
 -- at once, which is as many as may be, its steps, as far as 64 bits count, and what is present.
 abbrev pub numbers_of : List (List ℕ) → Pipeline → List Row → ℕ → Option ℕ → List ℕ
 numbers_of texts p rows steps present =
-    let most = bound p.graph (outputs p) in
+    let most = most_held p.graph (outputs p) in
     stats_line (length rows) (unsigned_abs (sum_of_cells texts rows)) most most (saturated steps) present
 
 abbrev pub table_stats : World → Pipeline → List Row → ℕ → Option ℕ → List ℕ

@@ -31,11 +31,11 @@ use std::sync::ledger::Ledger;
 /// Runs the program on the words after its name:
 ///
 /// - `run PIPELINE SESSIONS ASSETS BARS FROM TO`, with the options `--labels NAME`, `--numbers NAME`,
-///   `--adjustments NAME`, `--revisions NAME`, `--chunk N`, `--format csv`, `--format fixed`, `--stats` and
-///   `--asof DATE` anywhere among these words, reads the files from the shelf and the adjustments from the
-///   keeper, and writes the table of the sessions FROM to TO to `out`, computed N sessions at a time, 126
-///   where N is not given, and with `--asof` over what is known by that session; with `--stats` it writes its
-///   numbers on `err`;
+///   `--results NAME`, `--adjustments NAME`, `--revisions NAME`, `--chunk N`, `--format csv`,
+///   `--format fixed`, `--stats` and `--asof DATE` anywhere among these words, reads the files from the shelf
+///   and the adjustments from the keeper, and writes the table of the sessions FROM to TO to `out`, computed
+///   N sessions at a time, 126 where N is not given, and with `--asof` over what is known by that session;
+///   with `--stats` it writes its numbers on `err`;
 /// - `fmt PIPELINE` writes the canonical text of the pipeline file;
 /// - `check PIPELINE` writes how many terms and columns its pipeline has;
 /// - `plan PIPELINE SESSIONS FROM TO` writes what is computed for these sessions: a line for each used term,
@@ -43,15 +43,16 @@ use std::sync::ledger::Ledger;
 /// - `payouts SESSIONS ASSETS BARS PAYOUTS` writes the rows of the payouts file for the table of dividends,
 ///   or why a payout has none;
 /// - `explain PIPELINE SESSIONS ASSETS BARS SID DATE COLUMN`, with the options `--labels NAME`,
-///   `--numbers NAME`, `--adjustments NAME` and `--revisions NAME`, writes the derivation of a cell;
+///   `--numbers NAME`, `--results NAME`, `--adjustments NAME` and `--revisions NAME`, writes the derivation
+///   of a cell;
 /// - `verify PIPELINE SESSIONS ASSETS BARS DERIVATION`, with the same options, writes whether all lines of a
 ///   derivation are right, or the number of the first that is not;
 /// - `daily PIPELINE SESSIONS ASSETS BARS FROM TO`, with the same options and `--format csv` and
 ///   `--format fixed`, writes the table that `run` has, computed session by session from the first one on;
 /// - `cut PIPELINE SESSIONS ASSETS BARS FROM TO`, with the options `--labels NAME`, `--numbers NAME`,
-///   `--adjustments NAME` and `--revisions NAME`, and with `--part` and one of `sessions`, `assets`, `bars`,
-///   `labels`, `numbers`, `splits`, `mergers`, `dividends` and `revisions`, writes that part of what the rows
-///   of `run` read, in the form of its file;
+///   `--results NAME`, `--adjustments NAME` and `--revisions NAME`, and with `--part` and one of `sessions`,
+///   `assets`, `bars`, `labels`, `numbers`, which are those of both files, `splits`, `mergers`, `dividends`
+///   and `revisions`, writes that part of what the rows of `run` read, in the form of its file;
 /// - `windows SESSIONS ASSETS BARS COLUMN FROM TO WINDOW`, with the options `--adjustments NAME` and
 ///   `--revisions NAME`, writes the windows of so many sessions over the bar column, for the sessions FROM to
 ///   TO: of each window its newest cell, and all its cells where others changed;
@@ -63,7 +64,7 @@ use std::sync::ledger::Ledger;
 /// - 0: all was read, judged and written;
 /// - 2: the words are of none of these forms;
 /// - 3: the pipeline file is not in the language, by its syntax or, but for `fmt`, by its rules; or a command
-///   that reads bars is given a pipeline with a number, and no numbers file;
+///   that reads bars is given a pipeline with a number, and no file of numbers;
 /// - 4: a record of a data file or a row of the adjustments breaks a rule; 5: the range is not one of
 ///   sessions with the bars that the columns show, or the cell is none of the table's; 6: a limit is passed;
 /// - 7: the shelf counted a fault; 8: the keeper did; 9: `out` did, and it took a prefix of the text;
@@ -71,8 +72,8 @@ use std::sync::ledger::Ledger;
 ///
 /// Every status but 0 has its line on `err`; status 0 has none but the numbers that are asked for. The first
 /// fault in the order of work decides: the words, the pipeline file, the sessions, the assets, the labels,
-/// the numbers, the bars, the payouts, the adjustments, the revisions, the range or the cell, the derivation.
-/// The parts are handed back, so that a caller can run again.
+/// the numbers, the results, the bars, the payouts, the adjustments, the revisions, the range or the cell,
+/// the derivation. The parts are handed back, so that a caller can run again.
 pub fn run_program<S: Shelf, K: AdjustKeeper, O: Sink, E: Sink, L: Ledger>(
     alloc: Global,
     words: &[String],

@@ -3,8 +3,12 @@ use Rattle.std.proofs.Common.{◌≡◌, ℕ, suc, ◌+◌, ◌<◌, Bool, true,
 use Rattle.std.specs.List.{range_with_len, count_by}
 use Rattle.std.proofs.lemmas.List.Sums.{sum_by-append, sum_by-cons}
 use Rattle.pl_pipeline.specs.Term.{Graph}
-use Rattle.pl_pipeline.specs.Graph.{contains, mentions_at, used_terms, is_live, live_terms, columns_at, bound}
+use Rattle.pl_pipeline.specs.Cones.{reads_of}
+use Rattle.pl_pipeline.specs.Graph.{contains, used_terms, columns_at}
+use Rattle.pl_planner.specs.Columns.{columns_held, most_held}
+use Rattle.pl_planner.specs.Holds.{is_live_by, live_terms_by}
 use Rattle.pl_planner.proofs.Live.{turned, bound_held, contains-filter, filtered}
+use Rattle.std.proofs.Math.Path.{fun_ext}
 use Rattle.pl_exec.proofs.Counts.{range_suc}
 
 pub used_listed : (g : Graph) (outputs : List ℕ) (q : ℕ → Bool) → ((t : ℕ) → q t ≡ contains (used_terms g outputs) t) → used_terms g outputs ≡ filter q (range_with_len 0 (length g))
@@ -13,15 +17,17 @@ used_listed g outputs q h = filtered g q (length g) outputs (λ t l. h t)
 -- ---- what is held at once
 
 module _ (g : Graph) (outputs : List ℕ) (used : ℕ → Bool) (reads : ℕ → ℕ → Bool) (is : (t : ℕ) → used t ≡ contains (used_terms g outputs) t)
-    (live : (k t : ℕ) → k < length g → (used t && nat_le t k && reads k t) ≡ contains (live_terms g outputs k) t) where
+    (live : (k t : ℕ) → k < length g → (used t && nat_le t k && reads k t) ≡ contains (live_terms_by (reads_of g) g outputs k) t) where
   abbrev pub held : ℕ → ℕ
   held k = if used k then count_by (λ t. used t && reads k t) (range_with_len 0 (k + 1)) + columns_at g k else 0
 
-  same_at : (k t : ℕ) → k < length g → (used t && is_live g outputs k t) ≡ (nat_le t k && (used t && reads k t))
-  same_at k t h = ap (λ b. b && is_live g outputs k t) (is t) ∙ sym (contains-filter (is_live g outputs k) (used_terms g outputs) t) ∙ sym (live k t h) ∙ turned (used t) (nat_le t k) (reads k t)
+  same_at : (k t : ℕ) → k < length g → (used t && is_live_by (reads_of g) g outputs k t) ≡ (nat_le t k && (used t && reads k t))
+  same_at k t h = ap (λ b. b && is_live_by (reads_of g) g outputs k t) (is t) ∙ sym (contains-filter (is_live_by (reads_of g) g outputs k) (used_terms g outputs) t) ∙ sym (live k t h) ∙ turned (used t) (nat_le t k) (reads k t)
 
-  pub held_bound : fold max 0 (map held (range_with_len 0 (length g))) ≡ bound g outputs
-  held_bound = bound_held (mentions_at g) (columns_at g) g outputs used (λ k t. used t && reads k t) (used_listed g outputs used is) same_at
+  pub held_bound : ((k : ℕ) → columns_held g k ≡ columns_at g k) → fold max 0 (map held (range_with_len 0 (length g))) ≡ most_held g outputs
+  held_bound same =
+      bound_held (reads_of g) (columns_at g) g outputs used (λ k t. used t && reads k t) (used_listed g outputs used is) same_at
+      ∙ ap (λ f. fold max 0 (map f (used_terms g outputs))) (fun_ext (λ k. ap (λ n. length (live_terms_by (reads_of g) g outputs k) + n) (sym (same k))))
 
 -- ---- sums over the used terms
 

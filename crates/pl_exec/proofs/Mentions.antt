@@ -16,7 +16,7 @@ use Rattle.pl_pipeline.specs.Graph.{Used, contains, columns_at, reads_at}
 use Rattle.pl_laws.proofs.Lows.{reads_at-within}
 use Rattle.pl_pipeline.specs.Lows.{Reads}
 use Rattle.pl_laws.specs.LowLaws.{HasBar}
-use Rattle.pl_laws.proofs.Uses.{lower, used_terms-sound, used_terms-complete}
+use Rattle.pl_laws.proofs.Uses.{used_terms-sound, used_terms-complete}
 use Rattle.pl_terms.specs.Sorts.{Place, has_window, places}
 use Rattle.pl_terms.specs.Uses.{outputs}
 use Rattle.pl_planner.specs.Plans.{IsAsked, IsLive, AreLastUsers, is_read_by, is_used, last_user, low_at, slot_of, column_slot}
@@ -24,6 +24,7 @@ use Rattle.pl_planner.specs.Laws.{IsCovered}
 use Rattle.pl_planner.proofs.Pipelines.{IsPipeline, is-pipeline, used-inside}
 use Rattle.pl_planner.proofs.Covers.{reads-covered}
 use Rattle.pl_planner.proofs.Held.{columns-same}
+use Rattle.pl_planner.proofs.ReadTerms.{reads-lower}
 use Rattle.pl_values.proofs.Typed.{has-input}
 use Rattle.pl_values.proofs.Formulas.{first-place}
 use Rattle.pl_workspace.specs.Slots.{Slots, Free, Begun, slot_at, with_slot}
@@ -85,7 +86,7 @@ module _ (t : Task) (is : IsTask t) where
       here None e = rw e refl
       here (Some l) e =
           let a = subst (AreLastUsers g outs k) e (is.plan.last k u) in
-          let b : k < l = lower g outs pipe.graph l k a.1.reads in
+          let b : k < l = reads-lower g pipe.graph l k a.1.reads in
           let r : nat_le k l ≡ true = grind (arith, nat_tests) in
           rw e r
 

@@ -5,7 +5,9 @@ use Rattle.std.proofs.lemmas.List.{length-map, get_or_default}
 use Rattle.pl_spec.specs.declared.AssetRow.{AssetRow}
 use Rattle.pl_spec.specs.Parts.{sid_at}
 use Rattle.pl_pipeline.proofs.Unfolds.{stands}
-use Rattle.pl_pipeline.specs.Graph.{bound, contains}
+use Rattle.pl_pipeline.specs.Graph.{contains}
+use Rattle.pl_planner.specs.Columns.{most_held}
+use Rattle.pl_planner.proofs.Held.{columns-same}
 use Rattle.pl_spec.proofs.Columns.{sid_at-row}
 use Rattle.pl_terms.specs.Uses.{outputs}
 use Rattle.pl_planner.specs.Plans.{is_used, last_user, is_read_by, slot_of}
@@ -44,9 +46,9 @@ sids_up assets rise cols up inside i j d l h =
 -- ---- all terms
 
 module _ (t : Task) (is : IsTask t) (k : ℕ) (all : k ≡ length (graph_in t)) where
-  pub held_most : fold max 0 (map (held_in t) (range_with_len 0 k)) ≡ bound (graph_in t) (outputs t.pipeline)
+  pub held_most : fold max 0 (map (held_in t) (range_with_len 0 k)) ≡ most_held (graph_in t) (outputs t.pipeline)
   held_most = ap (λ m. fold max 0 (map (held_in t) (range_with_len 0 m))) all
-      ∙ held_bound (graph_in t) (outputs t.pipeline) (is_used t.plan) (λ n u. is_read_by (last_user t.plan u) n) is.plan.used (λ n u h. is.plan.live n u h)
+      ∙ held_bound (graph_in t) (outputs t.pipeline) (is_used t.plan) (λ n u. is_read_by (last_user t.plan u) n) is.plan.used (λ n u h. is.plan.live n u h) (columns-same (graph_in t) is.checked.steady)
 
   pub steps_sum : sum_by (steps_in t) (range_with_len 0 k) ≡ chunk_steps t
   steps_sum = ap (λ m. sum_by (steps_in t) (range_with_len 0 m)) all

@@ -1,11 +1,12 @@
 //! The used terms of a chunk, one after the other, each in its planned slot.
 ghost use Rattle.std.specs.Prelude.{◌≡◌, ◌+◌, ◌<◌, ◌≤◌, ◌&&◌, ℕ, true, length, max, option_map};
-ghost use Rattle.pl_pipeline.specs.Graph.{bound, columns_at};
+ghost use Rattle.pl_pipeline.specs.Graph.{columns_at};
 ghost use Rattle.pl_spec.specs.Limits.{saturated};
 ghost use Rattle.pl_terms.specs.Checked.{pipeline_of};
 ghost use Rattle.pl_terms.specs.Nodes.{number_of};
 ghost use Rattle.pl_terms.specs.Uses.{outputs};
 ghost use Rattle.pl_world.specs.Worlds.{IsMade};
+ghost use Rattle.pl_planner.specs.Columns.{most_held};
 ghost use Rattle.pl_planner.specs.Plans.{IsPlanOf, is_used, last_user, slot_of};
 ghost use Rattle.pl_workspace.specs.Slots.{Free, live_count, slot_at};
 ghost use Rattle.pl_exec.specs.Slotted.{AreApart, AreLive, ends_at, left};
@@ -205,8 +206,8 @@ fn run_terms<'x, L: Ledger>(
     requires rows { assets_in (task_of chunk.now) ≤ rows.old }
     ensures outputs { HoldsOutputs (task_of chunk.now) workspace.new }
     ensures workspace { workspace.new.peak ≡ max workspace.old.peak
-        (bound (graph_in (task_of chunk.now)) (outputs (task_of chunk.now).pipeline)) }
-    ensures peak { result.peak ≡ bound (graph_in (task_of chunk.now)) (outputs (task_of chunk.now).pipeline) }
+        (most_held (graph_in (task_of chunk.now)) (outputs (task_of chunk.now).pipeline)) }
+    ensures peak { result.peak ≡ most_held (graph_in (task_of chunk.now)) (outputs (task_of chunk.now).pipeline) }
     ensures applied { result.applied ≡ saturated (chunk_steps (task_of chunk.now)) }
     ensures cost { steps.new ≡ steps.old + chunk_steps (task_of chunk.now) }
     ensures len { workspace.new.len ≡ workspace.old.len }
@@ -270,8 +271,8 @@ pub fn execute_chunk<L: Ledger>(
     requires room { HasRoom (task world.now checked.now plan.now chunk.now cols.now) workspace.old.len }
     ensures outputs { HoldsOutputs (task world.now checked.now plan.now chunk.now cols.now) workspace.new }
     ensures workspace { workspace.new.peak ≡ max workspace.old.peak
-        (bound (pipeline_of checked.now).graph (outputs (pipeline_of checked.now))) }
-    ensures peak { result.peak ≡ bound (pipeline_of checked.now).graph (outputs (pipeline_of checked.now)) }
+        (most_held (pipeline_of checked.now).graph (outputs (pipeline_of checked.now))) }
+    ensures peak { result.peak ≡ most_held (pipeline_of checked.now).graph (outputs (pipeline_of checked.now)) }
     ensures applied { result.applied ≡ saturated (chunk_steps
         (task world.now checked.now plan.now chunk.now cols.now)) }
     ensures cost { steps.new ≡ steps.old + chunk_steps

@@ -3,16 +3,17 @@ use Rattle.std.proofs.Common.{◌≡◌, ◌∙◌, ℤ, List, false, refl, ap}
 use Rattle.pl_spec.specs.declared.AssetRow.{AssetRow}
 use Rattle.pl_spec.specs.declared.BarRow.{BarRow}
 use Rattle.pl_spec.specs.World.{World}
-use Rattle.pl_spec.specs.Parts.{ColumnAdjustment, ColumnNumber, world_of}
+use Rattle.pl_spec.specs.Parts.{ColumnAdjustment, world_of}
+use Rattle.pl_numbers.specs.Numbers.{NumberTable}
 use Rattle.pl_world.specs.declared.owned.OwnedWorld.{OwnedWorld}
 use Rattle.pl_world.specs.Worlds.{owned_world}
-use Rattle.pl_words.specs.declared.request.InputFile.TheVariants.{Sessions, Assets, Labels, Numbers, Bars, Revisions}
+use Rattle.pl_words.specs.declared.request.InputFile.TheVariants.{Sessions, Assets, Labels, Numbers, Results, Bars, Revisions}
 use Rattle.pl_words.specs.Request.{WorldNames}
 use Rattle.pl_load.specs.Contents.{Contents}
-use Rattle.pl_load.specs.Held.{days_in, assets_in, assets_held, labels_asked, numbers_asked, bars_in, adjustments_asked, revised_asked}
+use Rattle.pl_load.specs.Held.{days_in, assets_in, assets_held, labels_asked, numbers_asked, results_asked, bars_in, adjustments_asked, revised_asked}
 use Rattle.pl_load.specs.declared.loading.WorldRows.{WorldRows}
 use Rattle.pl_load.specs.Loads.{IsWorldHeld}
-use Rattle.pl_load.specs.Parts.{AreRevised, AreRows}
+use Rattle.pl_load.specs.Parts.{AreFigures, AreRevised, AreRows}
 use Rattle.pl_load.proofs.Joined.{joint, is_file}
 
 -- the bars and the adjustments of a world
@@ -21,8 +22,8 @@ pub record AreBarsHeld (q : WorldNames) (days : List ℤ) (assets : List AssetRo
   pub adjustments : AreRevised q days assets held changes
 
 -- and the numbers
-pub record AreNumbersHeld (q : WorldNames) (days : List ℤ) (assets : List AssetRow) (figures : List ColumnNumber) (rows : List BarRow) (changes : List ColumnAdjustment) (held : Contents) : Type 0 where
-  pub numbers : numbers_asked assets q.numbers (held.file Numbers) ≡ figures
+pub record AreNumbersHeld (q : WorldNames) (days : List ℤ) (assets : List AssetRow) (figures : NumberTable) (rows : List BarRow) (changes : List ColumnAdjustment) (held : Contents) : Type 0 where
+  pub numbers : AreFigures q assets held figures
   pub others : AreBarsHeld q days assets rows changes held
 
 -- the world of contents over these sessions
@@ -31,7 +32,7 @@ world_over q days held =
     let assets = assets_held held in
     let labels = labels_asked assets q.labels (held.file Labels) in
     world_of days assets labels.rows labels.texts (bars_in days assets (held.file Bars))
-    (revised_asked days assets (adjustments_asked assets q.adjustments held.rows) q.revisions (held.file Revisions)) (numbers_asked assets q.numbers (held.file Numbers))
+    (revised_asked days assets (adjustments_asked assets q.adjustments held.rows) q.revisions (held.file Revisions)) (results_asked assets (numbers_asked assets q.numbers (held.file Numbers)) q.results (held.file Results)).rows
 
 abbrev pub with_rows : List ℤ → List AssetRow → WorldRows → OwnedWorld
 with_rows days assets r = record { sessions = days; assets = assets; labels = r.labels; bars = r.bars; adjustments = r.adjustments; numbers = r.numbers }

@@ -8,8 +8,9 @@ use Rattle.pl_outside.specs.Files.{Files, BeginsAll}
 use Rattle.pl_outside.specs.Lists.{Lists}
 use Rattle.pl_outside.specs.Logs as logs
 use Rattle.pl_outside.specs.declared.keeper.Table.{Table}
+use Rattle.pl_numbers.specs.Numbers.{NumberTable}
 use Rattle.pl_words.specs.declared.request.InputFile.{InputFile}
-use Rattle.pl_words.specs.declared.request.InputFile.TheVariants.{Pipeline, Sessions, Assets, Labels, Numbers, Bars, Revisions, Payouts, Derivation}
+use Rattle.pl_words.specs.declared.request.InputFile.TheVariants.{Pipeline, Sessions, Assets, Labels, Numbers, Results, Bars, Revisions, Payouts, Derivation}
 use Rattle.pl_words.specs.Request.{Request, name_asked, adjustments_of}
 use Rattle.pl_load.specs.declared.fault.Fault.{Fault}
 use Rattle.pl_load.specs.declared.fault.Fault.TheVariants.{Memory}
@@ -18,7 +19,7 @@ use Rattle.pl_load.specs.Steps.{Reading, WorkStep, reads_in, names_read, tables_
 use Rattle.pl_load.specs.Steps.Reading.{Bytes}
 use Rattle.pl_load.specs.Stages.{StageEnds, HasRead, IsRisen}
 use Rattle.pl_load.specs.Held.{script_in}
-use Rattle.pl_load.specs.Work.{read_step, script_rule, syntax_step, pipeline_steps, evaluated_steps, numbers_step, labels_steps, numbers_steps, revisions_steps}
+use Rattle.pl_load.specs.Work.{read_step, script_rule, syntax_step, pipeline_steps, evaluated_steps, numbers_step, labels_steps, numbers_steps, results_steps, revisions_steps}
 use Rattle.pl_load.proofs.Steps.{stage-stops, stage-goes_on, stage-done, stage-weaker, stage-over, always}
 use Rattle.pl_load.proofs.StepsRead.{read-stops, read-goes_on, read-all, read-over, front-none, one-read, names-append, tables-append}
 use Rattle.pl_load.specs.Reads.{IsRead, AreLoaded}
@@ -65,6 +66,7 @@ is_file Sessions Sessions = true
 is_file Assets Assets = true
 is_file Labels Labels = true
 is_file Numbers Numbers = true
+is_file Results Results = true
 is_file Bars Bars = true
 is_file Revisions Revisions = true
 is_file Payouts Payouts = true
@@ -82,6 +84,7 @@ by-file P Sessions x y p q Sessions = p
 by-file P Assets x y p q Assets = p
 by-file P Labels x y p q Labels = p
 by-file P Numbers x y p q Numbers = p
+by-file P Results x y p q Results = p
 by-file P Bars x y p q Bars = p
 by-file P Revisions x y p q Revisions = p
 by-file P Payouts x y p q Payouts = p
@@ -351,6 +354,10 @@ labels-one assets (Some n) x = file-one Labels _ x
 pub numbers-one : (assets : List AssetRow) (name x : Option (List ℕ)) → reads_in (numbers_steps assets name x) ≡ inputs Numbers name x
 numbers-one assets None x = refl
 numbers-one assets (Some n) x = file-one Numbers _ x
+
+pub results-one : (assets : List AssetRow) (first : NumberTable) (name x : Option (List ℕ)) → reads_in (results_steps assets first name x) ≡ inputs Results name x
+results-one assets first None x = refl
+results-one assets first (Some n) x = file-one Results _ x
 
 pub revisions-one : (days : List ℤ) (assets : List AssetRow) (name x : Option (List ℕ)) → reads_in (revisions_steps days assets name x) ≡ inputs Revisions name x
 revisions-one days assets None x = refl

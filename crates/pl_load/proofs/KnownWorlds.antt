@@ -44,13 +44,13 @@ plan-known w v (Some d) p plan last known is =
 -- ---- the names of a world are those of the command
 
 pub run-asks : (q : RunRequest) → AsksWorld (Some (Run q)) q.world
-run-asks q = record { sessions = refl; assets = refl; labels = refl; numbers = refl; bars = refl; revisions = refl; adjustments = refl }
+run-asks q = record { sessions = refl; assets = refl; labels = refl; numbers = refl; results = refl; bars = refl; revisions = refl; adjustments = refl }
 
 pub explain-asks : (q : ExplainRequest) → AsksWorld (Some (Explain q)) q.world
-explain-asks q = record { sessions = refl; assets = refl; labels = refl; numbers = refl; bars = refl; revisions = refl; adjustments = refl }
+explain-asks q = record { sessions = refl; assets = refl; labels = refl; numbers = refl; results = refl; bars = refl; revisions = refl; adjustments = refl }
 
 pub verify-asks : (q : VerifyRequest) → AsksWorld (Some (Verify q)) q.world
-verify-asks q = record { sessions = refl; assets = refl; labels = refl; numbers = refl; bars = refl; revisions = refl; adjustments = refl }
+verify-asks q = record { sessions = refl; assets = refl; labels = refl; numbers = refl; results = refl; bars = refl; revisions = refl; adjustments = refl }
 
 pub windows-asks : (q : WindowsRequest) → AsksWorld (Some (Windows q)) q.world
-windows-asks q = record { sessions = refl; assets = refl; labels = refl; numbers = refl; bars = refl; revisions = refl; adjustments = refl }
+windows-asks q = record { sessions = refl; assets = refl; labels = refl; numbers = refl; results = refl; bars = refl; revisions = refl; adjustments = refl }

@@ -7,7 +7,7 @@ use Rattle.pl_world.specs.declared.owned.OwnedWorld.{OwnedWorld}
 use Rattle.pl_planner.specs.Plans.{Planned, IsPlanOf}
 use Rattle.pl_words.specs.declared.request.InputFile.{InputFile}
 use Rattle.pl_words.specs.declared.request.InputFile.TheVariants as file
-use Rattle.pl_words.specs.Request.{Dated, RunRequest, PlanRequest, ExplainRequest, VerifyRequest, WindowsRequest, WorldNames}
+use Rattle.pl_words.specs.Request.{Dated, RunRequest, PlanRequest, ExplainRequest, VerifyRequest, WindowsRequest, WorldNames, numbers_named}
 use Rattle.pl_load.specs.declared.fault.Fault.{Fault}
 use Rattle.pl_load.specs.Contents.{Contents}
 use Rattle.pl_load.specs.Held.{pipeline_in, days_in, assets_in, days_held, assets_held}
@@ -15,7 +15,7 @@ use Rattle.pl_load.specs.Planning.{HasRows}
 use Rattle.pl_load.specs.Cells.{cell_steps}
 use Rattle.pl_load.specs.Range.{dates_steps, first_window_steps, plan_steps, range_steps, windows_steps, index_of}
 use Rattle.pl_load.specs.Steps.{WorkStep}
-use Rattle.pl_load.specs.Work.{read_step, sessions_step, bars_rule, assets_rule, payouts_rule, derivation_step, pipeline_steps, evaluated_steps, numbers_steps, revised_steps, rows_steps, data_steps, run_work, plan_work, payouts_work, cell_work, verify_work, windows_work}
+use Rattle.pl_load.specs.Work.{read_step, sessions_step, bars_rule, assets_rule, payouts_rule, derivation_step, pipeline_steps, evaluated_steps, figures_steps, revised_steps, rows_steps, data_steps, run_work, plan_work, payouts_work, cell_work, verify_work, windows_work}
 use Rattle.pl_load.specs.Loads.{IsWorldHeld}
 use Rattle.pl_load.specs.Parts.{world_steps, plan_steps_for}
 use Rattle.pl_load.proofs.Joined.{joint, is_file}
@@ -42,12 +42,18 @@ pub assets-first : (q : WorldNames) (days : List ℤ) (assets : List AssetRow) (
     → after_days q days (joint (is_file file.Assets) false f r) ≡ read_step file.Assets assets_rule (f.file file.Assets) ∷ rows_steps days assets r q
 assets-first q days assets f r m = ap (λ a. read_step file.Assets assets_rule (f.file file.Assets) ∷ rows_steps days a r q) m
 
+-- both files of numbers
+abbrev pub is_figures : InputFile → Bool
+is_figures file.Numbers = true
+is_figures file.Results = true
+is_figures f = false
+
 -- after the numbers, and after the labels
 abbrev pub after_numbers : WorldNames → List ℤ → List AssetRow → Contents → List WorkStep
 after_numbers q days assets held = read_step file.Bars (bars_rule days assets) (held.file file.Bars) ∷ revised_steps days assets held q
 
 abbrev pub after_labels : WorldNames → List ℤ → List AssetRow → Contents → List WorkStep
-after_labels q days assets held = numbers_steps assets q.numbers (held.file file.Numbers) ++ after_numbers q days assets held
+after_labels q days assets held = figures_steps assets held q ++ after_numbers q days assets held
 
 -- ---- a range
 
@@ -58,9 +64,9 @@ range-is p days from to as_of a b e f = ap₂ (λ x y. dates_steps from to as_of
 -- ---- a run and a plan
 
 pub run-first : (q : RunRequest) (p : Pipeline) (f r : Contents) → pipeline_in (f.file file.Pipeline) ≡ p
-    → run_work (joint (is_file file.Pipeline) false f r) q ≡ evaluated_steps (f.file file.Pipeline) q.world.numbers ++ world_steps q p r
+    → run_work (joint (is_file file.Pipeline) false f r) q ≡ evaluated_steps (f.file file.Pipeline) (numbers_named q.world) ++ world_steps q p r
 unfolding data_steps
-run-first q p f r m = ap (λ x. evaluated_steps (f.file file.Pipeline) q.world.numbers ++ world_steps q x r) m
+run-first q p f r m = ap (λ x. evaluated_steps (f.file file.Pipeline) (numbers_named q.world) ++ world_steps q x r) m
 
 pub world-first : (q : RunRequest) (p : Pipeline) (w : OwnedWorld) (f r : Contents) → IsWorldHeld q.world f w
     → world_steps q p (joint whole true f r) ≡ data_steps f q.world ++ range_steps p w.sessions q.from q.to q.options.as_of
@@ -92,9 +98,9 @@ abbrev pub cell_rest : ExplainRequest → Pipeline → Contents → List WorkSte
 cell_rest q p held = data_steps held q.world ++ cell_steps p (days_held held) (assets_held held) q
 
 pub cell-first : (q : ExplainRequest) (p : Pipeline) (f r : Contents) → pipeline_in (f.file file.Pipeline) ≡ p
-    → cell_work (joint (is_file file.Pipeline) false f r) q ≡ evaluated_steps (f.file file.Pipeline) q.world.numbers ++ cell_rest q p r
+    → cell_work (joint (is_file file.Pipeline) false f r) q ≡ evaluated_steps (f.file file.Pipeline) (numbers_named q.world) ++ cell_rest q p r
 unfolding data_steps
-cell-first q p f r m = ap (λ x. evaluated_steps (f.file file.Pipeline) q.world.numbers ++ cell_rest q x r) m
+cell-first q p f r m = ap (λ x. evaluated_steps (f.file file.Pipeline) (numbers_named q.world) ++ cell_rest q x r) m
 
 pub cell-world : (q : ExplainRequest) (p : Pipeline) (w : OwnedWorld) (f r : Contents) → IsWorldHeld q.world f w
     → cell_rest q p (joint whole true f r) ≡ data_steps f q.world ++ cell_steps p w.sessions w.assets q
@@ -106,7 +112,7 @@ abbrev pub verify_rest : VerifyRequest → Contents → List WorkStep
 verify_rest q held = data_steps held q.world ++ derivation_step (held.file file.Derivation) ∷ []
 
 pub verify-first : (q : VerifyRequest) (f r : Contents)
-    → verify_work (joint (is_file file.Pipeline) false f r) q ≡ evaluated_steps (f.file file.Pipeline) q.world.numbers ++ verify_rest q r
+    → verify_work (joint (is_file file.Pipeline) false f r) q ≡ evaluated_steps (f.file file.Pipeline) (numbers_named q.world) ++ verify_rest q r
 unfolding data_steps
 verify-first q f r = refl
 

@@ -7,12 +7,13 @@ use Rattle.pl_spec.specs.declared.BarRow.{BarRow}
 use Rattle.pl_spec.specs.declared.RawAdjust.{RawAdjust}
 use Rattle.pl_spec.specs.World.{World}
 use Rattle.pl_pipeline.specs.Table.{Pipeline}
-use Rattle.pl_spec.specs.Parts.{ColumnAdjustment, ColumnNumber, world_of}
+use Rattle.pl_spec.specs.Parts.{ColumnAdjustment, world_of}
 use Rattle.pl_records.specs.Records.{csv_records}
 use Rattle.pl_calendar.specs.Days.{sessions_of}
 use Rattle.pl_lifetimes.specs.Assets.{assets_of}
 use Rattle.pl_assets.specs.Labels.{LabelTable, no_labels, labels_of}
 use Rattle.pl_numbers.specs.Numbers.{NumberTable, numbers_of}
+use Rattle.pl_numbers.specs.Beside.{numbers_beside}
 use Rattle.pl_bars.specs.Bars.{bars_of}
 use Rattle.pl_payouts.specs.declared.reading.Dividend.{Dividend}
 use Rattle.pl_payouts.specs.Payouts.{payouts_of}
@@ -28,7 +29,7 @@ use Rattle.pl_syntax.specs.Said.{Said, Spelled, Faulty, said}
 use Rattle.pl_check.specs.Typed.{typed}
 use Rattle.pl_outside.specs.declared.keeper.Table.{Table}
 use Rattle.pl_outside.specs.declared.keeper.Table.TheVariants.{Splits, Mergers, Dividends}
-use Rattle.pl_words.specs.declared.request.InputFile.TheVariants.{Pipeline as PipelineFile, Sessions, Assets, Labels, Numbers, Bars, Revisions, Payouts, Derivation}
+use Rattle.pl_words.specs.declared.request.InputFile.TheVariants.{Pipeline as PipelineFile, Sessions, Assets, Labels, Numbers, Results, Bars, Revisions, Payouts, Derivation}
 use Rattle.pl_words.specs.Request.{WorldNames}
 use Rattle.pl_load.specs.Contents.{Contents}
 
@@ -65,6 +66,10 @@ no_numbers = record { names = []; rows = [] }
 unfoldable pub numbers_in : List AssetRow → Option (List ℕ) → NumberTable
 numbers_in assets file = result_unwrap_or (numbers_of assets (csv_records (bytes_in file))) no_numbers
 
+-- the numbers of a first file with those of a second one
+unfoldable pub results_in : NumberTable → List AssetRow → Option (List ℕ) → NumberTable
+results_in first assets file = result_unwrap_or (numbers_beside first assets (csv_records (bytes_in file))) no_numbers
+
 unfoldable pub bars_in : List ℤ → List AssetRow → Option (List ℕ) → List BarRow
 bars_in days assets file = result_unwrap_or (bars_of days assets (csv_records (bytes_in file))) []
 
@@ -90,9 +95,14 @@ abbrev pub labels_asked : List AssetRow → Option (List ℕ) → Option (List �
 labels_asked assets None file = no_labels
 labels_asked assets (Some name) file = labels_in assets file
 
-abbrev pub numbers_asked : List AssetRow → Option (List ℕ) → Option (List ℕ) → List ColumnNumber
-numbers_asked assets None file = []
-numbers_asked assets (Some name) file = (numbers_in assets file).rows
+abbrev pub numbers_asked : List AssetRow → Option (List ℕ) → Option (List ℕ) → NumberTable
+numbers_asked assets None file = no_numbers
+numbers_asked assets (Some name) file = numbers_in assets file
+
+-- the numbers of a first file with those of the results where their name is asked for
+abbrev pub results_asked : List AssetRow → NumberTable → Option (List ℕ) → Option (List ℕ) → NumberTable
+results_asked assets first None file = first
+results_asked assets first (Some name) file = results_in first assets file
 
 abbrev pub adjustments_asked : List AssetRow → Option (List ℕ) → (Table → List RawAdjust) → List ColumnAdjustment
 adjustments_asked assets None rows = []
@@ -131,10 +141,15 @@ adjustments_held held q =
     let adjustments = adjustments_asked assets q.adjustments held.rows in
     revised_asked (days_held held) assets adjustments q.revisions (held.file Revisions)
 
+-- the numbers of both files
+abbrev pub numbers_held : Contents → WorldNames → NumberTable
+numbers_held held q =
+    let assets = assets_held held in
+    results_asked assets (numbers_asked assets q.numbers (held.file Numbers)) q.results (held.file Results)
+
 -- the world of these names
 abbrev pub world_held : Contents → WorldNames → World
 world_held held q =
     let assets = assets_held held in
     let labels = labels_asked assets q.labels (held.file Labels) in
-    let numbers = numbers_asked assets q.numbers (held.file Numbers) in
-    world_of (days_held held) assets labels.rows labels.texts (bars_held held) (adjustments_held held q) numbers
+    world_of (days_held held) assets labels.rows labels.texts (bars_held held) (adjustments_held held q) (numbers_held held q).rows

@@ -9,7 +9,7 @@ use Rattle.pl_world.specs.declared.owned.OwnedWorld.{OwnedWorld}
 use Rattle.pl_world.specs.Known.{ShowsSame}
 use Rattle.pl_world.specs.Worlds.{owned_world, IsOwnedMade}
 use Rattle.pl_planner.specs.Plans.{IsPlanOf}
-use Rattle.pl_words.specs.declared.request.InputFile.TheVariants.{Sessions, Assets, Labels, Numbers, Bars, Revisions}
+use Rattle.pl_words.specs.declared.request.InputFile.TheVariants.{Sessions, Assets, Labels, Numbers, Results, Bars, Revisions}
 use Rattle.pl_words.specs.Request.{Request, RunRequest, PlanRequest, WorldNames, Run, Plan, name_asked, adjustments_of}
 use Rattle.pl_load.specs.declared.fault.Fault.{Fault}
 use Rattle.pl_load.specs.Contents.{Contents, AreHeld}
@@ -80,6 +80,7 @@ pub record AsksWorld (asked : Option Request) (q : WorldNames) : Type 0 where
   pub assets : name_asked asked Assets ≡ Some q.assets
   pub labels : name_asked asked Labels ≡ q.labels
   pub numbers : name_asked asked Numbers ≡ q.numbers
+  pub results : name_asked asked Results ≡ q.results
   pub bars : name_asked asked Bars ≡ Some q.bars
   pub revisions : name_asked asked Revisions ≡ q.revisions
   pub adjustments : adjustments_of asked ≡ q.adjustments

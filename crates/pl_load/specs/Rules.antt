@@ -55,6 +55,7 @@ rows_limit files.Sessions = limits.Sessions
 rows_limit files.Assets = limits.Assets
 rows_limit files.Labels = limits.Labels
 rows_limit files.Numbers = limits.Numbers
+rows_limit files.Results = limits.Numbers
 rows_limit files.Bars = limits.Bars
 rows_limit files.Revisions = limits.Revisions
 rows_limit files.Payouts = limits.Payouts

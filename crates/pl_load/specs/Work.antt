@@ -8,7 +8,8 @@ use Rattle.pl_records.specs.Records.{csv_records}
 use Rattle.pl_calendar.specs.Days.{sessions_of}
 use Rattle.pl_lifetimes.specs.Assets.{assets_of}
 use Rattle.pl_assets.specs.Labels.{labels_of}
-use Rattle.pl_numbers.specs.Numbers.{numbers_of}
+use Rattle.pl_numbers.specs.Numbers.{NumberTable, numbers_of}
+use Rattle.pl_numbers.specs.Beside.{numbers_beside}
 use Rattle.pl_bars.specs.Bars.{bars_of}
 use Rattle.pl_payouts.specs.Payouts.{payouts_of}
 use Rattle.pl_adjust.specs.Walk as rows
@@ -24,8 +25,8 @@ use Rattle.pl_check.specs.Typed.{typed}
 use Rattle.pl_outside.specs.declared.keeper.Table.{Table}
 use Rattle.pl_outside.specs.declared.keeper.Table.TheVariants.{Splits, Mergers, Dividends}
 use Rattle.pl_words.specs.declared.request.InputFile.{InputFile}
-use Rattle.pl_words.specs.declared.request.InputFile.TheVariants.{Pipeline as PipelineFile, Sessions, Assets, Labels, Numbers, Bars, Revisions, Payouts as PayoutsFile, Derivation}
-use Rattle.pl_words.specs.Request.{Request, Run, Fmt, Check, Plan, Bench, Payouts, Explain, Verify, Daily, Cut, Windows, RunRequest, PlanRequest, ExplainRequest, VerifyRequest, WindowsRequest, WorldNames}
+use Rattle.pl_words.specs.declared.request.InputFile.TheVariants.{Pipeline as PipelineFile, Sessions, Assets, Labels, Numbers, Results, Bars, Revisions, Payouts as PayoutsFile, Derivation}
+use Rattle.pl_words.specs.Request.{Request, Run, Fmt, Check, Plan, Bench, Payouts, Explain, Verify, Daily, Cut, Windows, RunRequest, PlanRequest, ExplainRequest, VerifyRequest, WindowsRequest, WorldNames, numbers_named}
 use Rattle.pl_spec.specs.Limits.{most_pipeline_bytes, most_file_bytes}
 use Rattle.pl_load.specs.declared.fault.Limit.{Limit}
 use Rattle.pl_load.specs.declared.fault.Limit.TheVariants as limits
@@ -34,7 +35,7 @@ use Rattle.pl_load.specs.declared.fault.Fault.TheVariants.{Usage, Rule, Passed, 
 use Rattle.pl_load.specs.declared.fault.RuleFault.TheVariants.{NoNumbers}
 use Rattle.pl_load.specs.Contents.{Contents}
 use Rattle.pl_load.specs.Rules.{syntax_fault, rule_fault, data_fault, lines_fault, rows_fault}
-use Rattle.pl_load.specs.Held.{script_in, pipeline_held, days_held, assets_held, world_held, adjustments_of_rows}
+use Rattle.pl_load.specs.Held.{script_in, pipeline_held, days_held, assets_held, world_held, adjustments_of_rows, numbers_asked}
 use Rattle.pl_load.specs.Steps.{WorkStep, rule}
 use Rattle.pl_load.specs.Steps.Reading.{Bytes, Rows}
 use Rattle.pl_load.specs.Range.{range_steps, windows_steps}
@@ -90,6 +91,9 @@ labels_rule assets bytes = fault_in Labels (labels_of assets (csv_records bytes)
 unfoldable pub numbers_rule : List AssetRow → List ℕ → Option Fault
 numbers_rule assets bytes = fault_in Numbers (numbers_of assets (csv_records bytes))
 
+unfoldable pub results_rule : NumberTable → List AssetRow → List ℕ → Option Fault
+results_rule first assets bytes = fault_in Results (numbers_beside first assets (csv_records bytes))
+
 unfoldable pub bars_rule : List ℤ → List AssetRow → List ℕ → Option Fault
 bars_rule days assets bytes = fault_in Bars (bars_of days assets (csv_records bytes))
 
@@ -122,8 +126,8 @@ syntax_step file = read_step PipelineFile syntax_rule file
 abbrev pub pipeline_steps : Option (List ℕ) → List WorkStep
 pipeline_steps file = syntax_step file ∷ rule (script_rule (script_in file)) ∷ []
 
--- A pipeline that mentions a number is not computed where no numbers file is named; the fault stands at the
--- first mention.
+-- A pipeline that mentions a number is not computed where no file of numbers is named; the fault stands at
+-- the first mention.
 abbrev pub no_numbers_at : Place → Fault
 no_numbers_at place = Rule place NoNumbers
 
@@ -151,6 +155,17 @@ abbrev pub numbers_steps : List AssetRow → Option (List ℕ) → Option (List 
 numbers_steps assets None file = []
 numbers_steps assets (Some name) file = read_step Numbers (numbers_rule assets) file ∷ []
 
+-- a file of results, whose numbers stand beside those of the first
+abbrev pub results_steps : List AssetRow → NumberTable → Option (List ℕ) → Option (List ℕ) → List WorkStep
+results_steps assets first None file = []
+results_steps assets first (Some name) file = read_step Results (results_rule first assets) file ∷ []
+
+-- both files of numbers
+abbrev pub figures_steps : List AssetRow → Contents → WorldNames → List WorkStep
+figures_steps assets held q =
+    numbers_steps assets q.numbers (held.file Numbers)
+    ++ results_steps assets (numbers_asked assets q.numbers (held.file Numbers)) q.results (held.file Results)
+
 abbrev pub load_step : (Table → List RawAdjust) → Table → WorkStep
 load_step rows table = record { reads = Some (Rows table (rows table)); fault = None }
 
@@ -174,7 +189,7 @@ revised_steps days assets held q =
 abbrev pub rows_steps : List ℤ → List AssetRow → Contents → WorldNames → List WorkStep
 rows_steps days assets held q =
     labels_steps assets q.labels (held.file Labels)
-    ++ (numbers_steps assets q.numbers (held.file Numbers)
+    ++ (figures_steps assets held q
     ++ read_step Bars (bars_rule days assets) (held.file Bars) ∷ revised_steps days assets held q)
 
 -- Each file is read whole and judged before the next one is begun.
@@ -186,7 +201,7 @@ data_steps held q =
 -- first the pipeline file, then the data, and then the range
 abbrev pub run_work : Contents → RunRequest → List WorkStep
 run_work held q =
-    evaluated_steps (held.file PipelineFile) q.world.numbers
+    evaluated_steps (held.file PipelineFile) (numbers_named q.world)
     ++ (data_steps held q.world ++ range_steps (pipeline_held held) (days_held held) q.from q.to q.options.as_of)
 
 abbrev pub derivation_step : Option (List ℕ) → WorkStep
@@ -195,7 +210,7 @@ derivation_step file = read_step Derivation lines_rule file
 -- the pipeline file, the data, and then the cell
 abbrev pub cell_work : Contents → ExplainRequest → List WorkStep
 cell_work held q =
-    evaluated_steps (held.file PipelineFile) q.world.numbers
+    evaluated_steps (held.file PipelineFile) (numbers_named q.world)
     ++ (data_steps held q.world ++ cell_steps (pipeline_held held) (days_held held) (assets_held held) q)
 
 -- ... and how long its derivation is
@@ -205,7 +220,7 @@ explain_work held q = cell_work held q ++ lines_step (world_held held q.world) (
 -- the pipeline file, the data, and then the derivation
 abbrev pub verify_work : Contents → VerifyRequest → List WorkStep
 verify_work held q =
-    evaluated_steps (held.file PipelineFile) q.world.numbers
+    evaluated_steps (held.file PipelineFile) (numbers_named q.world)
     ++ (data_steps held q.world ++ derivation_step (held.file Derivation) ∷ [])
 
 -- the pipeline file, the sessions, and the range

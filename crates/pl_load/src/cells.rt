@@ -46,7 +46,7 @@ pub fn load_cell<S: Shelf, K: AdjustKeeper>(
         (explain_of request.now) result }
     ensures explainable { IfOk result IsExplainable }
 {
-    let checked = read_evaluated(alloc, shelf, request.pipeline, request.world.numbers)?;
+    let checked = read_evaluated(alloc, shelf, request.pipeline, &request.world)?;
     let world = read_world(alloc, &request.world, shelf, keeper)?;
     let cell = judge_cell(alloc, request, &checked, &world.sessions, &world.assets)?;
     Ok(LoadedCell {

@@ -48,7 +48,7 @@ pub fn load_derivation<S: Shelf, K: AdjustKeeper>(
         (verify_of request.now) result }
     ensures made { IfOk result (λ l. IsOwnedMade l.world) }
 {
-    let checked = read_evaluated(alloc, shelf, request.pipeline, request.world.numbers)?;
+    let checked = read_evaluated(alloc, shelf, request.pipeline, &request.world)?;
     let world = read_world(alloc, &request.world, shelf, keeper)?;
     let derivation = read_derivation(alloc, shelf, request.derivation)?;
     Ok(LoadedDerivation {

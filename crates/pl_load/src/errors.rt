@@ -2,8 +2,10 @@
 
 ghost use Rattle.std.specs.Prelude.{◌≡◌};
 ghost use Rattle.pl_words.specs.declared.request.InputFile.TheVariants as files;
+ghost use Rattle.pl_numbers.specs.NumberFaults as numbers;
+ghost use Rattle.pl_load.specs.declared.fault.Limit.TheVariants as limits;
 ghost use Rattle.pl_load.specs.Stages.{IsErrorFault};
-ghost use Rattle.pl_load.specs.Rules.{line_fault, fault_or_memory, rows_fault, syntax_error, rule_fault, check_error, plan_error, lines_error, explain_error};
+ghost use Rattle.pl_load.specs.Rules.{line_fault, fault_or_memory, rows_fault, rows_limit, syntax_error, rule_fault, check_error, plan_error, lines_error, explain_error};
 
 use crate::fault::{Fault, Limit, RowFault, RuleFault, SyntaxFault};
 use pl_adjust::{AdjustError, RevisionsError};
@@ -123,20 +125,25 @@ impl From<LabelsError> for Fault {
 }
 
 impl From<NumbersError> for Fault {
-    ghost use Rattle.pl_numbers.specs.NumberFaults as numbers;
-
     ghost from_gives = { λ error fault. IsErrorFault fault (line_fault files.Numbers (numbers.fault_of error)) };
 
     fn from(error: NumbersError) -> Fault {
-        let file = InputFile::Numbers;
-        match error {
-            NumbersError::BadHeader => faulty(file, 1, DataFault::BadHeader),
-            NumbersError::BadField { line } => faulty(file, line, DataFault::BadField),
-            NumbersError::UnknownSid { line } => faulty(file, line, DataFault::UnknownSid),
-            NumbersError::Duplicate { line } => faulty(file, line, DataFault::Duplicate),
-            NumbersError::TooMany { .. } => Fault::Passed(Limit::Numbers),
-            NumbersError::Memory => Fault::Memory,
-        }
+        numbers_fault(InputFile::Numbers, error)
+    }
+}
+
+// The fault of a file of numbers, which is the first one or that of the results.
+pub(crate) fn numbers_fault(file: InputFile, error: NumbersError) -> Fault
+    requires { rows_limit file ≡ limits.Numbers }
+    ensures { IsErrorFault result (line_fault file (numbers.fault_of error)) }
+{
+    match error {
+        NumbersError::BadHeader => faulty(file, 1, DataFault::BadHeader),
+        NumbersError::BadField { line } => faulty(file, line, DataFault::BadField),
+        NumbersError::UnknownSid { line } => faulty(file, line, DataFault::UnknownSid),
+        NumbersError::Duplicate { line } => faulty(file, line, DataFault::Duplicate),
+        NumbersError::TooMany { .. } => Fault::Passed(Limit::Numbers),
+        NumbersError::Memory => Fault::Memory,
     }
 }
 

@@ -5,11 +5,14 @@ ghost use Rattle.pl_payouts.specs.Payouts.{AreKnown};
 ghost use Rattle.pl_syntax.specs.Scripts.{parsed};
 ghost use Rattle.pl_terms.specs.Checked.{pipeline_of};
 ghost use Rattle.pl_words.specs.declared.request.InputFile.TheVariants as files;
-ghost use Rattle.pl_load.specs.Held.{script_in, pipeline_in, days_in, assets_in, labels_asked, numbers_asked, bars_in, revised_asked, payouts_in, derivation_in};
-ghost use Rattle.pl_load.specs.Work.{cap_of, read_step, syntax_step, pipeline_steps, evaluated_steps, sessions_rule, assets_rule, labels_steps, numbers_steps, bars_rule, revisions_steps, payouts_rule, derivation_step};
+ghost use Rattle.pl_words.specs.Request.{numbers_named};
+ghost use Rattle.pl_words.specs.Views.{world_names_of};
+ghost use Rattle.pl_load.specs.Held.{script_in, pipeline_in, days_in, assets_in, labels_asked, numbers_asked, results_asked, bars_in, revised_asked, payouts_in, derivation_in};
+ghost use Rattle.pl_load.specs.Work.{cap_of, read_step, syntax_step, pipeline_steps, evaluated_steps, sessions_rule, assets_rule, labels_steps, numbers_steps, results_steps, bars_rule, revisions_steps, payouts_rule, derivation_step};
 ghost use Rattle.pl_load.specs.Views.{shelf_change};
 ghost use Rattle.pl_load.specs.Reads.{IsRead, IsPassedOn, no_rule};
 
+use crate::errors::numbers_fault;
 use crate::fault::Fault;
 use crate::limits::{cap_of, limit_of};
 use crate::numbered::judge_numbers;
@@ -24,7 +27,7 @@ use pl_outside::{ReadError, Shelf, Taker, read_file, read_pieces};
 use pl_payouts::Payouts;
 use pl_syntax::{Script, parse};
 use pl_terms::Checked;
-use pl_words::InputFile;
+use pl_words::{InputFile, WorldNames};
 use std::alloc::Global;
 
 // The whole bytes of a file.
@@ -91,22 +94,22 @@ pub fn read_checked<S: Shelf>(alloc: Global, shelf: &mut S, name: &str) -> Resul
     Ok(check(alloc, &script)?)
 }
 
-/// The same for a command that reads bars, and the numbers file of the other name where one is given. The
-/// fault is also that the pipeline has a number, and no numbers file is named.
+/// The same for a command that reads bars of a world of these names. The fault is also that the pipeline has
+/// a number, and no file of numbers is named.
 pub fn read_evaluated<S: Shelf>(
     alloc: Global,
     shelf: &mut S,
     name: &str,
-    numbers: Option<&str>,
+    world: &WorldNames<'_>,
 ) -> Result<Checked, Fault>
-    ensures { let asked = option_map (λ n. n.now) numbers.entry in
+    ensures { let asked = numbers_named (world_names_of world.now) in
         IsRead (shelf_change S.Shelf shelf.old shelf.new)
         (Some name.now) (λ held. evaluated_steps held asked)
         (λ held checked. pipeline_in held ≡ pipeline_of checked) result }
 {
     let script = read_script(alloc, shelf, name)?;
     let checked = check(alloc, &script)?;
-    judge_numbers(&script, numbers)?;
+    judge_numbers(&script, world.numbers_named())?;
     Ok(checked)
 }
 
@@ -167,7 +170,8 @@ pub fn read_numbers<S: Shelf>(
     ensures read { let asked = option_map (λ n. n.now) name.entry in
         IsRead (shelf_change S.Shelf shelf.old shelf.new)
         asked (numbers_steps assets.now asked)
-        (λ held numbers. numbers_asked assets.now asked held ≡ numbers.rows) result }
+        (λ held numbers. numbers_asked assets.now asked held ≡ numbers) result }
+    ensures named { IfOk result (λ numbers. length numbers.names ≤ length numbers.rows) }
     ensures cols { IfOk result (λ numbers. All (λ r. r.col < length assets.now) numbers.rows) }
 {
     match name {
@@ -175,6 +179,35 @@ pub fn read_numbers<S: Shelf>(
         Some(name) => {
             let bytes = read_input(alloc, shelf, name, InputFile::Numbers)?;
             Ok(Numbers::read(alloc, &bytes, assets)?)
+        }
+    }
+}
+
+/// The numbers of a first file with those of the file of results of that name; as they are where no name is
+/// given, and then nothing is read.
+pub fn read_results<S: Shelf>(
+    alloc: Global,
+    shelf: &mut S,
+    name: Option<&str>,
+    assets: &Assets,
+    numbers: Numbers,
+) -> Result<Numbers, Fault>
+    requires named { length numbers.names ≤ length numbers.rows }
+    requires cols { All (λ r. r.col < length assets.now) numbers.rows }
+    ensures read { let asked = option_map (λ n. n.now) name.entry in
+        IsRead (shelf_change S.Shelf shelf.old shelf.new)
+        asked (results_steps assets.now numbers asked)
+        (λ held both. results_asked assets.now numbers asked held ≡ both) result }
+    ensures cols { IfOk result (λ both. All (λ r. r.col < length assets.now) both.rows) }
+{
+    match name {
+        None => Ok(numbers),
+        Some(name) => {
+            let bytes = read_input(alloc, shelf, name, InputFile::Results)?;
+            match numbers.with_file(alloc, &bytes, assets) {
+                Ok(both) => Ok(both),
+                Err(error) => Err(numbers_fault(InputFile::Results, error)),
+            }
         }
     }
 }

@@ -23,6 +23,7 @@ pub fn cap_of(file: InputFile) -> usize
         | InputFile::Assets
         | InputFile::Labels
         | InputFile::Numbers
+        | InputFile::Results
         | InputFile::Bars
         | InputFile::Revisions
         | InputFile::Payouts
@@ -40,6 +41,7 @@ pub fn limit_of(file: InputFile) -> Limit
         | InputFile::Assets
         | InputFile::Labels
         | InputFile::Numbers
+        | InputFile::Results
         | InputFile::Bars
         | InputFile::Revisions
         | InputFile::Payouts

@@ -7,13 +7,13 @@ ghost use Rattle.pl_words.specs.Views.{run_of, world_names_of};
 ghost use Rattle.pl_world.specs.Worlds.{AreMadeFor, IsOwnedMade};
 ghost use Rattle.pl_load.specs.declared.fault.Fault.TheVariants.{Memory};
 ghost use Rattle.pl_load.specs.Views.{shelf_change, keeper_change};
-ghost use Rattle.pl_load.specs.Parts.{IsWorldLoad, IsRowsLoad, IsRevisedLoad};
+ghost use Rattle.pl_load.specs.Parts.{IsWorldLoad, IsRowsLoad, IsRevisedLoad, IsFiguresLoad};
 ghost use Rattle.pl_load.specs.Loads.{IsData, IsKnown, IsLoad, IsReadyRun};
 
 use crate::fault::Fault;
 use crate::inputs::{
-    read_assets, read_bars, read_evaluated, read_labels, read_numbers, read_revisions,
-    read_sessions,
+    read_assets, read_bars, read_evaluated, read_labels, read_numbers, read_results,
+    read_revisions, read_sessions,
 };
 use crate::range::{judge_dates, judge_plan};
 use crate::tables::read_adjustments;
@@ -65,9 +65,9 @@ pub(crate) struct WorldRows {
 }
 
 /// Reads and judges all that a run asks for, each file whole before the next one: the pipeline file, the
-/// sessions, assets, labels, numbers, bars, adjustments and revisions, and then the range. Labels, numbers,
-/// adjustments and revisions are read only where they are asked for. The fault is the first one in this
-/// order, or want of memory.
+/// sessions, assets, labels, numbers, results, bars, adjustments and revisions, and then the range. Labels,
+/// numbers, results, adjustments and revisions are read only where they are asked for. The fault is the first
+/// one in this order, or want of memory.
 pub fn load<S: Shelf, K: AdjustKeeper>(
     alloc: Global,
     request: &RunRequest<'_>,
@@ -79,7 +79,7 @@ pub fn load<S: Shelf, K: AdjustKeeper>(
         (run_of request.now) result }
     ensures ready { IfOk result IsReadyRun }
 {
-    let checked = read_evaluated(alloc, shelf, request.pipeline, request.world.numbers)?;
+    let checked = read_evaluated(alloc, shelf, request.pipeline, &request.world)?;
     let planned = load_world(alloc, request, &checked, shelf, keeper)?;
     let PlannedWorld { world, plan } = planned;
     Ok(Loaded {
@@ -180,7 +180,7 @@ fn read_rows<S: Shelf, K: AdjustKeeper>(
         AreMadeFor sessions.now assets.now r.labels.rows r.bars r.adjustments r.numbers.rows) }
 {
     let labels = read_labels(alloc, shelf, names.labels, assets)?;
-    let numbers = read_numbers(alloc, shelf, names.numbers, assets)?;
+    let numbers = read_figures(alloc, names, assets, shelf)?;
     let bars = read_bars(alloc, shelf, names.bars, sessions, assets)?;
     let adjustments = read_revised(alloc, names, sessions, assets, shelf, keeper)?;
     Ok(WorldRows {
@@ -189,6 +189,21 @@ fn read_rows<S: Shelf, K: AdjustKeeper>(
         bars,
         adjustments,
     })
+}
+
+// The numbers of the world of these names with its results, after the labels.
+fn read_figures<S: Shelf>(
+    alloc: Global,
+    names: &WorldNames<'_>,
+    assets: &Assets,
+    shelf: &mut S,
+) -> Result<Numbers, Fault>
+    ensures figures { IsFiguresLoad (shelf_change S.Shelf shelf.old shelf.new)
+        (world_names_of names.now) assets.now result }
+    ensures cols { IfOk result (λ numbers. All (λ r. r.col < length assets.now) numbers.rows) }
+{
+    let first = read_numbers(alloc, shelf, names.numbers, assets)?;
+    read_results(alloc, shelf, names.results, assets, first)
 }
 
 // The adjustments of the world of these names with their revisions, after the labels, numbers and bars.

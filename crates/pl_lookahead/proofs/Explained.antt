@@ -17,7 +17,7 @@ use Rattle.pl_laws.proofs.Law.{SeenAlike}
 use Rattle.pl_values.proofs.Texts.{seen-in}
 use Rattle.pl_assets.specs.Labels.{DataFault, LabelTable, is_text, texts_of, table_of, label_rows_in, labels_of}
 use Rattle.pl_words.specs.declared.request.InputFile.TheVariants.{Pipeline as PipelineFile, Labels}
-use Rattle.pl_words.specs.Request.{Explain, ExplainRequest}
+use Rattle.pl_words.specs.Request.{Explain, ExplainRequest, numbers_named}
 use Rattle.pl_derivation.specs.Lines.{Line}
 use Rattle.pl_derivation.specs.Texts as lines
 use Rattle.pl_derivation.specs.Walks.{derivation}
@@ -84,7 +84,7 @@ asked held q h =
     let days = days_held held in
     let cell = cell_steps (pipeline_held held) days (assets_held held) q in
     let one = first-none (cell_work held q) (lines_step (world_held held q.world) (pipeline_held held) q ∷ []) h in
-    let two = first-none (evaluated_steps (held.file PipelineFile) q.world.numbers) (data_steps held q.world ++ cell) one.0 in
+    let two = first-none (evaluated_steps (held.file PipelineFile) (numbers_named q.world)) (data_steps held q.world ++ cell) one.0 in
     let three = first-none (data_steps held q.world) cell two.1 in
     let found = date-found (pipeline_held held) days (assets_held held) q three.1 in
     record { read = data-read held q.world three.0; at = found.0; at_is = place-at days q.date.day found.0 found.1; index_is = ap (λ o. unwrap_or o 0) found.1 }

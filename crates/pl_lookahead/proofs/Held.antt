@@ -14,7 +14,10 @@ use Rattle.pl_lifetimes.specs.Assets.{AreAssets}
 use Rattle.pl_lifetimes.proofs.AssetsRead.{AreAssets-read}
 use Rattle.pl_assets.specs.Labels.{LabelTable, is_from, labels_of}
 use Rattle.pl_bars.proofs.BarsRead.{AreBars-read, AreInside-read}
-use Rattle.pl_numbers.specs.Numbers.{numbers_of}
+use Rattle.pl_numbers.specs.Numbers.{NumberTable, numbers_of}
+use Rattle.pl_numbers.specs.Beside.{numbers_beside}
+use Rattle.pl_numbers.proofs.NumbersBeside.{AreKept, beside-kept, none-kept, table-kept}
+use Rattle.pl_numbers.proofs.NumbersRead as figures
 use Rattle.pl_adjust.specs.Columns.{by_place}
 use Rattle.pl_adjust.specs.Revised.{AreKnown, revised}
 use Rattle.pl_adjust.specs.Revisions.{revisions_of}
@@ -25,13 +28,12 @@ use Rattle.pl_adjust.proofs.RevisionsRead.{AreRevisions-read}
 use Rattle.pl_adjust.proofs.Sids.{Known, tables_known}
 use Rattle.pl_outside.specs.declared.keeper.Table.{Table}
 use Rattle.pl_outside.specs.declared.keeper.Table.TheVariants.{Splits, Mergers, Dividends}
-use Rattle.pl_words.specs.declared.request.InputFile.TheVariants.{Sessions, Assets, Labels, Numbers, Bars, Revisions}
+use Rattle.pl_words.specs.declared.request.InputFile.TheVariants.{Sessions, Assets, Labels, Numbers, Results, Bars, Revisions}
 use Rattle.pl_words.specs.Request.{WorldNames}
-use Rattle.pl_world.proofs.Made.{AreParts, bars_once, is_world, labels_once}
+use Rattle.pl_world.proofs.Made.{AreParts, bars_once, is_world, labels_once, numbers-once}
 use Rattle.pl_world.proofs.Moved.{AreRead-labels}
-use Rattle.pl_world.proofs.NumbersMoved.{table-once}
 use Rattle.pl_load.specs.Contents.{Contents}
-use Rattle.pl_load.specs.Held.{adjustments_asked, adjustments_from, adjustments_held, adjustments_of_rows, assets_held, bars_held, days_held, labels_asked, labels_in, numbers_asked, numbers_in, revised_asked, revisions_in, world_held}
+use Rattle.pl_load.specs.Held.{adjustments_asked, adjustments_from, adjustments_held, adjustments_of_rows, assets_held, bars_held, days_held, labels_asked, labels_in, numbers_asked, numbers_held, numbers_in, results_asked, results_in, revised_asked, revisions_in, world_held}
 use Rattle.pl_lookahead.specs.Agreement.{of_table_asked, revisions_asked, revisions_held}
 use Rattle.pl_lookahead.proofs.Adjusted.{placed, placed-by_day, placed-events, placed-in, placed-revised}
 use Rattle.pl_lookahead.proofs.Known.{HasEachOnce}
@@ -39,10 +41,18 @@ use Rattle.pl_lookahead.proofs.Readable.{AreRead, records_in}
 
 -- ---- numbers
 
-numbers-held : (assets : List AssetRow) → AllPairs (λ a b. a.sid < b.sid) assets → (name file : Option (List ℕ))
-    → ForSome name (λ n. numbers_of assets (records_in file) ≡ Ok (numbers_in assets file)) → NumbersOnce (map (number_of assets) (numbers_asked assets name file))
-numbers-held assets up None file h = λ r q first second. absurd (omega (arith, first.1))
-numbers-held assets up (Some n) file h = table-once assets up (records_in file) (numbers_in assets file) (h n refl)
+pub numbers-kept : (assets : List AssetRow) (name file : Option (List ℕ))
+    → ForSome name (λ n. numbers_of assets (records_in file) ≡ Ok (numbers_in assets file)) → AreKept assets (numbers_asked assets name file)
+numbers-kept assets None file h = none-kept assets
+numbers-kept assets (Some n) file h = table-kept assets (records_in file) (numbers_in assets file) (h n refl)
+
+pub figures-kept : (assets : List AssetRow) (first : NumberTable) → AreKept assets first → (name file : Option (List ℕ))
+    → ForSome name (λ n. numbers_beside first assets (records_in file) ≡ Ok (results_in first assets file)) → figures.AreRead assets (results_asked assets first name file).rows
+figures-kept assets first kept None file h = kept.read
+figures-kept assets first kept (Some n) file h = (beside-kept assets first (records_in file) (results_in first assets file) kept (h n refl)).read
+
+numbers-held : (assets : List AssetRow) → AllPairs (λ a b. a.sid < b.sid) assets → (rows : List ColumnNumber) → figures.AreRead assets rows → NumbersOnce (map (number_of assets) rows)
+numbers-held assets up rows read = numbers-once assets rows up read.cols read.once
 
 -- ---- labels
 
@@ -113,7 +123,7 @@ module _ (held : Contents) (q : WorldNames) (read : AreRead held q) where
   labels = labels_asked assets q.labels (held.file Labels)
 
   abbrev numbers : List ColumnNumber
-  numbers = numbers_asked assets q.numbers (held.file Numbers)
+  numbers = (numbers_held held q).rows
 
   -- the adjustments of the tables, and then the revisions
   abbrev pub told_tables : List Adjustment
@@ -167,7 +177,7 @@ module _ (held : Contents) (q : WorldNames) (read : AreRead held q) where
         world = is_world days assets labels.rows labels.texts (bars_held held) parts-are (placed assets told) inside ordered numbers;
         bars = bars_once days assets labels.rows labels.texts (bars_held held) parts-are (placed assets told) inside ordered numbers;
         labels = labels_once days assets labels.rows labels.texts (bars_held held) parts-are (placed assets told) inside ordered numbers;
-        numbers = numbers-held assets assets-are.ascend q.numbers (held.file Numbers) read.numbers;
+        numbers = numbers-held assets assets-are.ascend numbers (figures-kept assets _ (numbers-kept assets q.numbers (held.file Numbers) read.numbers) q.results (held.file Results) read.results);
       }
 
   pub held-once : HasEachOnce (world_held held q)

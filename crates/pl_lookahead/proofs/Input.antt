@@ -1,6 +1,6 @@
 -- The same input gives the same text.
-use Rattle.std.proofs.Common.{◌≡◌, inl, inr, ℕ, ℤ, Bool, true, false, List, [], ◌∷◌, ◌++◌, map, flat_map, option_to_list, Option, Some, None, option_map, unwrap_or, refl, sym, ◌∙◌, ap, ap₂, subst, arith, append_assoc}
-use Rattle.std.specs.Option.{ForSome, option_or}
+use Rattle.std.proofs.Common.{◌≡◌, inl, inr, ℕ, ℤ, Bool, true, false, List, [], ◌∷◌, ◌++◌, map, option_to_list, Option, Some, None, option_map, unwrap_or, refl, sym, ◌∙◌, ap, ap₂, subst, arith, append_assoc}
+use Rattle.std.specs.Option.{ForSome}
 use Rattle.std.proofs.Math.Path.{fun_ext}
 use Rattle.std.proofs.lemmas.Bool.{true≢false}
 use Rattle.pl_spec.specs.declared.AssetRow.{AssetRow}
@@ -15,19 +15,20 @@ use Rattle.pl_derivation.specs.Right.{first_wrong}
 use Rattle.pl_payouts.specs.Texts.{payouts_text}
 use Rattle.pl_syntax.specs.Canonical.{script_text}
 use Rattle.pl_windows.specs.Windows.{windows_text}
+use Rattle.pl_numbers.specs.Numbers.{NumberTable}
 use Rattle.pl_words.specs.declared.request.InputFile.{InputFile}
 use Rattle.pl_words.specs.declared.request.InputFile.TheVariants as file
 use Rattle.pl_words.specs.Request.{Request, Run, Fmt, Check, Plan, Bench, Payouts, Explain, Verify, Daily, Cut, Windows, BenchRequest, CutRequest, ExplainRequest, PayoutsRequest, PlanRequest, RunRequest, VerifyRequest, WindowsRequest, WorldNames, name_asked, adjustments_of}
 use Rattle.pl_load.specs.Contents.{Contents}
 use Rattle.pl_load.specs.Given.{Log, given_file, loaded_table, logged}
-use Rattle.pl_load.specs.Held.{assets_held, assets_in, bars_in, days_held, days_in, derivation_in, payouts_in, pipeline_held, pipeline_in, script_in, world_held}
+use Rattle.pl_load.specs.Held.{numbers_asked, assets_held, assets_in, bars_in, days_held, days_in, derivation_in, payouts_in, pipeline_held, pipeline_in, script_in, world_held}
 use Rattle.pl_load.specs.Loads.{AsksWorld}
 use Rattle.pl_load.specs.Range.{index_of, dates_steps, first_window_steps, plan_steps, range_steps, windows_steps}
 use Rattle.pl_load.specs.Cells.{cell_steps, lines_step}
 use Rattle.pl_load.specs.Steps.{Reading, Source, WorkStep, first_fault, reads_in}
 use Rattle.pl_load.specs.Steps.Reading.{Bytes, Rows}
 use Rattle.pl_load.specs.Steps.Source.{Input, Load}
-use Rattle.pl_load.specs.Work.{adjustments_steps, data_steps, evaluated_steps, labels_steps, numbers_steps, revisions_steps, derivation_step, work}
+use Rattle.pl_load.specs.Work.{adjustments_steps, data_steps, figures_steps, labels_steps, numbers_steps, results_steps, revisions_steps, derivation_step, work}
 use Rattle.pl_load.proofs.KnownWorlds.{run-asks, explain-asks, verify-asks, windows-asks}
 use Rattle.pl_cli.proofs.Asked.{logged-by}
 use Rattle.pl_cli.specs.Texts.{check_text, derivation_text, part_text, planned_text, text_of, verdict_text}
@@ -62,9 +63,12 @@ abbrev asked_tables : Option (List ℕ) → List Source
 asked_tables None = []
 asked_tables (Some n) = Load Splits ∷ Load Mergers ∷ Load Dividends ∷ []
 
+abbrev asked_figures : WorldNames → List Source
+asked_figures q = asked_file file.Numbers q.numbers ++ asked_file file.Results q.results
+
 abbrev world_sources : WorldNames → List Source
 world_sources q =
-    Input file.Sessions ∷ Input file.Assets ∷ (asked_file file.Labels q.labels ++ (asked_file file.Numbers q.numbers
+    Input file.Sessions ∷ Input file.Assets ∷ (asked_file file.Labels q.labels ++ (asked_figures q
     ++ Input file.Bars ∷ (asked_tables q.adjustments ++ asked_file file.Revisions q.revisions)))
 
 abbrev sources : Request → List Source
@@ -109,6 +113,17 @@ numbers-in : (held : Contents) (assets : List AssetRow) (name : Option (List ℕ
 numbers-in held assets None = refl
 numbers-in held assets (Some n) = refl
 
+results-in : (held : Contents) (assets : List AssetRow) (first : NumberTable) (name : Option (List ℕ))
+    → all_in (results_steps assets first name (held.file file.Results)) ≡ map (read_at held) (asked_file file.Results name)
+results-in held assets first None = refl
+results-in held assets first (Some n) = refl
+
+figures-in : (held : Contents) (assets : List AssetRow) (q : WorldNames) → all_in (figures_steps assets held q) ≡ map (read_at held) (asked_figures q)
+figures-in held assets q =
+    let first = numbers_asked assets q.numbers (held.file file.Numbers) in
+    both-in held (numbers_steps assets q.numbers (held.file file.Numbers)) (results_steps assets first q.results (held.file file.Results))
+    (asked_file file.Numbers q.numbers) (asked_file file.Results q.results) (numbers-in held assets q.numbers) (results-in held assets first q.results)
+
 tables-in : (held : Contents) (assets : List AssetRow) (name : Option (List ℕ)) → all_in (adjustments_steps assets name held.rows) ≡ map (read_at held) (asked_tables name)
 tables-in held assets None = refl
 tables-in held assets (Some n) = refl
@@ -125,10 +140,10 @@ data-in held q =
     let tables = both-in held (adjustments_steps assets q.adjustments held.rows) (revisions_steps days assets q.revisions (held.file file.Revisions)) (asked_tables q.adjustments) (asked_file file.Revisions q.revisions)
     (tables-in held assets q.adjustments) (revisions-in held days assets q.revisions) in
     let bars = ap (λ xs. Bytes file.Bars (held.file file.Bars) ∷ xs) tables in
-    let numbers = both-in held (numbers_steps assets q.numbers (held.file file.Numbers)) _ (asked_file file.Numbers q.numbers) (Input file.Bars ∷ (asked_tables q.adjustments ++ asked_file file.Revisions q.revisions))
-    (numbers-in held assets q.numbers) bars in
+    let numbers = both-in held (figures_steps assets held q) _ (asked_figures q) (Input file.Bars ∷ (asked_tables q.adjustments ++ asked_file file.Revisions q.revisions))
+    (figures-in held assets q) bars in
     let labels = both-in held (labels_steps assets q.labels (held.file file.Labels)) _ (asked_file file.Labels q.labels)
-    (asked_file file.Numbers q.numbers ++ Input file.Bars ∷ (asked_tables q.adjustments ++ asked_file file.Revisions q.revisions)) (labels-in held assets q.labels) numbers in
+    (asked_figures q ++ Input file.Bars ∷ (asked_tables q.adjustments ++ asked_file file.Revisions q.revisions)) (labels-in held assets q.labels) numbers in
     ap (λ xs. Bytes file.Sessions (held.file file.Sessions) ∷ Bytes file.Assets (held.file file.Assets) ∷ xs) labels
 
 with-data : (held : Contents) (q : WorldNames) (rest : List WorkStep) → all_in rest ≡ [] → all_in (data_steps held q ++ rest) ≡ map (read_at held) (world_sources q)
@@ -231,16 +246,19 @@ module _ (asked : Option Request) (one other : Contents) where
   world-told q names h =
       let labels = asked_file file.Labels q.labels in
       let numbers = asked_file file.Numbers q.numbers in
+      let results = asked_file file.Results q.results in
       let tables = asked_tables q.adjustments in
       let revisions = asked_file file.Revisions q.revisions in
-      let after = all-back labels (numbers ++ Input file.Bars ∷ (tables ++ revisions)) h.1.1 in
-      let bars = all-back numbers (Input file.Bars ∷ (tables ++ revisions)) after in
+      let after = all-back labels ((numbers ++ results) ++ Input file.Bars ∷ (tables ++ revisions)) h.1.1 in
+      let figures = all-front (numbers ++ results) (Input file.Bars ∷ (tables ++ revisions)) after in
+      let bars = all-back (numbers ++ results) (Input file.Bars ∷ (tables ++ revisions)) after in
       record {
         sessions = h.0 q.sessions names.sessions;
         assets = h.1.0 q.assets names.assets;
         bars = bars.0 q.bars names.bars;
         labels = file-same file.Labels q.labels names.labels (all-front labels _ h.1.1);
-        numbers = file-same file.Numbers q.numbers names.numbers (all-front numbers _ after);
+        numbers = file-same file.Numbers q.numbers names.numbers (all-front numbers results figures);
+        results = file-same file.Results q.results names.results (all-back numbers results figures);
         tables = tables-same q.adjustments names.adjustments (all-front tables revisions bars.1);
         revisions = file-same file.Revisions q.revisions names.revisions (all-back tables revisions bars.1);
       }
@@ -248,10 +266,10 @@ module _ (asked : Option Request) (one other : Contents) where
 -- ---- the text of the same contents
 
 daily-asks : (q : RunRequest) → AsksWorld (Some (Daily q)) q.world
-daily-asks q = record { sessions = refl; assets = refl; labels = refl; numbers = refl; bars = refl; revisions = refl; adjustments = refl }
+daily-asks q = record { sessions = refl; assets = refl; labels = refl; numbers = refl; results = refl; bars = refl; revisions = refl; adjustments = refl }
 
 cut-asks : (q : CutRequest) → AsksWorld (Some (Cut q)) q.table.world
-cut-asks q = record { sessions = refl; assets = refl; labels = refl; numbers = refl; bars = refl; revisions = refl; adjustments = refl }
+cut-asks q = record { sessions = refl; assets = refl; labels = refl; numbers = refl; results = refl; bars = refl; revisions = refl; adjustments = refl }
 
 -- of one request
 same-request : (q : RunRequest) → AskSame q q

@@ -13,22 +13,23 @@ use Rattle.pl_spec.specs.declared.RawAdjust.{RawAdjust}
 use Rattle.pl_calendar.specs.Days.{sessions_of}
 use Rattle.pl_lifetimes.specs.Assets.{assets_of}
 use Rattle.pl_assets.specs.Labels.{labels_of, no_labels}
-use Rattle.pl_numbers.specs.Numbers.{numbers_of}
+use Rattle.pl_numbers.specs.Numbers.{NumberTable, numbers_of}
+use Rattle.pl_numbers.specs.Beside.{numbers_beside}
 use Rattle.pl_bars.specs.Bars.{bars_of}
 use Rattle.pl_adjust.specs.Walk as rows
 use Rattle.pl_adjust.specs.Revisions.{revisions_of}
 use Rattle.pl_outside.specs.declared.keeper.Table.{Table}
 use Rattle.pl_words.specs.declared.request.InputFile.{InputFile}
-use Rattle.pl_words.specs.declared.request.InputFile.TheVariants.{Sessions, Assets, Labels, Numbers, Bars, Revisions}
+use Rattle.pl_words.specs.declared.request.InputFile.TheVariants.{Sessions, Assets, Labels, Numbers, Bars, Revisions, Results}
 use Rattle.pl_pipeline.specs.Table.{Pipeline}
 use Rattle.pl_words.specs.Request.{Dated, ExplainRequest, WorldNames}
 use Rattle.pl_load.specs.Cells.{cell_steps}
 use Rattle.pl_load.specs.declared.fault.Fault.{Fault}
 use Rattle.pl_load.specs.Contents.{Contents}
-use Rattle.pl_load.specs.Held.{bytes_in, days_held, days_in, assets_held, assets_in, bars_held, bars_in, labels_in, numbers_in, no_numbers, revisions_in, adjustments_from, adjustments_of_rows}
+use Rattle.pl_load.specs.Held.{bytes_in, days_held, days_in, assets_held, assets_in, bars_held, bars_in, labels_in, numbers_asked, numbers_in, no_numbers, results_in, revisions_in, adjustments_from, adjustments_of_rows}
 use Rattle.pl_load.specs.Range.{session_of, index_of, index_asked, is_unknown, are_backwards, dates_steps}
 use Rattle.pl_load.specs.Steps.{WorkStep, first_fault, when}
-use Rattle.pl_load.specs.Work.{file_fault, fault_in, fault_of_rows, sessions_rule, assets_rule, labels_rule, numbers_rule, bars_rule, revisions_rule, rows_rule, labels_steps, numbers_steps, adjustments_steps, revisions_steps, data_steps}
+use Rattle.pl_load.specs.Work.{file_fault, fault_in, fault_of_rows, sessions_rule, assets_rule, labels_rule, numbers_rule, results_rule, bars_rule, revisions_rule, rows_rule, figures_steps, labels_steps, numbers_steps, results_steps, adjustments_steps, revisions_steps, data_steps}
 
 -- ---- steps without a fault
 
@@ -81,6 +82,12 @@ module _ (assets : List AssetRow) where
   numbers-read None h = absurd (cc)
   numbers-read (Some bytes) h = fault-none Numbers (numbers_of assets (csv_records bytes)) no_numbers (passed _ _ _ h)
 
+  results-read : (first : NumberTable) (file : Option (List ℕ)) → file_fault Results (results_rule first assets) file ≡ None
+      → numbers_beside first assets (records_in file) ≡ Ok (results_in first assets file)
+  unfolding results_rule results_in
+  results-read first None h = absurd (cc)
+  results-read first (Some bytes) h = fault-none Results (numbers_beside first assets (csv_records bytes)) no_numbers (passed _ _ _ h)
+
   labels-asked : (name file : Option (List ℕ)) → first_fault (labels_steps assets name file) ≡ None → ForSome name (λ n. labels_of assets (records_in file) ≡ Ok (labels_in assets file))
   labels-asked None file h n e = absurd (cc)
   labels-asked (Some m) file h n e = labels-read file (or-none (file_fault Labels (labels_rule assets) file) None h).0
@@ -88,6 +95,11 @@ module _ (assets : List AssetRow) where
   numbers-asked : (name file : Option (List ℕ)) → first_fault (numbers_steps assets name file) ≡ None → ForSome name (λ n. numbers_of assets (records_in file) ≡ Ok (numbers_in assets file))
   numbers-asked None file h n e = absurd (cc)
   numbers-asked (Some m) file h n e = numbers-read file (or-none (file_fault Numbers (numbers_rule assets) file) None h).0
+
+  results-asked : (first : NumberTable) (name file : Option (List ℕ)) → first_fault (results_steps assets first name file) ≡ None
+      → ForSome name (λ n. numbers_beside first assets (records_in file) ≡ Ok (results_in first assets file))
+  results-asked first None file h n e = absurd (cc)
+  results-asked first (Some m) file h n e = results-read first file (or-none (file_fault Results (results_rule first assets) file) None h).0
 
   tables-asked : (name : Option (List ℕ)) (rows : Table → List RawAdjust) → first_fault (adjustments_steps assets name rows) ≡ None
       → ForSome name (λ n. adjustments_of_rows assets rows ≡ Ok (adjustments_from assets rows))
@@ -118,6 +130,8 @@ pub record AreRead (held : Contents) (q : WorldNames) : Type 0 where
   pub assets : assets_of (records_in (held.file Assets)) ≡ Ok (assets_held held)
   pub labels : ForSome q.labels (λ n. labels_of (assets_held held) (records_in (held.file Labels)) ≡ Ok (labels_in (assets_held held) (held.file Labels)))
   pub numbers : ForSome q.numbers (λ n. numbers_of (assets_held held) (records_in (held.file Numbers)) ≡ Ok (numbers_in (assets_held held) (held.file Numbers)))
+  pub results : ForSome q.results (λ n. numbers_beside (numbers_asked (assets_held held) q.numbers (held.file Numbers)) (assets_held held) (records_in (held.file Results))
+      ≡ Ok (results_in (numbers_asked (assets_held held) q.numbers (held.file Numbers)) (assets_held held) (held.file Results)))
   pub bars : bars_of (days_held held) (assets_held held) (records_in (held.file Bars)) ≡ Ok (bars_held held)
   pub tables : ForSome q.adjustments (λ n. adjustments_of_rows (assets_held held) held.rows ≡ Ok (adjustments_from (assets_held held) held.rows))
   pub revisions : ForSome q.revisions (λ n. revisions_of (days_held held) (assets_held held) (records_in (held.file Revisions)) ≡ Ok (revisions_in (days_held held) (assets_held held) (held.file Revisions)))
@@ -130,14 +144,17 @@ data-read held q h =
     let one = or-none (file_fault Sessions sessions_rule (held.file Sessions)) _ h in
     let two = or-none (file_fault Assets assets_rule (held.file Assets)) _ one.1 in
     let three = first-none (labels_steps assets q.labels (held.file Labels)) _ two.1 in
-    let four = first-none (numbers_steps assets q.numbers (held.file Numbers)) _ three.1 in
+    let first = numbers_asked assets q.numbers (held.file Numbers) in
+    let four = first-none (figures_steps assets held q) _ three.1 in
+    let figures = first-none (numbers_steps assets q.numbers (held.file Numbers)) _ four.0 in
     let five = or-none (file_fault Bars (bars_rule days assets) (held.file Bars)) _ four.1 in
     let six = first-none (adjustments_steps assets q.adjustments held.rows) _ five.1 in
     record {
       days = sessions-read (held.file Sessions) one.0;
       assets = assets-read (held.file Assets) two.0;
       labels = labels-asked assets q.labels (held.file Labels) three.0;
-      numbers = numbers-asked assets q.numbers (held.file Numbers) four.0;
+      numbers = numbers-asked assets q.numbers (held.file Numbers) figures.0;
+      results = results-asked assets first q.results (held.file Results) figures.1;
       bars = bars-read assets days (held.file Bars) five.0;
       tables = tables-asked assets q.adjustments held.rows six.0;
       revisions = revisions-asked assets days q.revisions (held.file Revisions) six.1;

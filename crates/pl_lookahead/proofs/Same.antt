@@ -13,11 +13,12 @@ use Rattle.pl_assets.specs.Labels.{LabelTable}
 use Rattle.pl_outside.specs.Files.{Files}
 use Rattle.pl_outside.specs.Lists.{Lists}
 use Rattle.pl_outside.specs.declared.keeper.Table.{Table}
+use Rattle.pl_numbers.specs.Numbers.{NumberTable}
 use Rattle.pl_words.specs.declared.request.InputFile.{InputFile}
-use Rattle.pl_words.specs.declared.request.InputFile.TheVariants.{Pipeline as PipelineFile, Sessions, Assets, Labels, Numbers, Bars, Revisions}
+use Rattle.pl_words.specs.declared.request.InputFile.TheVariants.{Pipeline as PipelineFile, Sessions, Assets, Labels, Numbers, Results, Bars, Revisions}
 use Rattle.pl_words.specs.Request.{Request, Run, Daily, RunRequest, WorldNames, name_asked, adjustments_of}
 use Rattle.pl_load.specs.Contents.{Contents, AreHeld}
-use Rattle.pl_load.specs.Held.{adjustments_asked, assets_held, assets_in, bars_in, days_held, days_in, labels_asked, numbers_asked, pipeline_held, pipeline_in, revised_asked, world_held}
+use Rattle.pl_load.specs.Held.{adjustments_asked, assets_held, assets_in, bars_in, days_held, days_in, labels_asked, numbers_asked, results_asked, pipeline_held, pipeline_in, revised_asked, world_held}
 use Rattle.pl_load.specs.Range.{index_of}
 use Rattle.pl_cli.specs.Texts.{run_text, text_of}
 use Rattle.pl_lookahead.specs.Laws.{AsksTable, AskSame, SameFilesSameBytes}
@@ -32,6 +33,7 @@ pub record SameWorld (one other : Contents) (q : WorldNames) : Type 0 where
   pub bars : one.file Bars ≡ other.file Bars
   pub labels : ForSome q.labels (λ n. one.file Labels ≡ other.file Labels)
   pub numbers : ForSome q.numbers (λ n. one.file Numbers ≡ other.file Numbers)
+  pub results : ForSome q.results (λ n. one.file Results ≡ other.file Results)
   pub tables : ForSome q.adjustments (λ n. one.rows ≡ other.rows)
   pub revisions : ForSome q.revisions (λ n. one.file Revisions ≡ other.file Revisions)
 
@@ -43,6 +45,16 @@ module _ (assets : List AssetRow) where
   numbers-same : (name f g : Option (List ℕ)) → ForSome name (λ n. f ≡ g) → numbers_asked assets name f ≡ numbers_asked assets name g
   numbers-same None f g h = refl
   numbers-same (Some n) f g h = ap (numbers_asked assets (Some n)) (h n refl)
+
+  results-same : (first : NumberTable) (name f g : Option (List ℕ)) → ForSome name (λ n. f ≡ g) → results_asked assets first name f ≡ results_asked assets first name g
+  results-same first None f g h = refl
+  results-same first (Some n) f g h = ap (results_asked assets first (Some n)) (h n refl)
+
+  figures-same : (q : WorldNames) (a b c d : Option (List ℕ)) → ForSome q.numbers (λ n. a ≡ b) → ForSome q.results (λ n. c ≡ d)
+      → (results_asked assets (numbers_asked assets q.numbers a) q.results c).rows ≡ (results_asked assets (numbers_asked assets q.numbers b) q.results d).rows
+  figures-same q a b c d h k =
+      ap (λ t. (results_asked assets t q.results c).rows) (numbers-same q.numbers a b h)
+      ∙ ap (λ (t : NumberTable). t.rows) (results-same (numbers_asked assets q.numbers b) q.results c d k)
 
   tables-same : (name : Option (List ℕ)) (f g : Table → List RawAdjust) → ForSome name (λ n. f ≡ g) → adjustments_asked assets name f ≡ adjustments_asked assets name g
   tables-same None f g h = refl
@@ -64,11 +76,14 @@ module _ (one other : Contents) (q : WorldNames) (same : SameWorld one other q) 
   abbrev assets : List AssetRow
   assets = assets_held other
 
+  abbrev figures : Contents → List AssetRow → List ColumnNumber
+  figures held assets = (results_asked assets (numbers_asked assets q.numbers (held.file Numbers)) q.results (held.file Results)).rows
+
   abbrev over : List ℤ → List AssetRow → World
   over days assets =
       made days assets (one.file Bars) (labels_asked assets q.labels (one.file Labels))
       (revised_asked days assets (adjustments_asked assets q.adjustments one.rows) q.revisions (one.file Revisions))
-      (numbers_asked assets q.numbers (one.file Numbers))
+      (figures one assets)
 
   pub world-same : world_held one q ≡ world_held other q
   world-same =
@@ -76,18 +91,18 @@ module _ (one other : Contents) (q : WorldNames) (same : SameWorld one other q) 
       ∙ ap (λ f. over days (assets_in f)) same.assets
       ∙ ap (λ f. made days assets f (labels_asked assets q.labels (one.file Labels))
       (revised_asked days assets (adjustments_asked assets q.adjustments one.rows) q.revisions (one.file Revisions))
-      (numbers_asked assets q.numbers (one.file Numbers))) same.bars
+      (figures one assets)) same.bars
       ∙ ap (λ l. made days assets (other.file Bars) l
       (revised_asked days assets (adjustments_asked assets q.adjustments one.rows) q.revisions (one.file Revisions))
-      (numbers_asked assets q.numbers (one.file Numbers))) (labels-same assets q.labels (one.file Labels) (other.file Labels) same.labels)
+      (figures one assets)) (labels-same assets q.labels (one.file Labels) (other.file Labels) same.labels)
       ∙ ap (λ xs. made days assets (other.file Bars) (labels_asked assets q.labels (other.file Labels))
       (revised_asked days assets xs q.revisions (one.file Revisions))
-      (numbers_asked assets q.numbers (one.file Numbers))) (tables-same assets q.adjustments one.rows other.rows same.tables)
-      ∙ ap (λ xs. made days assets (other.file Bars) (labels_asked assets q.labels (other.file Labels)) xs (numbers_asked assets q.numbers (one.file Numbers)))
+      (figures one assets)) (tables-same assets q.adjustments one.rows other.rows same.tables)
+      ∙ ap (λ xs. made days assets (other.file Bars) (labels_asked assets q.labels (other.file Labels)) xs (figures one assets))
       (revisions-same assets days (adjustments_asked assets q.adjustments other.rows) q.revisions (one.file Revisions) (other.file Revisions) same.revisions)
       ∙ ap (λ ns. made days assets (other.file Bars) (labels_asked assets q.labels (other.file Labels))
       (revised_asked days assets (adjustments_asked assets q.adjustments other.rows) q.revisions (other.file Revisions)) ns)
-      (numbers-same assets q.numbers (one.file Numbers) (other.file Numbers) same.numbers)
+      (figures-same assets q (one.file Numbers) (other.file Numbers) (one.file Results) (other.file Results) same.numbers same.results)
 
 -- ---- the text of a run
 
@@ -144,6 +159,7 @@ module _ (files : Files) (lists : Lists) (told other_told : Option Files) (liste
       bars = file-same Bars q.world.bars refl;
       labels = file-same Labels;
       numbers = file-same Numbers;
+      results = file-same Results;
       tables = rows-same;
       revisions = file-same Revisions;
     };

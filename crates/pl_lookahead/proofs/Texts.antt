@@ -13,7 +13,7 @@ use Rattle.pl_pipeline.specs.Table.{Pipeline, table}
 use Rattle.pl_pipeline.specs.Text.{text}
 use Rattle.pl_outside.specs.declared.keeper.Table.TheVariants.{Splits, Mergers, Dividends}
 use Rattle.pl_words.specs.declared.request.InputFile.TheVariants.{Pipeline as PipelineFile}
-use Rattle.pl_words.specs.Request.{Request, RunRequest, WorldNames}
+use Rattle.pl_words.specs.Request.{Request, RunRequest, WorldNames, numbers_named}
 use Rattle.pl_load.specs.declared.fault.Fault.{Fault}
 use Rattle.pl_load.specs.Contents.{Contents}
 use Rattle.pl_load.specs.Ends.{Ends}
@@ -56,7 +56,7 @@ run-judged held q h =
     let days = days_held held in
     let range = range_steps (pipeline_held held) days q.from q.to q.options.as_of in
     let plan = plan_steps (pipeline_held held) days (index_of days q.from.day) (index_of days q.to.day) in
-    let one = first-none (evaluated_steps (held.file PipelineFile) q.world.numbers) (data_steps held q.world ++ range) h in
+    let one = first-none (evaluated_steps (held.file PipelineFile) (numbers_named q.world)) (data_steps held q.world ++ range) h in
     let two = first-none (data_steps held q.world) range one.1 in
     let three = first-none (dates_steps q.from q.to q.options.as_of days) plan two.1 in
     let at = dates-found q.from q.to q.options.as_of days three.0 in

@@ -64,12 +64,12 @@ pub record SameRowsUpTo (w v : World) (d : ℕ) (day : ℤ) : Type 0 where
   pub numbers : IsPermutation (numbers_by day w.numbers) (numbers_by day v.numbers)
 
 -- Two commands agree up to session d, whose day is the given one: their pipeline files mean one pipeline;
--- their sessions, assets, bars, labels and numbers are the same up to d; of an asset and a day up to this one
--- each table of adjustments has the same rows, in the same order; and the revisions that are known by the day
--- are the same, in whatever order. Whatever else the files and tables hold does not matter, nor do their
--- names. To compare one's own files, take of each what is known: bars of dates before the day, label records
--- whose start, numbers and revisions whose known day is not after it, rows that are effective before its end.
--- Sorted, they are the same lines.
+-- their sessions, assets, bars, labels and numbers, with the results, are the same up to d; of an asset and a
+-- day up to this one each table of adjustments has the same rows, in the same order; and the revisions that
+-- are known by the day are the same, in whatever order. Whatever else the files and tables hold does not
+-- matter, nor do their names. To compare one's own files, take of each what is known: bars of dates before
+-- the day, label records whose start, numbers, results and revisions whose known day is not after it, rows
+-- that are effective before its end. Sorted, they are the same lines.
 pub record AgreeUpTo (one other : Contents) (q r : WorldNames) (d : ℕ) (day : ℤ) : Type 0 where
   pub pipelines : pipeline_held one ≡ pipeline_held other
   pub rows : SameRowsUpTo (world_held one q) (world_held other r) d day

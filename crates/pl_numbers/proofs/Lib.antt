@@ -13,3 +13,6 @@ pub mod NumbersSaid
 pub mod NumbersMoved
 pub mod NumberWorlds
 pub mod NumbersLast
+pub mod NumbersJoined
+pub mod Pairs
+pub mod NumbersBeside

@@ -9,6 +9,7 @@ use Rattle.std.proofs.Math.Seq.{get_or-append_seam}
 use Rattle.pl_records.specs.Reading.{Record, at_line, ◌>>=◌, rows_behind, rows_under}
 use Rattle.pl_records.specs.Sorted.{HasOwnKeys, sorted_by}
 use Rattle.pl_records.proofs.Readings.{rows-keep, under_ok}
+use Rattle.pl_records.proofs.Sorts.{length-sorted_by}
 use Rattle.pl_records.proofs.RuleTables.{and_then_some, map_some}
 use Rattle.pl_spec.specs.Limits.{most_numbers}
 use Rattle.pl_spec.specs.Parts.{ColumnNumber}
@@ -16,10 +17,11 @@ use Rattle.pl_spec.specs.declared.AssetRow.{AssetRow}
 use Rattle.pl_lifetimes.specs.Assets.{col_in}
 use Rattle.pl_numbers.specs.Numbers.{BadField, BadHeader, header, in_column, is_from, number_in, number_rows_in, numbers_of, row_of, number_or_rule, table_of}
 use Rattle.pl_numbers.specs.NumberPlaces.{AreNumbered, AreStated, IsTableOf, key_of, shown_rows, states}
+use Rattle.pl_numbers.specs.BesidePlaces.{AreNamed}
 use Rattle.pl_numbers.specs.declared.rows.NumberRows.{NumberRows}
 use Rattle.pl_assets.proofs.Dated.{flips}
 use Rattle.pl_numbers.proofs.NumberKeys.{numbers}
-use Rattle.pl_numbers.proofs.NumberRowsMade.{once_named}
+use Rattle.pl_numbers.proofs.NumberRowsMade.{few_names as few_named, once_named}
 use Rattle.pl_numbers.proofs.NumbersRead.{AreRead-read}
 use Rattle.pl_numbers.proofs.NumberTables.{told_apart, cols_kept, table_kept, table_made}
 
@@ -106,3 +108,9 @@ pub stated_in_order : (assets : List AssetRow) (records : List Record) (t : Numb
     → IfSome o (λ new. new.names ≡ t.names) → IfSome o (λ new. new.places.items ≡ sorted_by key_of t.places.items) → IfSome o (IsTableOf assets records)
 stated_in_order assets records t None h own names places = tt
 stated_in_order assets records t (Some new) h own names places = table_stated assets records t new h.numbered own h.few h.exact names places
+
+-- each of their names has a row
+pub named_in_order : (t : NumberRows) (o : Option NumberRows) → AreNumbered t
+    → IfSome o (λ new. new.names ≡ t.names) → IfSome o (λ new. new.places.items ≡ sorted_by key_of t.places.items) → IfSome o AreNamed
+named_in_order t None h names places = tt
+named_in_order t (Some new) h names places = rw (names, places) (omega (arith, few_named t h, length-sorted_by key_of t.places.items))

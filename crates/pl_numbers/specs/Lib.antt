@@ -4,3 +4,5 @@ pub mod NumberPlaces
 pub mod NumberRules
 pub mod NumberLaws
 pub mod NumberRowsShown
+pub mod Beside
+pub mod BesidePlaces

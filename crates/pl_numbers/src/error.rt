@@ -20,10 +20,10 @@ pub enum NumbersError {
     /// No asset has the sid.
     #[error("record {line}: no asset has the sid")]
     UnknownSid { line: u32 },
-    /// A record before has the name, the sid and the date.
+    /// A record before has the name, the sid and the date; or, in a second file, the first one has the name.
     #[error("record {line}: the name, the sid and the date stand before")]
     Duplicate { line: u32 },
-    /// 2,000,000 numbers stand before this one.
+    /// 2,000,000 numbers stand before this one, those of a first file among them.
     #[error("record {line}: too many numbers")]
     TooMany { line: u32 },
     /// Memory ran out.

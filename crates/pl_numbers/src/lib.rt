@@ -9,11 +9,13 @@ ghost use Rattle.pl_spec.specs.Rounding.{IsCell};
 ghost use Rattle.pl_records.specs.Reading.{Answers};
 ghost use Rattle.pl_records.specs.Records.{csv_records};
 ghost use Rattle.pl_numbers.specs.Numbers.{AreNumbers, known_on, number_on, numbers_of};
+ghost use Rattle.pl_numbers.specs.Beside.{numbers_beside};
 ghost use Rattle.pl_numbers.specs.NumberFaults.{fault_of};
 ghost use Rattle.pl_numbers.specs.NumberRowsShown.{is_newest_in, shown_at};
 
 mod cut;
 mod error;
+mod join;
 mod last;
 pub mod laws;
 mod named;
@@ -84,10 +86,30 @@ impl Numbers {
         ensures exact { Answers (λ n. n) fault_of result
             (numbers_of assets.now (csv_records bytes.now)) }
         ensures numbers { IfOk result AreNumbers }
-        // Each stands in the column of an asset.
+        // Each stands in the column of an asset, and each name has a row.
         ensures cols { IfOk result (λ n. All (λ r. r.col < length assets.now) n.rows) }
+        ensures named { IfOk result (λ n. length n.names ≤ length n.rows) }
     {
         let rows = table::read_table(alloc, bytes, assets)?;
+        Ok(Numbers { rows })
+    }
+
+    /// These numbers with those of a second file, which has the form of a first one. A name has rows in one
+    /// of the two alone.
+    pub fn with_file(
+        self,
+        alloc: Global,
+        bytes: &[u8],
+        assets: &Assets,
+    ) -> Result<Numbers, NumbersError>
+        requires named { length self.names ≤ length self.rows }
+        requires cols { All (λ r. r.col < length assets.now) self.rows }
+        ensures exact { Answers (λ n. n) fault_of result
+            (numbers_beside self assets.now (csv_records bytes.now)) }
+        ensures cols { IfOk result (λ n. All (λ r. r.col < length assets.now) n.rows) }
+    {
+        let Numbers { rows: first } = self;
+        let rows = join::with_file(alloc, first, bytes, assets)?;
         Ok(Numbers { rows })
     }
 

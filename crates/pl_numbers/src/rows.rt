@@ -62,6 +62,15 @@ impl NumberRows {
         }
     }
 
+    // The names, and the rows under their numbers.
+    pub(crate) fn into_parts(self) -> (Texts, Vec<Place>)
+        ensures names { result.0 ≡ self.names }
+        ensures places { result.1 ≡ self.places }
+    {
+        let NumberRows { names, places } = self;
+        (names, places)
+    }
+
     // The row of a place, from 0.
     pub(crate) fn row(&self, i: usize) -> NumberAt<'_>
         requires table { IsTable self.now }

@@ -4,6 +4,7 @@ ghost use Rattle.pl_records.specs.Reading.{Answers};
 ghost use Rattle.pl_records.specs.Records.{csv_records};
 ghost use Rattle.pl_numbers.specs.Numbers.{numbers_of};
 ghost use Rattle.pl_numbers.specs.NumberFaults.{fault_of};
+ghost use Rattle.pl_numbers.specs.BesidePlaces.{AreNamed};
 ghost use Rattle.pl_numbers.specs.NumberPlaces.{IsTable, IsTableOf, shown_rows, table_in};
 
 use crate::error::NumbersError;
@@ -24,6 +25,7 @@ pub(crate) fn read_table(
 ) -> Result<NumberRows, NumbersError>
     ensures exact { Answers table_in fault_of result (numbers_of assets.now (csv_records bytes.now)) }
     ensures table { IfOk result IsTable }
+    ensures named { IfOk result AreNamed }
     ensures cols { IfOk result (λ t. All (λ r. r.col < length assets.now) (shown_rows t)) }
 {
     if let Some(rows) = faultless_table(alloc, bytes, assets)? {
@@ -38,7 +40,8 @@ fn faultless_table(
     bytes: &[u8],
     assets: &Assets,
 ) -> Result<Option<NumberRows>, AllocError>
-    ensures { IfOk result (λ o. IfSome o (IsTableOf assets.now (csv_records bytes.now))) }
+    ensures table { IfOk result (λ o. IfSome o (IsTableOf assets.now (csv_records bytes.now))) }
+    ensures named { IfOk result (λ o. IfSome o AreNamed) }
 {
     let stated = stated_rows(alloc, bytes, assets)?;
     match stated {
@@ -52,6 +55,7 @@ fn faultless_table(
 fn exact_table(alloc: Global, bytes: &[u8], assets: &Assets) -> Result<NumberRows, NumbersError>
     ensures exact { Answers table_in fault_of result (numbers_of assets.now (csv_records bytes.now)) }
     ensures table { IfOk result IsTable }
+    ensures named { IfOk result AreNamed }
     ensures cols { IfOk result (λ t. All (λ r. r.col < length assets.now) (shown_rows t)) }
 {
     let read = read_rows(alloc, bytes, assets)?;

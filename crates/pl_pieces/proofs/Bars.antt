@@ -28,7 +28,7 @@ use Rattle.pl_fixed.proofs.WritingLemmas.{reads_back}
 use Rattle.pl_calendar.specs.Days.{AreDays}
 use Rattle.pl_lifetimes.specs.Assets.{AreAssets}
 use Rattle.pl_bars.specs.Bars as bars
-use Rattle.pl_bars.specs.Bars.{bar_or_rule, bars_of, cell_in, fields_in, header, is_bar_cell, is_negative, key_of, placed_at, rows_in, session_in}
+use Rattle.pl_bars.specs.Bars.{bar_or_rule, bars_of, cell_in, fields_in, header, is_bar_cell, is_negative, key_of, rows_in, session_in}
 use Rattle.pl_bars.proofs.BarFields.{cell_in-IsCellText}
 use Rattle.pl_parts.specs.Texts.{bar_line, bars_header, bars_text}
 use Rattle.pl_pieces.specs.Held.{AreBarsOf, IsBarIn, IsBefore, cells_of}

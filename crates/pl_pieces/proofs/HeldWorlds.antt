@@ -1,25 +1,31 @@
 -- The world of contents that were read: files can hold it.
-use Rattle.std.proofs.Common.{◌≡◌, ◌≢◌, ℕ, ◌+◌, ◌<◌, ◌≤◌, ◌==◌, false, ℤ, List, [], ◌++◌, map, filter, length, All, AllPairs, Option, Some, None, Ok, refl, ◌∙◌, ap, arith, inl, inr, length-append}
+use Rattle.std.proofs.Common.{◌≡◌, ◌≢◌, ℕ, ◌+◌, ◌<◌, ◌≤◌, ◌==◌, false, IsTrue, ℤ, List, [], ◌++◌, map, filter, length, All, Option, Some, None, Ok, refl, ◌∙◌, ap, arith, inl, inr, length-append}
 use Rattle.std.specs.Option.{ForSome}
 use Rattle.std.proofs.lemmas.List.{length-map}
 use Rattle.std.proofs.lemmas.List.Elements.{All-append, All-filter, All-map}
-use Rattle.std.proofs.lemmas.List.Sorted.{length_permutation}
+use Rattle.std.proofs.lemmas.List.Sorted.{All-permutation, length_permutation}
 use Rattle.pl_spec.specs.Limits.{most_adjustments, most_revisions}
 use Rattle.pl_spec.specs.Dates.{IsDay}
+use Rattle.pl_spec.specs.Names.{is_name}
 use Rattle.pl_spec.specs.Order.{by_day}
-use Rattle.pl_spec.specs.Parts.{ColumnAdjustment, ColumnLabel, adjustment_of, number_of}
+use Rattle.pl_spec.specs.Parts.{ColumnAdjustment, ColumnLabel, ColumnNumber, adjustment_of}
 use Rattle.pl_spec.specs.World.{World, Adjustment, Event, events_of}
 use Rattle.pl_spec.specs.declared.AdjustmentKind.{AdjustmentKind}
 use Rattle.pl_spec.specs.declared.AdjustmentKind.TheVariants.{Split, Merger, Dividend, Revision}
 use Rattle.pl_spec.specs.declared.AssetRow.{AssetRow}
 use Rattle.pl_spec.specs.declared.RawAdjust.{RawAdjust}
 use Rattle.pl_spec.proofs.Columns.{sid-found}
+use Rattle.pl_records.specs.Reading.{Record}
+use Rattle.pl_records.proofs.Readings.{made-of}
+use Rattle.pl_records.proofs.Sorts.{sorted-permutes}
 use Rattle.pl_calendar.specs.Days.{AreDays}
 use Rattle.pl_lifetimes.specs.Assets.{AreAssets}
 use Rattle.pl_assets.specs.Labels.{labels_of}
 use Rattle.pl_assets.proofs.LabelsRead as labels_read
 use Rattle.pl_bars.proofs.BarsRead.{AreBars-read, AreInside-read}
-use Rattle.pl_numbers.specs.Numbers.{numbers_of}
+use Rattle.pl_numbers.specs.Numbers.{NumberTable, key_in, names_of, number_rows_in, numbers_of, table_of}
+use Rattle.pl_numbers.specs.Beside.{numbers_beside}
+use Rattle.pl_numbers.proofs.NumbersBeside.{AreKept, beside-kept}
 use Rattle.pl_adjust.specs.Columns.{by_place, in_column}
 use Rattle.pl_adjust.specs.Revised.{revised}
 use Rattle.pl_adjust.specs.Revisions.{AreRevisions, revisions_of}
@@ -28,22 +34,22 @@ use Rattle.pl_adjust.proofs.RevisionsRead.{AreRevisions-read}
 use Rattle.pl_adjust.proofs.Sids.{All-by_day}
 use Rattle.pl_outside.specs.declared.keeper.Table.{Table}
 use Rattle.pl_outside.specs.declared.keeper.Table.TheVariants.{Splits, Mergers, Dividends}
-use Rattle.pl_words.specs.declared.request.InputFile.TheVariants.{Assets, Labels, Numbers, Bars, Revisions}
+use Rattle.pl_words.specs.declared.request.InputFile.TheVariants.{Assets, Labels, Numbers, Results, Bars, Revisions}
 use Rattle.pl_words.specs.Request.{WorldNames}
 use Rattle.pl_world.proofs.Moved.{AreRead-labels}
 use Rattle.pl_load.specs.Contents.{Contents}
-use Rattle.pl_load.specs.Held.{adjustments_from, adjustments_held, adjustments_of_rows, assets_held, bars_held, days_held, labels_asked, labels_in, numbers_asked, numbers_in, revisions_in, world_held}
+use Rattle.pl_load.specs.Held.{adjustments_from, adjustments_held, adjustments_of_rows, assets_held, bars_held, days_held, labels_asked, labels_in, numbers_asked, numbers_held, numbers_in, results_asked, results_in, revisions_in, world_held}
 use Rattle.pl_lookahead.specs.Agreement.{of_table_asked, revisions_asked, revisions_held}
 use Rattle.pl_lookahead.proofs.Adjusted.{placed-in}
-use Rattle.pl_lookahead.proofs.Held.{assets-are, days-are, held-events, is-placed, told-known}
+use Rattle.pl_lookahead.proofs.Held.{assets-are, days-are, figures-kept, held-events, is-placed, numbers-kept, told-known}
 use Rattle.pl_lookahead.proofs.Readable.{AreRead, records_in}
 use Rattle.pl_parts.specs.Texts.{is_kind}
-use Rattle.pl_pieces.specs.Held.{AreNumbersOf, IsSidOf}
+use Rattle.pl_pieces.specs.Held.{IsSidOf}
 use Rattle.pl_pieces.specs.Readable.{FilesCanHold}
 use Rattle.pl_pieces.specs.Tables.{AreAdjustmentsOf, IsEventIn}
 use Rattle.pl_pieces.proofs.OfParts.{bars-hold, has-col, labels-hold, numbers-hold}
 use Rattle.pl_pieces.proofs.Told.{kinds-in-order, revised-kinds, revisions-told, table-kinds, tables-few, tables-told}
-use Rattle.pl_pieces.proofs.WasRead.{lifetimes-read, starts-read}
+use Rattle.pl_pieces.proofs.WasRead.{lifetimes-read, names-read, starts-read}
 
 -- ---- rows that may not be asked for
 
@@ -62,15 +68,27 @@ labels-said assets (Some n) file h = record {
   starts = starts-read assets (records_in file) (labels_in assets file) (h n refl);
 }
 
-numbers-said : (assets : List AssetRow) → AllPairs (λ a b. a.sid < b.sid) assets → (days : List ℤ) (name file : Option (List ℕ))
-    → ForSome name (λ n. numbers_of assets (records_in file) ≡ Ok (numbers_in assets file))
-    → (w : World) → w.assets ≡ assets → w.numbers ≡ map (number_of assets) (numbers_asked assets name file) → AreNumbersOf w
-numbers-said assets up days None file h w a e = record {
-  each = rw e (λ k d l. absurd (omega arith));
-  once = rw e (λ i j d l m. absurd (omega arith));
-  few = rw e (omega arith);
-}
-numbers-said assets up days (Some n) file h w a e = numbers-hold days assets up (records_in file) (numbers_in assets file) (h n refl) w a e
+-- the names of a table that was read are names of the language, and so are those of two
+abbrev AreRight : List ColumnNumber → Type 0
+AreRight rows = All (λ r. IsTrue (is_name r.name)) rows
+
+table-right : (assets : List AssetRow) (records : List Record) (table : NumberTable) → numbers_of assets records ≡ Ok table → AreRight table.rows
+unfolding numbers_of
+table-right assets records table e =
+    let it = made-of table_of (number_rows_in assets records) table e in
+    rw (← it.2) (All-permutation (λ (r : ColumnNumber). IsTrue (is_name r.name)) it.0 (table_of it.0).rows (sorted-permutes (key_in (names_of it.0)) it.0) (names-read assets records it.0 it.1))
+
+numbers-right : (assets : List AssetRow) (name file : Option (List ℕ)) → ForSome name (λ n. numbers_of assets (records_in file) ≡ Ok (numbers_in assets file))
+    → AreRight (numbers_asked assets name file).rows
+numbers-right assets None file h = λ k d l. absurd (omega arith)
+numbers-right assets (Some n) file h = table-right assets (records_in file) (numbers_in assets file) (h n refl)
+
+figures-right : (assets : List AssetRow) (first : NumberTable) → AreKept assets first → AreRight first.rows → (name file : Option (List ℕ))
+    → ForSome name (λ n. numbers_beside first assets (records_in file) ≡ Ok (results_in first assets file)) → AreRight (results_asked assets first name file).rows
+figures-right assets first kept right None file h = right
+figures-right assets first kept right (Some n) file h =
+    let it = beside-kept assets first (records_in file) (results_in first assets file) kept (h n refl) in
+    rw (← it.is) (All-append (λ (r : ColumnNumber). IsTrue (is_name r.name)) first.rows it.other.rows right (table-right assets (records_in file) it.other it.own))
 
 module _ (days : List ℤ) (assets : List AssetRow) where
   abbrev IsTold : Adjustment → Type 0
@@ -179,6 +197,8 @@ module _ (held : Contents) (q : WorldNames) (read : AreRead held q) where
   pub files-can-hold : FilesCanHold w
   files-can-hold =
       let rows = labels-said assets q.labels (held.file Labels) read.labels in
+      let first = numbers_asked assets q.numbers (held.file Numbers) in
+      let kept = numbers-kept assets q.numbers (held.file Numbers) read.numbers in
       record {
         days = ud;
         assets = ua;
@@ -186,7 +206,8 @@ module _ (held : Contents) (q : WorldNames) (read : AreRead held q) where
         bars = bars-hold days assets ua.ascend (bars_held held) (AreInside-read days assets (records_in (held.file Bars)) (bars_held held) read.bars)
             (AreBars-read days assets (records_in (held.file Bars)) (bars_held held) ud.few read.bars) w refl refl refl;
         labels = labels-hold days assets ua.ascend (labels_asked assets q.labels (held.file Labels)).rows rows.read rows.starts w refl refl;
-        numbers = numbers-said assets ua.ascend days q.numbers (held.file Numbers) read.numbers w refl refl;
+        numbers = numbers-hold days assets ua.ascend (numbers_held held q).rows (figures-kept assets first kept q.results (held.file Results) read.results)
+            (figures-right assets first kept (numbers-right assets q.numbers (held.file Numbers) read.numbers) q.results (held.file Results) read.results) w refl refl;
         adjustments = adjustments-hold;
       }
 

@@ -13,7 +13,6 @@ pub mod TableTexts
 pub mod Revisions
 pub mod Acting
 pub mod OfCuts
-pub mod Pairs
 pub mod WasRead
 pub mod OfParts
 pub mod Told

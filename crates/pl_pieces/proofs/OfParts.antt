@@ -1,17 +1,13 @@
 -- The world of parts that were read: files can hold it.
-use Rattle.std.proofs.Common.{◌≡◌, ◌⊎◌, ℕ, ◌<◌, ◌==◌, IsTrue, true, false, ℤ, pos, List, [], ◌∷◌, map, length, get_or, All, AllPairs, IsPermutation, Some, option_map, Ok, refl, sym, subst, ◌∙◌, ap, arith, inl, inr, eqb-true, nat_lt}
+use Rattle.std.proofs.Common.{◌≡◌, ◌⊎◌, ℕ, ◌<◌, ◌==◌, IsTrue, true, false, ℤ, pos, List, [], ◌∷◌, map, length, get_or, All, AllPairs, Some, option_map, refl, sym, subst, ◌∙◌, ap, arith, inl, inr, eqb-true, nat_lt}
 use Rattle.std.specs.List.{slice_index_or}
 use Rattle.std.proofs.lemmas.Bool.{and_parts, cases_lt, or_cases, true≢false}
 use Rattle.std.proofs.lemmas.Bool.Decides.{nat_tests}
 use Rattle.std.proofs.lemmas.List.{get_or_past, length-map}
 use Rattle.std.proofs.lemmas.List.Elements.{All-cons, All-map, All-nil}
-use Rattle.std.proofs.lemmas.List.Sorted.{All-permutation}
 use Rattle.std.proofs.lemmas.Option.{slice_get-get_or}
-use Rattle.pl_records.specs.Reading.{Record}
-use Rattle.pl_records.specs.Sorted.{sorted_by}
-use Rattle.pl_records.proofs.Readings.{made-of}
-use Rattle.pl_records.proofs.Sorts.{length-sorted_by, sorted-permutes}
 use Rattle.pl_spec.specs.Dates.{IsDay}
+use Rattle.pl_spec.specs.Names.{is_name}
 use Rattle.pl_spec.specs.Parts.{ColumnLabel, ColumnNumber, bar_of, label_of, number_of, sid_at}
 use Rattle.pl_spec.specs.World.{World}
 use Rattle.pl_spec.specs.declared.AssetRow.{AssetRow}
@@ -25,13 +21,10 @@ use Rattle.pl_assets.specs.Labels.{is_from}
 use Rattle.pl_bars.specs.Bars.{AreBars, is_bar_cell, is_before}
 use Rattle.pl_bars.proofs.BarsRead.{AreInside}
 use Rattle.pl_numbers.specs.Numbers as number_tables
-use Rattle.pl_numbers.specs.Numbers.{NumberTable, key_in, names_of, number_rows_in, numbers_of, table_of}
 use Rattle.pl_numbers.proofs.NumberKeys as number_keys
 use Rattle.pl_numbers.proofs.NumbersRead as numbers_read
 use Rattle.pl_pieces.specs.Held.{AreBarsOf, AreLabelsOf, AreNumbersOf, IsBarIn, IsBefore, IsLabelIn, IsNumberIn, IsSidOf, KnownApart, StartApart}
-use Rattle.pl_pieces.proofs.Pairs.{pairs-permuted}
 use Rattle.pl_pieces.proofs.Rows.{pairs-map}
-use Rattle.pl_pieces.proofs.WasRead.{names-read}
 
 -- a cell of a bar, or 0 where it has none
 cell-or-zero : (P : ℤ → Type 0) (cells : List ℤ) (k : ℕ) → P (pos 0) → All P cells → P (slice_index_or cells k (pos 0))
@@ -105,26 +98,10 @@ module _ (days : List ℤ) (assets : List AssetRow) (up : AllPairs (λ a b. a.si
 
   -- ---- numbers
 
-  module _ (records : List Record) (table : NumberTable) (e : numbers_of assets records ≡ Ok table) where
-    rows-read : (rows : List ColumnNumber) × (number_rows_in assets records ≡ Ok rows) × (table_of rows ≡ table)
-    unfolding numbers_of
-    rows-read = made-of table_of (number_rows_in assets records) table e
-
-    abbrev rows : List ColumnNumber
-    rows = rows-read.0
-
-    abbrev sorted : List ColumnNumber
-    sorted = sorted_by (key_in (names_of rows)) rows
-
-    moved : IsPermutation rows sorted
-    moved = sorted-permutes (key_in (names_of rows)) rows
-
-    are : numbers_read.AreRead assets rows
-    are = numbers_read.AreRead-read assets records rows rows-read.1
-
+  module _ (rows : List ColumnNumber) (are : numbers_read.AreRead assets rows) (right : All (λ r. IsTrue (is_name r.name)) rows) where
     number-in : All (λ r. IsNumberIn assets (number_of assets r)) rows
     number-in k x l = record {
-      name = names-read assets records rows rows-read.1 k x l;
+      name = right k x l;
       asset = has-col (get_or rows k x).col (are.cols k x l);
       known = are.days k x l;
       value = are.cells k x l;
@@ -137,16 +114,9 @@ module _ (days : List ℤ) (assets : List AssetRow) (up : AllPairs (λ a b. a.si
     number-apart r q h l none name sid known =
         true≢false (sym (number_keys.parts_from r.name r.col r.known q (sym name) (sym (one_col assets up r.col q.col h l sid)) (sym known)) ∙ none)
 
-    sorted-apart : AllPairs Apart sorted
-    sorted-apart =
-        pairs-permuted Apart (λ r q h name sid known. h (sym name) (sym sid) (sym known)) rows sorted moved
-        (λ i j x m l. number-apart (get_or rows i x) (get_or rows j x) (are.cols i x (omega arith)) (are.cols j x l) (are.once i j x m l))
-
-    pub numbers-hold : (w : World) → w.assets ≡ assets → w.numbers ≡ map (number_of assets) table.rows → AreNumbersOf w
-    numbers-hold w a f =
-        let is : w.numbers ≡ map (number_of assets) sorted = f ∙ ap (λ (t : NumberTable). map (number_of assets) t.rows) (sym rows-read.2) in
-        record {
-          each = rw (a, is) (All-map (IsNumberIn assets) (number_of assets) sorted (All-permutation (λ (r : ColumnNumber). IsNumberIn assets (number_of assets r)) rows sorted moved number-in));
-          once = rw is (pairs-map KnownApart (number_of assets) sorted sorted-apart);
-          few = rw is (omega (arith, length-map sorted (number_of assets), length-sorted_by (key_in (names_of rows)) rows, are.few));
-        }
+    pub numbers-hold : (w : World) → w.assets ≡ assets → w.numbers ≡ map (number_of assets) rows → AreNumbersOf w
+    numbers-hold w a e = record {
+      each = rw (a, e) (All-map (IsNumberIn assets) (number_of assets) rows number-in);
+      once = rw e (pairs-map KnownApart (number_of assets) rows (λ i j x m l. number-apart (get_or rows i x) (get_or rows j x) (are.cols i x (omega arith)) (are.cols j x l) (are.once i j x m l)));
+      few = rw e (omega (arith, length-map rows (number_of assets), are.few));
+    }

@@ -1,6 +1,6 @@
 -- The world of a piece shows what the cut shows.
-use Rattle.std.proofs.Common.{◌≡◌, ◌≢◌, ℕ, ◌==◌, ◌&&◌, false, ℤ, pos, negsuc, List, [], map, filter, All, IsPermutation, Option, Some, None, Ok, refl, sym, ◌∙◌, ap}
-use Rattle.std.specs.Option.{ForSome}
+use Rattle.std.proofs.Common.{◌≡◌, ◌≢◌, ℕ, ◌==◌, ◌&&◌, false, ℤ, pos, negsuc, List, [], map, filter, All, IsPermutation, Option, Some, None, Ok, refl, sym, ◌∙◌, ap, ap₂}
+use Rattle.std.specs.Option.{ForSome, option_or}
 use Rattle.std.specs.Result.{result_unwrap_or}
 use Rattle.std.proofs.lemmas.List.Sorted.{IsPermutation-refl, IsPermutation-sym}
 use Rattle.pl_spec.specs.Numbers.{NumberRow}
@@ -29,16 +29,16 @@ use Rattle.pl_outside.specs.declared.keeper.Table.TheVariants.{Splits, Mergers, 
 use Rattle.pl_words.specs.declared.request.InputFile.TheVariants as files
 use Rattle.pl_words.specs.declared.request.WorldPart.{WorldPart}
 use Rattle.pl_words.specs.declared.request.WorldPart.TheVariants as parts
-use Rattle.pl_words.specs.Request.{RunRequest}
+use Rattle.pl_words.specs.Request.{RunRequest, numbers_named}
 use Rattle.pl_world.specs.Laws.{ShowAlike}
 use Rattle.pl_world.proofs.Moved.{show-alike}
 use Rattle.pl_load.specs.Contents.{Contents}
-use Rattle.pl_load.specs.Held.{assets_held, assets_in, bars_held, bars_in, bytes_in, days_held, days_in, labels_asked, labels_in, no_numbers, numbers_asked, numbers_in, revisions_in, world_held}
+use Rattle.pl_load.specs.Held.{assets_held, assets_in, bars_held, bars_in, bytes_in, days_held, days_in, labels_asked, labels_in, no_numbers, numbers_asked, numbers_in, results_asked, revisions_in, world_held}
 use Rattle.pl_cli.specs.Texts.{text_of, text_of_part}
 use Rattle.pl_lookahead.specs.Agreement.{of_table_asked, revisions_asked}
 use Rattle.pl_lookahead.proofs.Held.{held-events, held-once}
 use Rattle.pl_lookahead.proofs.Readable.{AreRead, records_in}
-use Rattle.pl_pieces.specs.Laws.{IsPieceOf, part_of, span_of}
+use Rattle.pl_pieces.specs.Laws.{IsPieceOf, part_of, piece_world, span_of}
 use Rattle.pl_pieces.specs.Readable.{FilesCanHold}
 use Rattle.pl_pieces.specs.Tables.{IsTableOf}
 use Rattle.pl_pieces.proofs.Acting.{acting, four-same}
@@ -52,7 +52,7 @@ use Rattle.pl_pieces.proofs.Revisions.{revisions-back}
 use Rattle.pl_pieces.proofs.Sessions.{sessions-back}
 use Rattle.pl_pieces.proofs.TableTexts.{no-rows, table-back}
 
-module _ (held piece : Contents) (q : RunRequest) (read : AreRead held q.world) (read' : AreRead piece q.world) (is : IsPieceOf held piece q) (whole : q.options.as_of ≡ None) (ok : IsWorld (world_held held q.world)) where
+module _ (held piece : Contents) (q : RunRequest) (read : AreRead held q.world) (read' : AreRead piece (piece_world q.world)) (is : IsPieceOf held piece q) (whole : q.options.as_of ≡ None) (ok : IsWorld (world_held held q.world)) where
   abbrev w : World
   w = world_held held q.world
 
@@ -63,7 +63,7 @@ module _ (held piece : Contents) (q : RunRequest) (read : AreRead held q.world) 
   part = cut w span
 
   abbrev v : World
-  v = world_held piece q.world
+  v = world_held piece (piece_world q.world)
 
   part-held : FilesCanHold part
   part-held = of-cut w span (files-can-hold held q.world read)
@@ -118,14 +118,18 @@ module _ (held piece : Contents) (q : RunRequest) (read : AreRead held q.world) 
       ∙ ap (λ (cols : List AssetRow). map (label_of cols) it.0.rows) assets-same
       ∙ it.2
 
-  numbers-same : (o : Option (List ℕ)) → q.world.numbers ≡ o → IsPermutation part.numbers v.numbers
-  unfolding numbers_in
-  numbers-same None e =
-      let none : w.numbers ≡ [] = ap (λ (n : Option (List ℕ)). map (number_of w.assets) (numbers_asked w.assets n (held.file files.Numbers))) e in
+  none-same : q.world.numbers ≡ None → q.world.results ≡ None → IsPermutation part.numbers v.numbers
+  none-same e f =
+      let none : w.numbers ≡ [] =
+      ap₂ (λ (n m : Option (List ℕ)). map (number_of w.assets) (results_asked w.assets (numbers_asked w.assets n (held.file files.Numbers)) m (held.file files.Results)).rows) e f in
       let here : part.numbers ≡ [] = ap (filter (λ (r : NumberRow). is_of w span r.sid && is_number_in w.numbers span r)) none in
-      let there : v.numbers ≡ [] = ap (λ (n : Option (List ℕ)). map (number_of (assets_held piece)) (numbers_asked (assets_held piece) n (piece.file files.Numbers))) e in
+      let there : v.numbers ≡ [] =
+      ap₂ (λ (n m : Option (List ℕ)). map (number_of (assets_held piece)) (numbers_asked (assets_held piece) (option_or n m) (piece.file files.Numbers)).rows) e f in
       rw (here, there) (IsPermutation-refl [])
-  numbers-same (Some n) e =
+
+  some-same : (n : List ℕ) → numbers_named q.world ≡ Some n → IsPermutation part.numbers v.numbers
+  unfolding numbers_in
+  some-same n e =
       let it = numbers-back part part-held.assets part-held.numbers in
       let file : piece.file files.Numbers ≡ Some (numbers_text part) = is.numbers n e ∙ ap Some (text-is parts.Numbers) in
       let table : numbers_in (assets_held piece) (piece.file files.Numbers) ≡ it.0 =
@@ -133,10 +137,15 @@ module _ (held piece : Contents) (q : RunRequest) (read : AreRead held q.world) 
       ∙ ap (numbers_in part.assets) file
       ∙ ap (λ r. result_unwrap_or r no_numbers) it.1 in
       let rows : v.numbers ≡ map (number_of part.assets) it.0.rows =
-      ap (λ (m : Option (List ℕ)). map (number_of (assets_held piece)) (numbers_asked (assets_held piece) m (piece.file files.Numbers))) e
+      ap (λ (m : Option (List ℕ)). map (number_of (assets_held piece)) (numbers_asked (assets_held piece) m (piece.file files.Numbers)).rows) e
       ∙ ap (λ (t : NumberTable). map (number_of (assets_held piece)) t.rows) table
       ∙ ap (λ (cols : List AssetRow). map (number_of cols) it.0.rows) assets-same in
       rw rows it.2
+
+  numbers-same : (n m : Option (List ℕ)) → q.world.numbers ≡ n → q.world.results ≡ m → IsPermutation part.numbers v.numbers
+  numbers-same None None e f = none-same e f
+  numbers-same None (Some m) e f = some-same m (ap₂ option_or e f)
+  numbers-same (Some n) m e f = some-same n (ap (λ o. option_or o q.world.results) e)
 
   -- ---- adjustments and revisions
 
@@ -180,7 +189,7 @@ module _ (held piece : Contents) (q : RunRequest) (read : AreRead held q.world) 
       let splits = table-same Split Splits (λ e. cc e) refl (λ cols. refl) named refl (text-of-table parts.Splits Split Splits refl is.splits named refl) in
       let mergers = table-same Merger Mergers (λ e. cc e) refl (λ cols. refl) named refl (text-of-table parts.Mergers Merger Mergers refl is.mergers named refl) in
       let dividends = table-same Dividend Dividends (λ e. cc e) refl (λ cols. refl) named refl (text-of-table parts.Dividends Dividend Dividends refl is.dividends named refl) in
-      held-events piece q.world read' a
+      held-events piece (piece_world q.world) read' a
       ∙ ap (λ (xs : List Adjustment). map (λ (x : Adjustment). x.event) (filter (λ x. x.sid == a) (by_day xs))) (four-same splits mergers dividends (revisions-same q.world.revisions refl))
       ∙ acting part (is-world w span ok) part-held.assets part-held.adjustments a
 
@@ -188,7 +197,7 @@ module _ (held piece : Contents) (q : RunRequest) (read : AreRead held q.world) 
 
   agree : AgreeInAll v part
   agree =
-      let v-once = held-once piece q.world read' in
+      let v-once = held-once piece (piece_world q.world) read' in
       let labels : v.labels ≡ part.labels = labels-same q.world.labels refl in
       record {
         days = days-same;
@@ -196,7 +205,7 @@ module _ (held piece : Contents) (q : RunRequest) (read : AreRead held q.world) 
         adjustments = events-same;
         lifetimes = λ a s. lives a s;
         labels = λ name a s. labelled name a s labels;
-        numbers = numbers_look_back.in_any_order v.numbers part.numbers v-once.numbers (IsPermutation-sym part.numbers v.numbers (numbers-same q.world.numbers refl));
+        numbers = numbers_look_back.in_any_order v.numbers part.numbers v-once.numbers (IsPermutation-sym part.numbers v.numbers (numbers-same q.world.numbers q.world.results refl refl));
       }
     where
       cells : (a : ℕ) (c : Column) (s : ℤ) → bar_cell v a c s ≡ bar_cell part a c s
@@ -217,4 +226,4 @@ module _ (held piece : Contents) (q : RunRequest) (read : AreRead held q.world) 
   piece-days = days-same
 
   pub piece-shows : ShowAlike v part
-  piece-shows = show-alike v part (held-once piece q.world read').world (is-world w span ok) agree
+  piece-shows = show-alike v part (held-once piece (piece_world q.world) read').world (is-world w span ok) agree

@@ -25,7 +25,7 @@ use Rattle.pl_terms.specs.Checked.{IsChecked}
 use Rattle.pl_words.specs.declared.request.InputFile.TheVariants as files
 use Rattle.pl_words.specs.declared.request.WorldPart.{WorldPart}
 use Rattle.pl_words.specs.declared.request.WorldPart.TheVariants as parts
-use Rattle.pl_words.specs.Request.{Request, Cut, RunRequest}
+use Rattle.pl_words.specs.Request.{Request, Cut, RunRequest, WorldNames, numbers_named}
 use Rattle.pl_load.specs.Contents.{Contents}
 use Rattle.pl_load.specs.Held.{pipeline_held, days_held, world_held}
 use Rattle.pl_load.specs.Range.{index_of}
@@ -94,6 +94,18 @@ CommandsCoverTheRange = (held : Contents) (q : RunRequest) (part : WorldPart)
 abbrev pub part_of : Contents → RunRequest → WorldPart → List ℕ
 part_of held q part = text_of held (Some (Cut (record { table = q; part = part })))
 
+-- The run over a piece asks for the numbers of both files as those of one, since the command cut writes them
+-- as one part.
+abbrev pub piece_world : WorldNames → WorldNames
+piece_world w = record w { numbers = numbers_named w; results = None }
+
+abbrev pub piece_run : RunRequest → RunRequest
+piece_run q = record q { world = piece_world q.world }
+
+-- A run that names no results is its own run over a piece.
+abbrev pub RunsWithoutResultsStay : Type 0
+RunsWithoutResultsStay = (q : RunRequest) → q.world.results ≡ None → piece_run q ≡ q
+
 -- A piece: contents whose files are what the command cut writes of each part that the run asks for, whose
 -- tables have the rows of the texts, and whose pipeline is the same.
 pub record IsPieceOf (held piece : Contents) (q : RunRequest) : Type 0 where
@@ -103,7 +115,7 @@ pub record IsPieceOf (held piece : Contents) (q : RunRequest) : Type 0 where
   pub bars : piece.file files.Bars ≡ Some (part_of held q parts.Bars)
   pub labels : ForSome q.world.labels (λ name.
       piece.file files.Labels ≡ Some (part_of held q parts.Labels))
-  pub numbers : ForSome q.world.numbers (λ name.
+  pub numbers : ForSome (numbers_named q.world) (λ name.
       piece.file files.Numbers ≡ Some (part_of held q parts.Numbers))
   pub splits : ForSome q.world.adjustments (λ name.
       IsTableOf (part_of held q parts.Splits) (piece.rows Splits))
@@ -118,8 +130,8 @@ pub record IsPieceOf (held piece : Contents) (q : RunRequest) : Type 0 where
 -- the range, by `run` and by `daily`, in both formats and for all sizes of chunks, where neither has a fault.
 abbrev pub CutFilesHaveTheRows : Type 0
 CutFilesHaveTheRows = (held piece : Contents) (a b : Request) (q r : RunRequest)
-    → AsksTable a q → AsksTable b r → AskSame q r → q.options.as_of ≡ None → IsChecked (pipeline_held held)
-    → IsPieceOf held piece q → HasNoFault held a → HasNoFault piece b
+    → AsksTable a q → AsksTable b r → AskSame (piece_run q) r → q.options.as_of ≡ None
+    → IsChecked (pipeline_held held) → IsPieceOf held piece q → HasNoFault held a → HasNoFault piece b
     → text_of piece (Some b) ≡ text_of held (Some a)
 
 -- What comes later changes no byte of a run over the files of a cut either: where the contents that are cut
@@ -127,7 +139,7 @@ CutFilesHaveTheRows = (held piece : Contents) (a b : Request) (q r : RunRequest)
 abbrev pub LaterDataChangeNoPiece : Type 0
 LaterDataChangeNoPiece = (one other piece piece' : Contents) (a b x y : Request) (q r : RunRequest)
     → (d : ℕ) (day : ℤ)
-    → AsksTable a q → AsksTable b r → AsksTable x q → AsksTable y r → AskAlike q r day
+    → AsksTable a q → AsksTable b r → AsksTable x (piece_run q) → AsksTable y (piece_run r) → AskAlike q r day
     → q.options.as_of ≡ None → r.options.as_of ≡ None → IsChecked (pipeline_held one)
     → AgreeUpTo one other q.world r.world d day → IsPieceOf one piece q → IsPieceOf other piece' r
     → HasNoFault one a → HasNoFault other b → HasNoFault piece x → HasNoFault piece' y

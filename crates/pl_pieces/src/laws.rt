@@ -1,6 +1,6 @@
 //! The laws of the files of a cut.
 ghost use Rattle.pl_pieces.specs.Laws.{CommandsCoverTheRange, CutFilesHaveTheRows, CutsCanBeHeld};
-ghost use Rattle.pl_pieces.specs.Laws.{LaterDataChangeNoPiece, PartsReadBack};
+ghost use Rattle.pl_pieces.specs.Laws.{LaterDataChangeNoPiece, PartsReadBack, RunsWithoutResultsStay};
 
 /// The readers over the texts of all parts of a world give these parts.
 pub fn parts_read_back()
@@ -18,9 +18,11 @@ pub fn commands_cover_the_range()
 {}
 
 /// A run over the files that the command cut writes prints the bytes that the run over the whole prints for
-/// the range.
+/// the range. It names the numbers of both files as those of one, and where no results are named it is the
+/// same run.
 pub fn cut_files_have_the_rows()
-    ensures { CutFilesHaveTheRows }
+    ensures rows { CutFilesHaveTheRows }
+    ensures same { RunsWithoutResultsStay }
 {}
 
 /// Where contents agree up to a session, runs over their cut files print the same bytes up to it.

@@ -1,12 +1,11 @@
 -- What is computed anew is computed by itself on the same sessions.
-use Rattle.std.proofs.Common.{◌≡◌, ℕ, ◌<◌, ◌≤◌, ◌&&◌, nat_le, true, pos, ◌≤ℤ◌, length, ◌∙◌, sym, subst, arith}
+use Rattle.std.proofs.Common.{◌≡◌, ◌<◌, ◌≤◌, ◌&&◌, nat_le, true, pos, ◌≤ℤ◌, length, ◌∙◌, sym, subst, arith}
 use Rattle.std.proofs.lemmas.Int.{ints}
 use Rattle.pl_spec.specs.Window.{before}
-use Rattle.pl_pipeline.specs.Cones.{Follows, Borders, HasDepth, border_terms, reads_of}
+use Rattle.pl_pipeline.specs.Cones.{Follows, HasDepth, border_terms, reads_of}
 use Rattle.std.specs.List.{list_any}
 use Rattle.std.proofs.lemmas.Bool.{and_from, or_right}
 use Rattle.std.proofs.lemmas.Bool.Decides.{nat_tests}
-use Rattle.pl_pipeline.specs.Term.{Graph, IsGraph}
 use Rattle.pl_pipeline.specs.Graph.{contains, mentions_at, used_terms, Used}
 use Rattle.pl_pipeline.proofs.Contained.{in-back}
 use Rattle.pl_pipeline.specs.Lows.{Needs}
@@ -22,6 +21,8 @@ use Rattle.pl_planner.specs.Holds.{is_live_by}
 use Rattle.pl_planner.proofs.Live.{contains-filter, some_holds}
 use Rattle.pl_planner.proofs.Mentions.{needs-used}
 use Rattle.pl_planner.proofs.Pipelines.{IsPipeline, is-pipeline, used-inside}
+use Rattle.pl_planner.proofs.Covers.{cone-of}
+use Rattle.pl_planner.proofs.ReadTerms.{border-lower}
 
 pub cones-covered : ConesAreCovered
 cones-covered days rise p checked plan is k u m c s asked low has =
@@ -29,7 +30,7 @@ cones-covered days rise p checked plan is k u m c s asked low has =
     let listed : contains (used_terms p.graph (outputs p)) k ≡ true = sym (is.used k) ∙ asked.0 in
     let used_k : Used p.graph (outputs p) k = used_terms-sound p.graph (outputs p) ok.graph k listed in
     let inside : k < length p.graph = used-inside p.graph (outputs p) ok k used_k in
-    let follows : Follows p.graph k u m = depths-sound p.graph ok.graph k u m (subst (HasDepth u m) (is.cones k inside) has) in
+    let follows : Follows p.graph k u m = depths-sound p.graph ok.graph k u m (subst (HasDepth u m) (cone-of days p plan is k inside) has) in
     let own = is.lows.exact k c asked in
     let need : Needs days p.graph (outputs p) (pos c) u (before (pos (low_at plan k c)) m) = cone-needed days p.graph (outputs p) (pos c) ok.graph k (pos (low_at plan k c)) own.needed follows in
     let used_u : Used p.graph (outputs p) u = needs-used days p.graph (outputs p) (pos c) u (before (pos (low_at plan k c)) m) need in
@@ -46,16 +47,6 @@ cones-covered days rise p checked plan is k u m c s asked low has =
     }
 
 -- ---- beside the cone
-
-border-lower : (g : Graph) (ok : IsGraph g) (k b m : ℕ) → Borders g k b m → b < k
-border-lower g ok k b m (Borders.input v j n i f e at h) =
-    let low : v < k = cone-lower g ok k v j f in
-    let own : b < v = (ok.lower v n e).inputs i b at in
-    omega arith
-border-lower g ok k b m (Borders.mask v j n f e at) =
-    let low : v < k = cone-lower g ok k v j f in
-    let own : b < v = (ok.lower v n e).mask b at in
-    omega arith
 
 pub borders-covered : BordersAreCovered
 borders-covered days rise p checked plan is k b m c s asked low border =
@@ -77,6 +68,6 @@ borders-covered days rise p checked plan is k b m c s asked low border =
     record {
       used = used;
       lower = below;
-      kept = contains-filter (is_live_by (reads_of p.graph) p.graph (outputs p) k) (used_terms p.graph (outputs p)) b ∙ and_from _ _ listed_b live;
+      live = contains-filter (is_live_by (reads_of p.graph) p.graph (outputs p) k) (used_terms p.graph (outputs p)) b ∙ and_from _ _ listed_b live;
       computed = omega (arith, ints, first, low);
     }

@@ -21,10 +21,8 @@ plan-same days other k p plan same last within is =
         bars = is.lows.bars;
       };
       held = is.held;
-      most = is.most;
       last = is.last;
       live = is.live;
       slots = is.slots;
       cones = is.cones;
-      kept = is.kept;
     }

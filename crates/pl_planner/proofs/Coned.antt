@@ -1,15 +1,15 @@
 -- The cone of a term is gathered as it is defined.
-use Rattle.std.proofs.Common.{◌≡◌, ℕ, suc, ◌+◌, ◌-◌, ◌*◌, ◌^◌, ◌<◌, ◌≤◌, ◌==◌, cond, not, max, Bool, true, false, List, [], ◌∷◌, ◌++◌, length, map, filter, filter_map, get_or, set, replicate, Option, Some, None, slice_get, refl, sym, ◌∙◌, ap, subst, arith, inl, inr, append-nil, get_or-set_same, get_or-set_other}
+use Rattle.std.proofs.Common.{◌≡◌, ℕ, suc, ◌+◌, ◌-◌, ◌*◌, ◌^◌, ◌<◌, ◌≤◌, ◌==◌, cond, not, nat_lt, ◌||◌, max, Bool, true, false, List, [], ◌∷◌, ◌++◌, length, map, filter, filter_map, take, drop, get_or, set, replicate, Option, Some, None, slice_get, refl, sym, ◌∙◌, ap, subst, arith, inl, inr, append-nil, get_or-set_same, get_or-set_other}
 use Rattle.std.proofs.lemmas.Bool.{cases_eq, eq-eqb, eqb-true}
 use Rattle.std.proofs.lemmas.Option.{slice_get_within}
-use Rattle.std.proofs.lemmas.List.{get_or-replicate, get_or-map, length-map, map-append}
+use Rattle.std.proofs.lemmas.List.{get_or-replicate, get_or-map, length-map, map-append, take_all}
 use Rattle.pl_spec.specs.Limits.{most_terms}
 use Rattle.pl_pipeline.specs.Term.{Node, Graph, Input, IsGraph, term_at}
 use Rattle.pl_pipeline.specs.Term.Input.{BarColumn, TermInput}
 use Rattle.pl_pipeline.specs.Graph.{input_number}
 use Rattle.pl_pipeline.specs.Cones.{is_windowed, larger, mark, moves_at, moving_inputs, inputs_at, windowed_at, window_at, marks_of, depths_below, cone_depths}
 use Rattle.pl_pipeline.specs.Value.{is_steady}
-use Rattle.std.specs.List.{range_with_len}
+use Rattle.std.specs.List.{list_any, range_with_len}
 use Rattle.pl_spec.proofs.Ranges.{range-next}
 use Rattle.pl_terms.specs.declared.node.Node as code
 use Rattle.pl_terms.specs.Nodes.{graph_of}
@@ -228,3 +228,19 @@ listed-at cs t x h e = ap (λ (c : Cone). pairs_of c.terms.items) e ∙ sym (get
 pub cone-at : (p now : Planned) → p ≡ now → (t : ℕ) (cs : List Cone) (x : Cone) → t < length cs → x ≡ get_or cs t x → p.cones ≡ cones_of cs → pairs_of x.terms.items ≡ cone now t
 unfolding cone
 cone-at p now is t cs x h e listed = listed-at cs t x h e ∙ ap (λ l. get_or l t []) (sym listed) ∙ ap (λ (q : Planned). get_or q.cones t []) is
+
+-- whether one of them has a term, cone after cone
+pub any_none : (cs : List Cone) → length cs ≡ 0 → list_any (λ c. nat_lt 0 (length c)) (cones_of cs) ≡ false
+unfolding cones_of
+any_none [] e = refl
+any_none (x ∷ cs) e = absurd (omega (arith, e))
+
+pub any-first : (cs : List Cone) (x : Cone) → 1 ≤ length cs → x ≡ get_or cs 0 x
+    → list_any (λ c. nat_lt 0 (length c)) (cones_of cs) ≡ (nat_lt 0 (length x.terms.items) || list_any (λ c. nat_lt 0 (length c)) (cones_of (take (length cs - 1) (drop 1 cs))))
+unfolding cones_of pairs_of
+any-first [] x h e = absurd (omega (arith, h))
+any-first (y ∷ cs) x h e =
+    let rest : take (length (y ∷ cs) - 1) cs ≡ cs = take_all (length (y ∷ cs) - 1) cs (omega arith) in
+    ap (λ n. nat_lt 0 n || list_any (λ c. nat_lt 0 (length c)) (map (λ (c : Cone). map pair_of c.terms.items) cs)) (length-map y.terms.items pair_of)
+    ∙ ap (λ (z : Cone). nat_lt 0 (length z.terms.items) || list_any (λ c. nat_lt 0 (length c)) (map (λ (c : Cone). map pair_of c.terms.items) cs)) (sym e)
+    ∙ ap (λ l. nat_lt 0 (length x.terms.items) || list_any (λ c. nat_lt 0 (length c)) (map (λ (c : Cone). map pair_of c.terms.items) l)) (sym rest)

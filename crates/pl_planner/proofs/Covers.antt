@@ -10,8 +10,9 @@ use Rattle.std.proofs.lemmas.List.FromFn.{get_or-map-range_with_len, length-map-
 use Rattle.pl_spec.specs.Limits.{most_terms, most_extra_rows}
 use Rattle.pl_pipeline.specs.Table.{Pipeline}
 use Rattle.pl_pipeline.specs.Term.{Node, Graph}
-use Rattle.pl_pipeline.specs.Graph.{reads_at, contains, mentions_at, Used, used_terms, is_live, live_terms}
-use Rattle.pl_pipeline.specs.Cones.{cone_depths}
+use Rattle.pl_pipeline.specs.Graph.{reads_at, contains, mentions_at, Used, used_terms}
+use Rattle.pl_pipeline.specs.Cones.{cone_depths, border_terms, reads_of}
+use Rattle.pl_pipeline.proofs.Contained.{in-front}
 use Rattle.pl_pipeline.specs.Lows.{Needs, IsLow, least_reach}
 use Rattle.pl_spec.specs.Window.{before}
 use Rattle.pl_laws.specs.LowLaws.{HasBar, ReachCovers}
@@ -22,23 +23,24 @@ use Rattle.pl_terms.specs.Uses as pipeline
 use Rattle.pl_terms.specs.Uses.{outputs}
 use Rattle.pl_planner.specs.declared.uses.Use.{Use}
 use Rattle.pl_planner.specs.declared.slots.TermSlots.{TermSlots}
-use Rattle.pl_planner.specs.Uses.{use_at, is_kept, IsLast, AreUses}
+use Rattle.pl_planner.specs.Holds.{is_live_by}
+use Rattle.pl_planner.specs.Uses.{use_at, is_kept, IsLastBy, AreUsesBy}
 use Rattle.pl_planner.specs.Columns.{columns_held, held_at, most_held}
 use Rattle.pl_planner.specs.Rows.{extra_at, IsRow, AreRows, most_extra}
 use Rattle.pl_planner.specs.Slotting.{slots_at, own_slot, kept_below, one, IsHad, IsHadBefore, IsLowest, IsSlotted, AreSlotted}
 use Rattle.pl_planner.specs.Plans as plans
-use Rattle.pl_planner.specs.Plans.{Planned, is_used, low_at, last_user, is_read_by, slot_of, column_slot, cone, AreLows, AreLastUsers, IsLive, HasSlot, HasColumn, AreKeptBy, IsPlanOf, IsDeepest, KeepsLimits}
+use Rattle.pl_planner.specs.Plans.{Planned, is_used, low_at, last_user, is_read_by, slot_of, column_slot, cone, live_terms, AreLows, AreLastUsers, IsLive, HasSlot, HasColumn, IsPlanOf, IsDeepest, KeepsLimits}
 use Rattle.pl_planner.specs.Laws.{ReadsAreCovered}
 use Rattle.pl_planner.proofs.Pipelines.{IsPipeline, is-pipeline}
 use Rattle.pl_planner.proofs.Mentions.{needs-used, reads-mention}
 use Rattle.pl_planner.proofs.Counting.{count_more, most_in, held-few}
-use Rattle.pl_planner.proofs.Held.{reads-same, most-bound, read-too}
+use Rattle.pl_planner.proofs.ReadTerms.{reads-lower}
 use Rattle.pl_planner.proofs.Live.{turned, contains-filter, some_holds, used_within, live_is, bound_is}
 use Rattle.pl_planner.proofs.Lows.{needs-rise}
 use Rattle.pl_planner.proofs.Tables.{ReachedAt, most-at, most-in, extra-used, extra-some}
 
-pub live-intro : (p : Pipeline) (k t : ℕ) → is_live p.graph (outputs p) k t ≡ true → contains (used_terms p.graph (outputs p)) t ≡ true → IsLive p k t
-live-intro p k t a b = contains-filter (is_live p.graph (outputs p) k) (used_terms p.graph (outputs p)) t ∙ and_from _ _ b a
+pub live-intro : (p : Pipeline) (k t : ℕ) → is_live_by (reads_of p.graph) p.graph (outputs p) k t ≡ true → contains (used_terms p.graph (outputs p)) t ≡ true → IsLive p k t
+live-intro p k t a b = contains-filter (is_live_by (reads_of p.graph) p.graph (outputs p) k) (used_terms p.graph (outputs p)) t ∙ and_from _ _ b a
 
 -- ---- what a used term reads is computed, and live
 
@@ -55,14 +57,21 @@ reads-covered days rise p checked plan is k t c n s r asked e low reads =
     let used : is_used plan t ≡ true = is.used t ∙ listed_t in
     let first : nat_le t k ≡ true = grind (arith, nat_tests) in
     let itself : nat_le k k ≡ true = grind (arith, nat_tests) in
-    let any : list_any (λ u. nat_le k u && contains (mentions_at p.graph u) t) (used_terms p.graph (outputs p)) ≡ true
-    = some_holds (λ u. nat_le k u && contains (mentions_at p.graph u) t) (used_terms p.graph (outputs p)) k listed (and_from _ _ itself mention) in
+    let read : contains (reads_of p.graph k) t ≡ true = in-front (mentions_at p.graph k) (border_terms p.graph k) t mention in
+    let any : list_any (λ u. nat_le k u && contains (reads_of p.graph u) t) (used_terms p.graph (outputs p)) ≡ true
+    = some_holds (λ u. nat_le k u && contains (reads_of p.graph u) t) (used_terms p.graph (outputs p)) k listed (and_from _ _ itself read) in
     record {
       used = used;
       lower = below;
       live = live-intro p k t (and_from _ _ first (or_right (contains (outputs p) t) _ any)) listed_t;
       computed = lows-cover days rise p.graph (outputs p) (pos c) k t n (pos (low_at plan k c)) (pos (low_at plan t c)) s r (is.lows.exact k c asked) (is.lows.exact t c (used, asked.1)) e low reads;
     }
+
+-- the cone of a term
+pub cone-of : (days : List ℤ) (p : Pipeline) (plan : Planned) → IsPlanOf days p plan → (t : ℕ) → t < length p.graph → cone plan t ≡ cone_depths p.graph t
+unfolding cone
+cone-of days p plan is t h =
+    ap (λ cs. get_or cs t []) is.cones ∙ get_or-map-range_with_len (cone_depths p.graph) 0 (length p.graph) t t [] h (let z : 0 + t ≡ t = omega arith in z)
 
 -- ---- the extra sessions of a range
 
@@ -106,7 +115,7 @@ module _ (days : List ℤ) (p : Pipeline) (checked : IsChecked p) (from to : ℕ
         most = λ t s l a b low. need-most t s l a b low.needed;
       }
 
-module _ (days : List ℤ) (rise : AllPairs (λ a b. a <ℤ b) days) (p : Pipeline) (checked : IsChecked p) (uses : List Use) (are : AreUses p.graph (outputs p) uses) where
+module _ (days : List ℤ) (rise : AllPairs (λ a b. a <ℤ b) days) (p : Pipeline) (checked : IsChecked p) (uses : List Use) (are : AreUsesBy (reads_of p.graph) p.graph (outputs p) uses) where
   abbrev g : Graph
   g = p.graph
 
@@ -210,7 +219,7 @@ module _ (days : List ℤ) (rise : AllPairs (λ a b. a <ℤ b) days) (p : Pipeli
     unfolding is_used last_user
     last-is t h = here (nat_lt (last_of t) (length uses)) refl (contains outs t) refl
       where
-        is : IsLast g outs t (last_of t)
+        is : IsLastBy (reads_of g) g outs t (last_of t)
         is = are.last t ((are.used t).0 h)
 
         here : (b : Bool) → nat_lt (last_of t) (length uses) ≡ b → (c : Bool) → contains outs t ≡ c → AreLastUsers g outs t (if nat_lt (last_of t) (length uses) then Some (last_of t) else None)
@@ -237,16 +246,16 @@ module _ (days : List ℤ) (rise : AllPairs (λ a b. a <ℤ b) days) (p : Pipeli
             let y : nat_le k (last_of t) ≡ true = grind (arith, nat_tests) in
             rw (e, y) refl
 
-    live-kept : (k t : ℕ) → k < length g → contains (live_terms g outs k) t ≡ (nat_le t k && is_kept uses k t)
+    live-kept : (k t : ℕ) → k < length g → contains (live_terms p k) t ≡ (nat_le t k && is_kept uses k t)
     live-kept k t h =
-        contains-filter (is_live g outs k) (used_terms g outs) t
-        ∙ ap (λ b. b && is_live g outs k t) (sym (used-is t))
+        contains-filter (is_live_by (reads_of g) g outs k) (used_terms g outs) t
+        ∙ ap (λ b. b && is_live_by (reads_of g) g outs k t) (sym (used-is t))
         ∙ used-live
       where
-        used-live : (is_used plan t && is_live g outs k t) ≡ (nat_le t k && is_kept uses k t)
-        used-live = ap (λ b. b && is_live g outs k t) (used-here t) ∙ live_is g outs uses ok.graph are k t h
+        used-live : (is_used plan t && is_live_by (reads_of g) g outs k t) ≡ (nat_le t k && is_kept uses k t)
+        used-live = ap (λ b. b && is_live_by (reads_of g) g outs k t) (used-here t) ∙ live_is g outs uses ok.graph are k t h
 
-    live-plan : (k t : ℕ) → k < length g → plans.is_live plan k t ≡ contains (live_terms g outs k) t
+    live-plan : (k t : ℕ) → k < length g → plans.is_live plan k t ≡ contains (live_terms p k) t
     live-plan k t h =
         ap (λ b. is_used plan t && nat_le t k && b) (read-by k t h)
         ∙ ap (λ b. b && nat_le t k && nat_le k (last_of t)) (used-here t)
@@ -271,7 +280,7 @@ module _ (days : List ℤ) (rise : AllPairs (λ a b. a <ℤ b) days) (p : Pipeli
         used : Used g outs k
         used = (are.used k).0 h
 
-        is : IsLast g outs k (last_of k)
+        is : IsLastBy (reads_of g) g outs k (last_of k)
         is = are.last k used
 
         inside : k < length g
@@ -282,7 +291,7 @@ module _ (days : List ℤ) (rise : AllPairs (λ a b. a <ℤ b) days) (p : Pipeli
 
         here : (b : Bool) → contains outs k ≡ b → kept k k ≡ true
         here true e = let l = is.output e in let i = inside in at-most (omega arith)
-        here false e = let r = is.reader e in let l = lower g outs ok.graph (last_of k) k r.1 in at-most (omega arith)
+        here false e = let r = is.reader e in let l = reads-lower g ok.graph (last_of k) k r.1 in at-most (omega arith)
 
     live-of : (k t : ℕ) → k < length g → t ≤ k → kept k t ≡ true → IsLive p k t
     live-of k t h l e = live-kept k t h ∙ and_from _ _ (let r : nat_le t k ≡ true = grind (arith, nat_tests) in r) e
@@ -346,7 +355,7 @@ module _ (days : List ℤ) (rise : AllPairs (λ a b. a <ℤ b) days) (p : Pipeli
 
       held-here : kept_below uses k + 1 + columns_held g k ≤ held
       held-here =
-          let b : fold max 0 (map (held_at g uses) (range_with_len 0 (length g))) ≡ most_held g outs = bound_is g outs uses ok.graph (read-too g outs uses checked.steady are) in
+          let b : fold max 0 (map (held_at g uses) (range_with_len 0 (length g))) ≡ most_held g outs = bound_is g outs uses ok.graph are in
           let m : held_at g uses k ≤ fold max 0 (map (held_at g uses) (range_with_len 0 (length g))) = most_in (held_at g uses) (length g) k inside in
           let is : held_at g uses k ≡ count_by (is_kept uses k) (range_with_len 0 (k + 1)) + columns_held g k = rw used refl in
           let c : count_by (is_kept uses k) (range_with_len 0 (k + 1)) ≡ count_by (is_kept uses k) (range_with_len 0 k) + one (is_kept uses k k) = count_more (is_kept uses k) k in
@@ -379,10 +388,6 @@ module _ (days : List ℤ) (rise : AllPairs (λ a b. a <ℤ b) days) (p : Pipeli
     used-of : (t : ℕ) → is_used plan t ≡ true → (use_at uses t).used ≡ true
     used-of t h = sym (used-here t) ∙ h
 
-    cone-is : (t : ℕ) → t < length g → cone plan t ≡ cone_depths g t
-    unfolding cone
-    cone-is t h = ap (λ cs. get_or cs t []) listed ∙ get_or-map-range_with_len (cone_depths g) 0 (length g) t t [] h (let z : 0 + t ≡ t = omega arith in z)
-
     pub is-plan : IsPlanOf days p plan
     is-plan = record {
       order = order;
@@ -391,8 +396,7 @@ module _ (days : List ℤ) (rise : AllPairs (λ a b. a <ℤ b) days) (p : Pipeli
       least = least;
       early = early;
       lows = lows;
-      held = held_is ∙ most-bound g outs checked.steady;
-      most = held_is;
+      held = held_is;
       last = last-is;
       live = live-plan;
       slots = record {
@@ -402,8 +406,7 @@ module _ (days : List ℤ) (rise : AllPairs (λ a b. a <ℤ b) days) (p : Pipeli
         room = λ k h. own-room k (used-of k h);
         columns_room = λ k i h l. column-room k (used-of k h) i (let f = held-few g k in omega arith) l;
       };
-      cones = λ t h. cone-is t h;
-      kept = subst (λ by. AreKeptBy by p plan) (sym (reads-same g checked.steady)) (record { live = live-plan; apart = λ k t u h a b e. apart k t u (used-of k h) a b e });
+      cones = listed;
     }
 
     pub limits : length p.graph ≤ most_terms → held ≤ most_terms + 5 → KeepsLimits plan

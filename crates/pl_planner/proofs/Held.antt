@@ -287,13 +287,10 @@ listed-cone g n k cs x is h e =
 pub reads-same : (g : Graph) → AllReadSteady g → reads_of g ≡ mentions_at g
 reads-same g steady = fun_ext (λ t. reads-mentions g steady t)
 
-pub mentioned : (g : Graph) (outputs : List ℕ) (us : List Use) → AllReadSteady g → AreUsesBy (reads_of g) g outputs us → AreUses g outputs us
-mentioned g outputs us steady are = subst (λ by. AreUsesBy by g outputs us) (reads-same g steady) are
-
-pub kept-mentioned : (ns ms : List code.Node) → ns ≡ ms → AllReadSteady (graph_of ms) → (outputs : List ℕ) (us vs : List Use)
-    → ((outs : List ℕ) → AreUses (graph_of ns) outs us → AreUsesBy (reads_of (graph_of ns)) (graph_of ns) outs vs) → AreUses (graph_of ms) outputs us → AreUses (graph_of ms) outputs vs
-kept-mentioned ns ms e steady outputs us vs h are =
-    mentioned (graph_of ms) outputs vs steady (subst (λ l. AreUses (graph_of l) outputs us → AreUsesBy (reads_of (graph_of l)) (graph_of l) outputs vs) e (h outputs) are)
+pub kept-read : (ns ms : List code.Node) → ns ≡ ms → (outputs : List ℕ) (us vs : List Use)
+    → ((outs : List ℕ) → AreUses (graph_of ns) outs us → AreUsesBy (reads_of (graph_of ns)) (graph_of ns) outs vs) → AreUses (graph_of ms) outputs us → AreUsesBy (reads_of (graph_of ms)) (graph_of ms) outputs vs
+kept-read ns ms e outputs us vs h are =
+    subst (λ l. AreUses (graph_of l) outputs us → AreUsesBy (reads_of (graph_of l)) (graph_of l) outputs vs) e (h outputs) are
 
 no-more-bars : (g : Graph) (t : ℕ) → columns_with g t [] ≡ columns_at g t
 no-more-bars g t = ap (λ bs. count_by (contains bs) (0 ∷ 1 ∷ 2 ∷ 3 ∷ 4 ∷ [])) (append-nil (bars_at g t)) ∙ here (slice_get g t) refl
@@ -310,11 +307,9 @@ most-bound g outputs steady =
     ap (λ f. fold max 0 (map f (used_terms g outputs)))
     (fun_ext (λ k. ap (λ by. length (live_terms_by by g outputs k) + columns_held g k) (reads-same g steady) ∙ ap (λ n. length (live_terms g outputs k) + n) (columns-same g steady k)))
 
-pub read-too : (g : Graph) (outputs : List ℕ) (us : List Use) → AllReadSteady g → AreUses g outputs us → AreUsesBy (reads_of g) g outputs us
-read-too g outputs us steady are = subst (λ by. AreUsesBy by g outputs us) (sym (reads-same g steady)) are
-
-pub most-listed : (ns ms : List code.Node) → ns ≡ ms → (outputs : List ℕ) (us vs : List Use) (n : ℕ) → vs ≡ us → AllReadSteady (graph_of ms)
-    → ((outs : List ℕ) → AreUsesBy (reads_of (graph_of ns)) (graph_of ns) outs vs → n ≡ most_held (graph_of ns) outs) → AreUses (graph_of ms) outputs us → n ≡ most_held (graph_of ms) outputs
-most-listed ns ms e outputs us vs n f steady h are =
+pub most-listed : (ns ms : List code.Node) → ns ≡ ms → (outputs : List ℕ) (us vs : List Use) (n : ℕ) → vs ≡ us
+    → ((outs : List ℕ) → AreUsesBy (reads_of (graph_of ns)) (graph_of ns) outs vs → n ≡ most_held (graph_of ns) outs)
+    → AreUsesBy (reads_of (graph_of ms)) (graph_of ms) outputs us → n ≡ most_held (graph_of ms) outputs
+most-listed ns ms e outputs us vs n f h are =
     subst (λ l. AreUsesBy (reads_of (graph_of l)) (graph_of l) outputs vs → n ≡ most_held (graph_of l) outputs) e (h outputs)
-    (subst (AreUsesBy (reads_of (graph_of ms)) (graph_of ms) outputs) (sym f) (read-too (graph_of ms) outputs us steady are))
+    (subst (AreUsesBy (reads_of (graph_of ms)) (graph_of ms) outputs) (sym f) are)

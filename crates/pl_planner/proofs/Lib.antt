@@ -3,6 +3,7 @@ pub mod Asking
 pub mod Coned
 pub mod Counting
 pub mod Covers
+pub mod Followers
 pub mod Gathers
 pub mod Held
 pub mod Live
@@ -12,6 +13,7 @@ pub mod Mentions
 pub mod Moved
 pub mod Passes
 pub mod Pipelines
+pub mod ReadTerms
 pub mod Tables
 pub mod Slotted
 pub mod Steadied

@@ -1,16 +1,16 @@
 -- What a plan is good for.
-use Rattle.std.specs.Prelude.{◌≡◌, ℕ, ◌<◌, ◌≤◌, true, ℤ, pos, ◌≤ℤ◌, ◌<ℤ◌, List, AllPairs, Some, slice_get}
+use Rattle.std.specs.Prelude.{◌≡◌, ℕ, ◌<◌, ◌≤◌, ◌↔◌, true, false, ℤ, pos, ◌≤ℤ◌, ◌<ℤ◌, List, AllPairs, Some, slice_get}
 use Rattle.pl_spec.specs.Limits.{most_extra_rows}
 use Rattle.pl_spec.specs.Window.{before}
 use Rattle.pl_pipeline.specs.Cones.{Borders, HasDepth, reads_of}
-use Rattle.pl_pipeline.specs.Graph.{contains}
-use Rattle.pl_pipeline.specs.Term.{Node}
+use Rattle.pl_pipeline.specs.Graph.{mentions_at, bound}
+use Rattle.pl_pipeline.specs.NodeValue.{AllReadSteady}
+use Rattle.pl_pipeline.specs.Term.{Graph, Node}
 use Rattle.pl_pipeline.specs.Lows.{Reads}
 use Rattle.pl_pipeline.specs.Table.{Pipeline}
 use Rattle.pl_terms.specs.Checked.{IsChecked}
-use Rattle.pl_terms.specs.Uses.{outputs}
-use Rattle.pl_planner.specs.Holds.{live_terms_by}
-use Rattle.pl_planner.specs.Plans.{Planned, IsAsked, IsPlanOf, is_used, low_at, cone, IsLive}
+use Rattle.pl_planner.specs.Columns.{most_held}
+use Rattle.pl_planner.specs.Plans.{Planned, IsAsked, IsPlanOf, has_cones, is_used, low_at, cone, IsLive}
 
 -- What a used term k reads of a term t, for a session that it is computed on: t is used, has a lower number,
 -- is live with k and is computed from that session on.
@@ -41,11 +41,11 @@ ConesAreCovered = (days : List ℤ) → AllPairs (λ a b. a <ℤ b) days
     → HasDepth u m (cone plan k) → IsCoveredAnew plan k u m c s
 
 -- What the cone of a term k reads of a term b beside the cone, on up to m sessions before session s: b is used,
--- has a lower number, is kept until k is computed, and is computed from the first of these on.
+-- has a lower number, is live with k, and is computed from the first of these on.
 pub record IsCoveredBeside (p : Pipeline) (plan : Planned) (k b m c : ℕ) (s : ℤ) : Type 0 where
   pub used : is_used plan b ≡ true
   pub lower : b < k
-  pub kept : contains (live_terms_by (reads_of p.graph) p.graph (outputs p) k) b ≡ true
+  pub live : IsLive p k b
   pub computed : pos (low_at plan b c) ≤ℤ before s m
 
 abbrev pub BordersAreCovered : Type 0
@@ -53,3 +53,14 @@ BordersAreCovered = (days : List ℤ) → AllPairs (λ a b. a <ℤ b) days
     → (p : Pipeline) → IsChecked p → (plan : Planned) → IsPlanOf days p plan
     → (k b m c : ℕ) (s : ℤ) → IsAsked plan k c → pos (low_at plan k c) ≤ℤ s
     → Borders p.graph k b m → IsCoveredBeside p plan k b m c s
+
+-- a plan has cones exactly where a window is over what moves
+abbrev pub ConesTellFollowers : Type 0
+ConesTellFollowers = (days : List ℤ) (p : Pipeline) → IsChecked p → (plan : Planned) → IsPlanOf days p plan
+    → (has_cones plan ≡ false) ↔ AllReadSteady p.graph
+
+-- Where no window is over what moves, a term reads what it mentions alone, and at once is held what is
+-- mentioned later.
+abbrev pub SteadyPlansHoldMentions : Type 0
+SteadyPlansHoldMentions = (g : Graph) → AllReadSteady g
+    → ((t : ℕ) → reads_of g t ≡ mentions_at g t) × ((outs : List ℕ) → most_held g outs ≡ bound g outs)

@@ -1,9 +1,10 @@
 -- The plan of a run, and why there is none.
-use Rattle.std.specs.Prelude.{◌≡◌, ℕ, ◌<◌, ◌≤◌, ◌+◌, ◌-◌, ◌*◌, ◌⊎◌, Bool, true, false, ◌&&◌, if◌then◌else◌, nat_le, nat_lt, ℤ, pos, ◌-ℤ◌, ◌<ℤ◌, ◌≤ℤ◌, List, [], length, get_or, slice_get, Option, Some, None}
+use Rattle.std.specs.Prelude.{◌≡◌, ℕ, ◌<◌, ◌≤◌, ◌+◌, ◌-◌, ◌*◌, ◌⊎◌, Bool, true, false, ◌&&◌, if◌then◌else◌, nat_le, nat_lt, ℤ, pos, ◌-ℤ◌, ◌<ℤ◌, ◌≤ℤ◌, List, [], length, map, get_or, slice_get, Option, Some, None}
+use Rattle.std.specs.List.{list_any, range_with_len}
 use Rattle.pl_spec.specs.Limits.{most_extra_rows, most_terms}
 use Rattle.pl_spec.specs.Window.{before}
 use Rattle.pl_pipeline.specs.Term.{Graph, Node}
-use Rattle.pl_pipeline.specs.Graph.{Used, contains, mentions_at, live_terms, bound}
+use Rattle.pl_pipeline.specs.Graph.{Used, contains}
 use Rattle.pl_pipeline.specs.Cones.{cone_depths, reads_of}
 use Rattle.pl_pipeline.specs.Lows.{IsLow, least_reach}
 use Rattle.pl_pipeline.specs.Table.{Pipeline}
@@ -47,7 +48,7 @@ low plan t = low_at plan t plan.from
 abbrev pub extra : Planned → ℕ → ℕ
 extra plan t = plan.from - low plan t
 
--- the last used term that mentions it; none where it is an output
+-- the last used term that reads it; none where it is an output
 unfoldable pub last_user : Planned → ℕ → Option ℕ
 last_user plan t =
     let last = (use_at plan.uses t).last in
@@ -72,6 +73,10 @@ column_slot plan t i = get_or (slots_at plan.slots t).columns i 0
 unfoldable pub cone : Planned → ℕ → List (ℕ × ℕ)
 cone plan t = get_or plan.cones t []
 
+-- a window is over terms that move with the bars
+abbrev pub has_cones : Planned → Bool
+has_cones plan = list_any (λ c. nat_lt 0 (length c)) plan.cones
+
 -- ---- the plan of a pipeline
 
 -- term t is used, and session s is one of the range
@@ -87,19 +92,24 @@ pub record AreLows (days : List ℤ) (p : Pipeline) (plan : Planned) : Type 0 wh
   pub bars : (t s : ℕ) (n : Node) → IsAsked plan t s → slice_get p.graph t ≡ Some n → HasBar n
       → plan.reach ≤ℤ before (pos (low_at plan t s)) n.window
 
+-- a term reads what it mentions, and what its cone reads beside it
 pub record IsLastUser (g : Graph) (outputs : List ℕ) (t last : ℕ) : Type 0 where
   pub used : Used g outputs last
-  pub reads : contains (mentions_at g last) t ≡ true
-  pub most : (u : ℕ) → Used g outputs u → contains (mentions_at g u) t ≡ true → u ≤ last
+  pub reads : contains (reads_of g last) t ≡ true
+  pub most : (u : ℕ) → Used g outputs u → contains (reads_of g u) t ≡ true → u ≤ last
 
 -- an output has no last user, and is kept to the end
 abbrev pub AreLastUsers : Graph → List ℕ → ℕ → Option ℕ → Type 0
 AreLastUsers g outputs t None = contains outputs t ≡ true
 AreLastUsers g outputs t (Some last) = (contains outputs t ≡ false) × IsLastUser g outputs t last
 
+-- the used terms that are still to be read when term k is computed, k among them
+abbrev pub live_terms : Pipeline → ℕ → List ℕ
+live_terms p k = live_terms_by (reads_of p.graph) p.graph (outputs p) k
+
 -- term t is live while term k is computed
 abbrev pub IsLive : Pipeline → ℕ → ℕ → Type 0
-IsLive p k t = contains (live_terms p.graph (outputs p) k) t ≡ true
+IsLive p k t = contains (live_terms p k) t ≡ true
 
 -- one of the terms below n that are live with term k has the slot
 pub record HasSlot (p : Pipeline) (plan : Planned) (k n slot : ℕ) : Type 0 where
@@ -124,14 +134,6 @@ pub record AreSlots (p : Pipeline) (plan : Planned) : Type 0 where
   pub columns_room : (k i : ℕ) → is_used plan k ≡ true → i < columns_held p.graph k
       → column_slot plan k i < plan.bound
 
--- Who is live with whom, and the last user, where by says what each term reads. So no two terms share a slot
--- of which one is read while the other is.
-pub record AreKeptBy (by : ℕ → List ℕ) (p : Pipeline) (plan : Planned) : Type 0 where
-  pub live : (k t : ℕ) → k < length p.graph
-      → is_live plan k t ≡ contains (live_terms_by by p.graph (outputs p) k) t
-  pub apart : (k t u : ℕ) → is_used plan k ≡ true → contains (live_terms_by by p.graph (outputs p) k) t ≡ true
-      → contains (live_terms_by by p.graph (outputs p) k) u ≡ true → slot_of plan t ≡ slot_of plan u → t ≡ u
-
 -- what a plan says of a pipeline over the sessions of these days
 pub record IsPlanOf (days : List ℤ) (p : Pipeline) (plan : Planned) : Type 0 where
   pub order : plan.from ≤ plan.to
@@ -140,13 +142,11 @@ pub record IsPlanOf (days : List ℤ) (p : Pipeline) (plan : Planned) : Type 0 w
   pub least : plan.reach ≡ least_reach days p.graph (outputs p) (pos plan.from)
   pub early : pos 0 ≤ℤ plan.reach
   pub lows : AreLows days p plan
-  pub held : plan.bound ≡ bound p.graph (outputs p)
-  pub most : plan.bound ≡ most_held p.graph (outputs p)
+  pub held : plan.bound ≡ most_held p.graph (outputs p)
   pub last : (t : ℕ) → is_used plan t ≡ true → AreLastUsers p.graph (outputs p) t (last_user plan t)
-  pub live : (k t : ℕ) → k < length p.graph → is_live plan k t ≡ contains (live_terms p.graph (outputs p) k) t
+  pub live : (k t : ℕ) → k < length p.graph → is_live plan k t ≡ contains (live_terms p k) t
   pub slots : AreSlots p plan
-  pub cones : (t : ℕ) → t < length p.graph → cone plan t ≡ cone_depths p.graph t
-  pub kept : AreKeptBy (reads_of p.graph) p plan
+  pub cones : plan.cones ≡ map (cone_depths p.graph) (range_with_len 0 (length p.graph))
 
 -- ---- why there is none
 

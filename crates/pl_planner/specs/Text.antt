@@ -3,12 +3,13 @@ use Rattle.std.specs.Prelude.{◌≡◌, ℕ, true, if◌then◌else◌, ℤ, po
 use Rattle.pl_pipeline.specs.Term.{Input, Node}
 use Rattle.pl_pipeline.specs.Term.Input.{BarColumn, TermInput}
 use Rattle.std.specs.Fmt.{signed_decimal}
-use Rattle.pl_pipeline.specs.Graph.{used_terms, bound}
+use Rattle.pl_pipeline.specs.Graph.{used_terms}
 use Rattle.pl_pipeline.specs.Cones.{cone_depths}
 use Rattle.pl_pipeline.specs.Lows.{IsLow, least_reach}
 use Rattle.pl_pipeline.specs.Table.{Pipeline}
 use Rattle.pl_spec.specs.Names.{column_name}
 use Rattle.pl_terms.specs.Uses.{outputs, is_used, uses}
+use Rattle.pl_planner.specs.Columns.{most_held}
 use Rattle.pl_planner.specs.Names.{kind_name}
 
 -- a bar column by its name, a term by its number
@@ -82,4 +83,4 @@ plan_text p extra reach bound = lines_text p extra ++ last_line reach bound
 pub record IsPlanText (days : List ℤ) (p : Pipeline) (from : ℕ) (text : List ℕ) : Type 0 where
   pub extra : ℕ → ℕ
   pub low : (t : ℕ) → is_used p t ≡ true → IsLow days p.graph (outputs p) (pos from) t (pos from -ℤ pos (extra t))
-  pub is : text ≡ plan_text p extra (least_reach days p.graph (outputs p) (pos from)) (bound p.graph (outputs p))
+  pub is : text ≡ plan_text p extra (least_reach days p.graph (outputs p) (pos from)) (most_held p.graph (outputs p))

@@ -1,7 +1,7 @@
 //! The cone of a term: the terms that its windows are over and that move with the bars.
 
-ghost use Rattle.std.specs.Prelude.{◌≡◌, ℕ, ◌<◌, ◌≤◌, ◌-◌, ◌^◌, ◌++◌, ◌∷◌, [], List, IfOk, OnOk, Some, false, get_or, if◌then◌else◌, length, map};
-ghost use Rattle.std.specs.List.{range_with_len};
+ghost use Rattle.std.specs.Prelude.{◌≡◌, ℕ, ◌<◌, ◌≤◌, ◌-◌, ◌^◌, ◌++◌, ◌∷◌, [], List, IfOk, OnOk, Some, false, get_or, if◌then◌else◌, length, map, nat_lt};
+ghost use Rattle.std.specs.List.{list_any, range_with_len};
 ghost use Rattle.pl_spec.specs.Limits.{most_terms};
 ghost use Rattle.pl_pipeline.specs.Cones.{cone_depths, depths_below, is_windowed, larger};
 ghost use Rattle.pl_pipeline.specs.Term.{IsGraph};
@@ -9,6 +9,7 @@ ghost use Rattle.pl_terms.specs.Nodes.{graph_of, input_of, node_of, number_of};
 ghost use Rattle.pl_planner.specs.Cones.{AddsMarks, AreMarks, HaveRoom, cones_of, moving_marks, pairs_of};
 ghost use Rattle.pl_planner.specs.Steady.{AreSteady};
 
+use crate::columns::either;
 use crate::steady::{is_windowed, steady_terms};
 use pl_fixed::Memory;
 use pl_terms::{Graph, Input, Node, TermId};
@@ -182,4 +183,15 @@ pub fn cone_at(alloc: Global, graph: &Graph, t: TermId) -> Result<Vec<ConeTerm>,
     let steady = steady_terms(graph);
     let cone = cone_of(alloc, graph, &steady, t)?;
     Ok(cone.terms)
+}
+
+/// Has one of the cones a term?
+#[tactic(auto, using(crate::proofs::Coned::any_none))]
+pub(crate) fn any_terms(cones: &[Cone]) -> bool
+    ensures { result ≡ list_any (λ c. nat_lt 0 (length c)) (cones_of cones.now) }
+{
+    match cones {
+        [] => false,
+        [first, rest @ ..] => either(first.terms.len() > 0, any_terms(rest)),
+    }
 }

@@ -5,7 +5,7 @@ ghost use Rattle.pl_terms.specs.Nodes.{number_of};
 ghost use Rattle.pl_planner.specs.Cones.{pairs_of};
 ghost use Rattle.pl_planner.specs.Plans as spec;
 
-use crate::cones::{Cone, ConeTerm};
+use crate::cones::{Cone, ConeTerm, any_terms};
 use crate::slots::TermSlots;
 use crate::uses::{Use, use_of};
 use pl_terms::TermId;
@@ -157,6 +157,13 @@ impl Plan {
         ensures { result ≡ spec.column_slot self.now t.0 i }
     {
         self.slots[t.0 as usize].columns[i]
+    }
+
+    /// Is a window over terms that move with the bars, so that their values are computed anew?
+    pub fn has_cones(&self) -> bool
+        ensures { result ≡ spec.has_cones self.now }
+    {
+        any_terms(&self.cones)
     }
 
     /// The cone of a used term: the terms that its windows are over and that move with the bars, ascending,

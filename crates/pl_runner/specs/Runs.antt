@@ -1,10 +1,10 @@
 -- The steps and the report of a run.
 use Rattle.std.specs.Prelude.{List, ◌≡◌, ℕ, ◌+◌, ◌-◌, ◌*◌, ◌≤◌, pos, ◌+ℤ◌, length, sum_by}
 use Rattle.pl_spec.specs.World.{World}
-use Rattle.pl_pipeline.specs.Graph.{bound}
 use Rattle.pl_pipeline.specs.Table.{Pipeline, Row, table, sum_of_cells}
 use Rattle.pl_spec.specs.Limits.{saturated}
 use Rattle.pl_terms.specs.Uses.{outputs}
+use Rattle.pl_planner.specs.Columns.{most_held}
 use Rattle.pl_planner.specs.Plans.{Planned}
 use Rattle.pl_table.specs.Outcomes.{rows_of_sessions}
 use Rattle.pl_table.specs.Sums.{rows_sum}
@@ -35,7 +35,7 @@ pub record IsChunkDone (w : World) (p : Pipeline) (plan : Planned) (chunk : Chun
   pub sum : new.sum ≡ old.sum +ℤ rows_sum w.texts (rows_of_sessions w p chunk.from (chunk.to + 1 - chunk.from))
   pub few : new.rows ≤ old.rows + (chunk.to + 1 - chunk.from) * length w.assets
   pub buffers : (other : Chunk) → AreBuffersFor w p plan other before → AreBuffersFor w p plan other after
-  pub peak : r.peak ≡ bound p.graph (outputs p)
+  pub peak : r.peak ≡ most_held p.graph (outputs p)
   pub applied : r.applied ≡ saturated (steps_of_chunk w p plan chunk)
 
 -- how many rows there are, and the sum of their cells
@@ -48,5 +48,5 @@ pub record AreTotals (w : World) (all : List Row) (totals : Totals) : Type 0 whe
 pub record IsReport (w : World) (p : Pipeline) (plan : Planned) (size : ℕ) (report : RunReport) : Type 0 where
   pub rows : report.rows ≡ length (table w p plan.from plan.to)
   pub cells : pos report.cells ≡ sum_of_cells w.texts (table w p plan.from plan.to)
-  pub peak : report.peak ≡ bound p.graph (outputs p)
+  pub peak : report.peak ≡ most_held p.graph (outputs p)
   pub applied : report.applied ≡ saturated (run_steps w p plan size)

@@ -2,7 +2,7 @@
 use Rattle.std.proofs.Common.{◌≡◌, ◌∙◌, ◌<◌, ◌≤◌, sym, refl, ap, arith, ℕ, Bool, true, false, true≢false, cond, unwrap_or, Result, Ok, Err, MatchResult, is_some, None, List, [], map, length, Option, Some, option_map, slice_index_or, Bor}
 use Rattle.std.specs.Result.{result_ok}
 use Rattle.std.proofs.lemmas.List.{get_or-map}
-use Rattle.pl_words.specs.declared.commands.OptionName.TheVariants.{Labels, Numbers, Adjustments, Revisions}
+use Rattle.pl_words.specs.declared.commands.OptionName.TheVariants.{Labels, Numbers, Results, Adjustments, Revisions}
 use Rattle.pl_words.specs.Parts.{Word, one_value}
 use Rattle.pl_spec.specs.Decimals.{sid_in}
 use Rattle.pl_spec.specs.declared.Column.{Column}
@@ -27,19 +27,20 @@ pub value_read : {E : Type 0} → (r : Result (Option (Bor Word)) E) (got : Opti
 value_read (Ok v) got value is same = is ∙ ap (λ (o : Option (Option (Bor Word))). option_map (λ v. option_map (λ s. s.now) v) o) (sym same)
 value_read (Err e) got value is same = absurd (true≢false (ap is_some same))
 
-pub world_read : (vs : List (Bor Word)) (values : Values) (d1 d2 d3 : Bor Word) (labels numbers adjustments revisions : Option Word) → 4 ≤ length vs
-    → one_value (values Labels) ≡ Some labels → one_value (values Numbers) ≡ Some numbers → one_value (values Adjustments) ≡ Some adjustments → one_value (values Revisions) ≡ Some revisions
+pub world_read : (vs : List (Bor Word)) (values : Values) (d1 d2 d3 : Bor Word) (labels numbers results adjustments revisions : Option Word) → 4 ≤ length vs
+    → one_value (values Labels) ≡ Some labels → one_value (values Numbers) ≡ Some numbers → one_value (values Results) ≡ Some results → one_value (values Adjustments) ≡ Some adjustments → one_value (values Revisions) ≡ Some revisions
     → world_in (words vs) values ≡ Some (record {
       sessions = (slice_index_or vs 1 d1).now;
       assets = (slice_index_or vs 2 d2).now;
       bars = (slice_index_or vs 3 d3).now;
       labels = labels;
       numbers = numbers;
+      results = results;
       adjustments = adjustments;
       revisions = revisions;
     })
-world_read vs values d1 d2 d3 labels numbers adjustments revisions four l n a r =
-    rw (l, n, a, r, word_at vs 1 d1 (omega arith), word_at vs 2 d2 (omega arith), word_at vs 3 d3 (omega arith)) refl
+world_read vs values d1 d2 d3 labels numbers results adjustments revisions four l n s a r =
+    rw (l, n, s, a, r, word_at vs 1 d1 (omega arith), word_at vs 2 d2 (omega arith), word_at vs 3 d3 (omega arith)) refl
 
 pub bars_world_read : (vs : List (Bor Word)) (values : Values) (d0 d1 d2 : Bor Word) (adjustments revisions : Option Word) → 3 ≤ length vs
     → one_value (values Adjustments) ≡ Some adjustments → one_value (values Revisions) ≡ Some revisions
@@ -49,6 +50,7 @@ pub bars_world_read : (vs : List (Bor Word)) (values : Values) (d0 d1 d2 : Bor W
       bars = (slice_index_or vs 2 d2).now;
       labels = None;
       numbers = None;
+      results = None;
       adjustments = adjustments;
       revisions = revisions;
     })

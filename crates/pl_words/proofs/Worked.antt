@@ -26,6 +26,7 @@ over labels numbers adjustments revisions = record {
   bars = codes "bars.csv";
   labels = labels;
   numbers = numbers;
+  results = None;
   adjustments = adjustments;
   revisions = revisions;
 }
@@ -52,6 +53,10 @@ no_options = refl
 mixed : request (codes "run" ∷ codes "--labels=-l" ∷ codes "--numbers=n" ∷ (names ++ codes "--adjustments" ∷ codes "a.db" ∷ codes "--revisions=r" ∷ codes "--" ∷ dates)) ≡ asks (Some (codes "-l")) (Some (codes "n")) (Some (codes "a.db")) (Some (codes "r")) 126 Csv false
 unfolding request counted date_in day_if days_from_civil day_count days_of_years days_of_months decimal_digits digits date_text
 mixed = refl
+
+with_results : request (codes "run" ∷ codes "--results=c" ∷ (names ++ dates)) ≡ Some (Run (table (record (over None None None None) { results = Some (codes "c") }) 126 Csv false))
+unfolding request counted date_in day_if days_from_civil day_count days_of_years days_of_months decimal_digits digits date_text
+with_results = refl
 
 with_options : map (λ (options : List Word). request (codes "run" ∷ (options ++ (names ++ dates)))) (
     (codes "--chunk=1" ∷ [])

@@ -1,7 +1,7 @@
 -- The commands, as data.
 use Rattle.std.specs.Prelude.{ℕ, List, [], ◌∷◌, Option, find, bytes_eq, codes}
 use Rattle.pl_words.specs.declared.commands.OptionName.{OptionName}
-use Rattle.pl_words.specs.declared.commands.OptionName.TheVariants.{Labels, Numbers, Adjustments, Revisions, Chunk, Format, Stats, AsOf, Part}
+use Rattle.pl_words.specs.declared.commands.OptionName.TheVariants.{Labels, Numbers, Results, Adjustments, Revisions, Chunk, Format, Stats, AsOf, Part}
 use Rattle.pl_words.specs.declared.commands.CommandName.{CommandName}
 use Rattle.pl_words.specs.declared.commands.CommandName.TheVariants.{Run, Check, Fmt, Plan, Bench, Payouts, Explain, Verify, Daily, Cut, Windows}
 use Rattle.pl_words.specs.Parts.{Word}
@@ -38,16 +38,16 @@ places_of Windows = 7  -- SESSIONS ASSETS BARS COLUMN FROM TO WINDOW
 
 -- the options that it knows
 abbrev pub options_of : CommandName → List OptionName
-options_of Run = Labels ∷ Numbers ∷ Adjustments ∷ Revisions ∷ Chunk ∷ Format ∷ Stats ∷ AsOf ∷ []
+options_of Run = Labels ∷ Numbers ∷ Results ∷ Adjustments ∷ Revisions ∷ Chunk ∷ Format ∷ Stats ∷ AsOf ∷ []
 options_of Check = []
 options_of Fmt = []
 options_of Plan = []
 options_of Bench = Chunk ∷ []
 options_of Payouts = []
-options_of Explain = Labels ∷ Numbers ∷ Adjustments ∷ Revisions ∷ []
-options_of Verify = Labels ∷ Numbers ∷ Adjustments ∷ Revisions ∷ []
-options_of Daily = Labels ∷ Numbers ∷ Adjustments ∷ Revisions ∷ Format ∷ []
-options_of Cut = Labels ∷ Numbers ∷ Adjustments ∷ Revisions ∷ Part ∷ []
+options_of Explain = Labels ∷ Numbers ∷ Results ∷ Adjustments ∷ Revisions ∷ []
+options_of Verify = Labels ∷ Numbers ∷ Results ∷ Adjustments ∷ Revisions ∷ []
+options_of Daily = Labels ∷ Numbers ∷ Results ∷ Adjustments ∷ Revisions ∷ Format ∷ []
+options_of Cut = Labels ∷ Numbers ∷ Results ∷ Adjustments ∷ Revisions ∷ Part ∷ []
 options_of Windows = Adjustments ∷ Revisions ∷ []
 
 abbrev pub command_named : Word → Option CommandName

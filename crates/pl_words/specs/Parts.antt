@@ -2,7 +2,7 @@
 use Rattle.std.specs.Prelude.{ℕ, List, [], ◌∷◌, Bool, true, false, not, ◌&&◌, ◌==◌, if◌then◌else◌, Option, Some, None, option_map, option_and_then, is_some, map, find, bytes_eq, codes}
 use Rattle.std.specs.List.{list_any, before_first, after_first}
 use Rattle.pl_words.specs.declared.commands.OptionName.{OptionName}
-use Rattle.pl_words.specs.declared.commands.OptionName.TheVariants.{Labels, Numbers, Adjustments, Revisions, Chunk, Format, Stats, AsOf}
+use Rattle.pl_words.specs.declared.commands.OptionName.TheVariants.{Labels, Numbers, Results, Adjustments, Revisions, Chunk, Format, Stats, AsOf}
 use Rattle.pl_words.specs.declared.commands.OptionName.TheVariants as option
 
 abbrev pub Word : Type 0
@@ -12,6 +12,7 @@ Word = List ℕ
 abbrev pub text_of : OptionName → Word
 text_of Labels = codes "labels"
 text_of Numbers = codes "numbers"
+text_of Results = codes "results"
 text_of Adjustments = codes "adjustments"
 text_of Revisions = codes "revisions"
 text_of Chunk = codes "chunk"

@@ -1,6 +1,7 @@
 -- What the words ask for.
 use Rattle.std.specs.Prelude.{ℕ, ◌≤◌, ⊤, ℤ, List, [], ◌∷◌, Bool, false, ◌==◌, ◌&&◌, nat_le, if◌then◌else◌, Option, Some, None, option_map, option_and_then, is_some, find, length, slice_index_or, bytes_eq, codes}
 use Rattle.std.specs.List.{list_all}
+use Rattle.std.specs.Option.{option_or}
 use Rattle.pl_spec.specs.Limits.{most_chunk, most_window}
 use Rattle.pl_spec.specs.Dates.{date_in}
 use Rattle.pl_spec.specs.Decimals.{sid_in}
@@ -35,14 +36,15 @@ pub record Options : Type 0 where
   pub stats : Bool
   pub as_of : Option Dated
 
--- the names of the files of a world, and those of its labels, numbers, adjustments and revisions where it has
--- some
+-- the names of the files of a world, and those of its labels, numbers, results, adjustments and revisions
+-- where it has some; results are numbers of a second file
 pub record WorldNames : Type 0 where
   pub sessions : List ℕ
   pub assets : List ℕ
   pub bars : List ℕ
   pub labels : Option (List ℕ)
   pub numbers : Option (List ℕ)
+  pub results : Option (List ℕ)
   pub adjustments : Option (List ℕ)
   pub revisions : Option (List ℕ)
 
@@ -195,24 +197,25 @@ options_by values =
 abbrev pub usual : form.Format → Options
 usual format = record { chunk = usual_chunk; format = format; stats = false; as_of = None }
 
-abbrev pub world_over : List Word → Option Word → Option Word → Option Word → Option Word → WorldNames
-world_over names labels numbers adjustments revisions =
+abbrev pub world_over : List Word → Option Word → Option Word → Option Word → Option Word → Option Word → WorldNames
+world_over names labels numbers results adjustments revisions =
     record {
       sessions = name names 1;
       assets = name names 2;
       bars = name names 3;
       labels = labels;
       numbers = numbers;
+      results = results;
       adjustments = adjustments;
       revisions = revisions;
     }
 
--- three names after that of the pipeline, and four options
+-- three names after that of the pipeline, and five options
 abbrev pub world_in : List Word → Values → Option WorldNames
 world_in names values =
-    option_and_then (λ labels. option_and_then (λ numbers. option_and_then (λ adjustments.
-    option_map (λ revisions. world_over names labels numbers adjustments revisions)
-    (one_value (values option.Revisions))) (one_value (values option.Adjustments)))
+    option_and_then (λ labels. option_and_then (λ numbers. option_and_then (λ results. option_and_then (λ adjustments.
+    option_map (λ revisions. world_over names labels numbers results adjustments revisions)
+    (one_value (values option.Revisions))) (one_value (values option.Adjustments))) (one_value (values option.Results)))
     (one_value (values option.Numbers))) (one_value (values option.Labels))
 
 abbrev pub table_over : List Word → Options → Dated → Dated → WorldNames → RunRequest
@@ -294,6 +297,7 @@ bars_world_over names adjustments revisions =
       bars = name names 2;
       labels = None;
       numbers = None;
+      results = None;
       adjustments = adjustments;
       revisions = revisions;
     }
@@ -388,11 +392,16 @@ world_of (Cut q) = Some q.table.world
 world_of (Windows q) = Some q.world
 world_of q = None
 
+-- the name of a file of numbers: that of the first one, or else that of the results
+abbrev pub numbers_named : WorldNames → Option (List ℕ)
+numbers_named w = option_or w.numbers w.results
+
 abbrev pub world_file : WorldNames → InputFile → Option (List ℕ)
 world_file w file.Sessions = Some w.sessions
 world_file w file.Assets = Some w.assets
 world_file w file.Labels = w.labels
 world_file w file.Numbers = w.numbers
+world_file w file.Results = w.results
 world_file w file.Bars = Some w.bars
 world_file w file.Revisions = w.revisions
 world_file w file = None

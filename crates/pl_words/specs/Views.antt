@@ -30,6 +30,7 @@ world_names_of r =
       bars = r.bars.now;
       labels = option_map (λ n. n.now) r.labels;
       numbers = option_map (λ n. n.now) r.numbers;
+      results = option_map (λ n. n.now) r.results;
       adjustments = option_map (λ n. n.now) r.adjustments;
       revisions = option_map (λ n. n.now) r.revisions;
     }

@@ -25,6 +25,7 @@ pub enum CommandName {
 pub enum OptionName {
     Labels,
     Numbers,
+    Results,
     Adjustments,
     Revisions,
     Chunk,
@@ -75,6 +76,7 @@ impl CommandName {
             CommandName::Run => &[
                 OptionName::Labels,
                 OptionName::Numbers,
+                OptionName::Results,
                 OptionName::Adjustments,
                 OptionName::Revisions,
                 OptionName::Chunk,
@@ -85,12 +87,14 @@ impl CommandName {
             CommandName::Explain | CommandName::Verify => &[
                 OptionName::Labels,
                 OptionName::Numbers,
+                OptionName::Results,
                 OptionName::Adjustments,
                 OptionName::Revisions,
             ],
             CommandName::Daily => &[
                 OptionName::Labels,
                 OptionName::Numbers,
+                OptionName::Results,
                 OptionName::Adjustments,
                 OptionName::Revisions,
                 OptionName::Format,
@@ -98,6 +102,7 @@ impl CommandName {
             CommandName::Cut => &[
                 OptionName::Labels,
                 OptionName::Numbers,
+                OptionName::Results,
                 OptionName::Adjustments,
                 OptionName::Revisions,
                 OptionName::Part,
@@ -117,6 +122,7 @@ impl OptionName {
         match self {
             OptionName::Labels => "labels",
             OptionName::Numbers => "numbers",
+            OptionName::Results => "results",
             OptionName::Adjustments => "adjustments",
             OptionName::Revisions => "revisions",
             OptionName::Chunk => "chunk",

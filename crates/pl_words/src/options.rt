@@ -31,7 +31,7 @@ pub(crate) fn options<'a>(matches: &ArgMatches<'a>) -> Option<Options<'a>>
     })
 }
 
-/// The names of a world: three of the names, and the values of four options.
+/// The names of a world: three of the names, and the values of five options.
 pub(crate) fn world_in<'a>(names: &[&'a str], matches: &ArgMatches<'a>) -> Option<WorldNames<'a>>
     requires { 4 ≤ length names.now }
     ensures { MatchOption result
@@ -40,6 +40,7 @@ pub(crate) fn world_in<'a>(names: &[&'a str], matches: &ArgMatches<'a>) -> Optio
 {
     let labels = value(matches, OptionName::Labels).ok()?;
     let numbers = value(matches, OptionName::Numbers).ok()?;
+    let results = value(matches, OptionName::Results).ok()?;
     let adjustments = value(matches, OptionName::Adjustments).ok()?;
     let revisions = value(matches, OptionName::Revisions).ok()?;
     Some(WorldNames {
@@ -48,6 +49,7 @@ pub(crate) fn world_in<'a>(names: &[&'a str], matches: &ArgMatches<'a>) -> Optio
         bars: names[3],
         labels,
         numbers,
+        results,
         adjustments,
         revisions,
     })
@@ -76,6 +78,7 @@ pub(crate) fn bars_world_in<'a>(
         bars: names[2],
         labels: None,
         numbers: None,
+        results: None,
         adjustments: adjusted,
         revisions: revised,
     })

@@ -1,7 +1,7 @@
 //! What a command is asked for, and what it names.
 
 ghost use Rattle.std.specs.Prelude.{◌≡◌, [], option_map, option_and_then, unwrap_or};
-ghost use Rattle.pl_words.specs.Request.{adjustments_of, column_asked, column_named, date_asked, date_named, file_named, name_asked, pipeline_of, table_date, world_file, world_of};
+ghost use Rattle.pl_words.specs.Request.{adjustments_of, column_asked, column_named, date_asked, date_named, file_named, name_asked, numbers_named, pipeline_of, table_date, world_file, world_of};
 ghost use Rattle.pl_words.specs.Views.{dated_of, request_of, run_of, text_of, world_names_of};
 
 use pl_spec::{Column, Format};
@@ -14,6 +14,7 @@ pub enum InputFile {
     Assets,
     Labels,
     Numbers,
+    Results,
     Bars,
     Revisions,
     Payouts,
@@ -60,8 +61,8 @@ pub struct Options<'a> {
     pub as_of: Option<DateWord<'a>>,
 }
 
-/// The names of the files of a world, and those of its labels, numbers, adjustments and revisions where it
-/// has some.
+/// The names of the files of a world, and those of its labels, numbers, results, adjustments and revisions
+/// where it has some. Results are numbers of a second file.
 #[derive(Clone, Copy)]
 pub struct WorldNames<'a> {
     pub sessions: &'a str,
@@ -69,6 +70,7 @@ pub struct WorldNames<'a> {
     pub bars: &'a str,
     pub labels: Option<&'a str>,
     pub numbers: Option<&'a str>,
+    pub results: Option<&'a str>,
     pub adjustments: Option<&'a str>,
     pub revisions: Option<&'a str>,
 }
@@ -287,6 +289,16 @@ impl<'a> Request<'a> {
 }
 
 impl<'a> WorldNames<'a> {
+    /// The name of a file of numbers: that of the first one, or else that of the results.
+    pub fn numbers_named(&self) -> Option<&'a str>
+        ensures { text_of result ≡ numbers_named (world_names_of self.now) }
+    {
+        match self.numbers {
+            Some(name) => Some(name),
+            None => self.results,
+        }
+    }
+
     fn file(&self, file: InputFile) -> Option<&'a str>
         ensures { text_of result ≡ world_file (world_names_of self.now) file }
     {
@@ -295,6 +307,7 @@ impl<'a> WorldNames<'a> {
             InputFile::Assets => Some(self.assets),
             InputFile::Labels => self.labels,
             InputFile::Numbers => self.numbers,
+            InputFile::Results => self.results,
             InputFile::Bars => Some(self.bars),
             InputFile::Revisions => self.revisions,
             InputFile::Pipeline | InputFile::Payouts | InputFile::Derivation => None,

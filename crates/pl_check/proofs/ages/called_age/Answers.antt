@@ -1,4 +1,5 @@
 use Rattle.std.proofs.Common.{◌≡◌, true, List, [], ◌∷◌, ◌++◌, refl, sym, ap, subst, ◌∙◌}
+use Rattle.pl_terms.specs.Nodes.{interned}
 use Rattle.pl_check.specs.declared.operation.Operation.TheVariants.{Age}
 use Rattle.pl_check.specs.declared.operation.Parameter.TheVariants.{Name}
 use Rattle.pl_check.specs.declared.value.Bound as code
@@ -9,7 +10,7 @@ use Rattle.pl_check.specs.Parameters.{number_of}
 use Rattle.pl_check.specs.Rules.{each}
 use Rattle.pl_check.specs.Seen.{value_of, bounds_of, all_written}
 use Rattle.pl_check.specs.Standing.{AreInGraph, has, is_few}
-use Rattle.pl_check.specs.Typed.{found, called}
+use Rattle.pl_check.specs.Typed.{called}
 use Rattle.pl_check.specs.Values.{Bound, bound}
 use Rattle.pl_check.proofs.Aged.{age-is-factor}
 use Rattle.pl_check.proofs.ages.called_age.Goals as goal
@@ -43,4 +44,4 @@ kept_factor-requires c =
     let x = value_of c.in-Ok-called_behind.age in
     let same = one-bound c.args.name c.push.new.self.items c.new-bound.result.items c.in-Ok.ensures.items c.new-bound.ensures.items in
     age-is-factor c.args.place (given c.args.name) (all_written c.args.written.now) s t x
-    (ap (λ bs. called c.args.place Age bs (all_written c.args.written.now) s) (sym same) ∙ c.in-Ok-called_behind.ensures)
+    (ap (λ bs. called interned c.args.place Age bs (all_written c.args.written.now) s) (sym same) ∙ c.in-Ok-called_behind.ensures)

@@ -1,4 +1,4 @@
-use Rattle.std.proofs.Common.{◌≡◌, ◌<◌, length, option_map, sym, ap, subst, ◌∙◌}
+use Rattle.std.proofs.Common.{◌<◌, option_map, sym, ap, subst, ◌∙◌}
 use Rattle.pl_terms.specs.declared.row.Sort.TheVariants.{Factors}
 use Rattle.pl_terms.specs.Kinds.{kind_of}
 use Rattle.pl_terms.specs.Nodes.{graph_of}

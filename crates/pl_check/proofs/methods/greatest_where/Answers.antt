@@ -1,5 +1,6 @@
 use Rattle.std.proofs.Common.{[]}
 use Rattle.pl_pipeline.specs.declared.Summary.TheVariants.{Greatest}
+use Rattle.pl_terms.specs.Nodes.{interned}
 use Rattle.pl_check.specs.declared.operation.Operation.TheVariants.{Summarize}
 use Rattle.pl_check.specs.Seen.{value_of, all_written}
 use Rattle.pl_check.specs.Typed.{method_of}
@@ -18,4 +19,4 @@ called_on-requires-clause-sound c = (after-where c.args.place (value_of c.args.o
 
 pub returns : goal.returns
 unfolding all_written
-returns c = finds-then c.called_on.new.terms c.called_on.result (λ r. method_of c.args.place r.value [] r.terms (Summarize Greatest)) c.in_ok-kept.ensures c.called_on.ensures
+returns c = finds-then c.called_on.new.terms c.called_on.result (λ r. method_of interned c.args.place r.value [] r.terms (Summarize Greatest)) c.in_ok-kept.ensures c.called_on.ensures

@@ -1,4 +1,5 @@
 use Rattle.std.proofs.Common.{rules, [], sym, subst}
+use Rattle.pl_terms.specs.Nodes.{interned}
 use Rattle.pl_check.specs.declared.operation.Operation.TheVariants.{StaticSids}
 use Rattle.pl_check.specs.Answers.{Fails, Finds}
 use Rattle.pl_check.specs.Made.{terms_of}
@@ -16,7 +17,7 @@ returns-then-written-ne1 c =
 pub returns-in_err-filter : goal.returns-in_err-filter
 returns-in_err-filter c =
     let f : Fails c.in_err-filter.field-0.0 _ = subst (Fails c.in_err-filter.field-0.0) (sym (one-is c.args.place (value_of c.args.object) c.args.written.now (terms_of c.args.terms.now) c.if-written-ne1.false))
-    (fails-then c.in_err-filter.field-0.0 (called c.args.place StaticSids [] (all_written c.args.written.now) (terms_of c.args.terms.now)) (λ r. greatest_where c.args.place (value_of c.args.object) r.value r.terms) c.in_err-filter.ensures) in
+    (fails-then c.in_err-filter.field-0.0 (called interned c.args.place StaticSids [] (all_written c.args.written.now) (terms_of c.args.terms.now)) (λ r. greatest_where interned c.args.place (value_of c.args.object) r.value r.terms) c.in_err-filter.ensures) in
     search (rules, f)
 
 pub greatest_where-requires-clause-object : goal.greatest_where-requires-clause-object
@@ -33,4 +34,4 @@ greatest_where-requires-clause-sound c = (after-filter c.args.place (all_written
 pub returns : goal.returns
 returns c =
     subst (Finds value_of c.greatest_where.new.terms c.greatest_where.result) (sym (one-is c.args.place (value_of c.args.object) c.args.written.now (terms_of c.args.terms.now) c.if-written-ne1.false))
-    (finds-then c.greatest_where.new.terms c.greatest_where.result (λ r. greatest_where c.args.place (value_of c.args.object) r.value r.terms) c.in_ok-filter.ensures c.greatest_where.ensures)
+    (finds-then c.greatest_where.new.terms c.greatest_where.result (λ r. greatest_where interned c.args.place (value_of c.args.object) r.value r.terms) c.in_ok-filter.ensures c.greatest_where.ensures)

@@ -1,4 +1,5 @@
 use Rattle.std.proofs.Common.{◌≡◌, ◌++◌, sym, ap, subst, ◌∙◌}
+use Rattle.pl_terms.specs.Nodes.{interned}
 use Rattle.pl_check.specs.Answers.{Finds}
 use Rattle.pl_check.specs.Made.{terms_of}
 use Rattle.pl_check.specs.Seen.{value_of, all_written}
@@ -32,5 +33,5 @@ returns c =
     let others : all_written c.deref.result.now ≡ without_mask (all_written c.args.written.now) =
     ap all_written c.deref.ensures.value ∙ c.in_ok-push_without_mask.ensures.ok
     ∙ ap (λ l. all_written l ++ without_mask (all_written c.args.written.now)) c.new-others.ensures.items in
-    finds-then c.called_on.new.terms c.called_on.result (λ r. method_of c.args.place r.value (without_mask (all_written c.args.written.now)) r.terms c.args.operation) c.in_ok-kept.ensures
-    (subst (λ ws. Finds value_of c.called_on.new.terms c.called_on.result (method_of c.args.place (value_of c.in_ok-kept.kept) ws (terms_of c.kept_where.new.terms) c.args.operation)) others c.called_on.ensures)
+    finds-then c.called_on.new.terms c.called_on.result (λ r. method_of interned c.args.place r.value (without_mask (all_written c.args.written.now)) r.terms c.args.operation) c.in_ok-kept.ensures
+    (subst (λ ws. Finds value_of c.called_on.new.terms c.called_on.result (method_of interned c.args.place (value_of c.in_ok-kept.kept) ws (terms_of c.kept_where.new.terms) c.args.operation)) others c.called_on.ensures)

@@ -26,8 +26,8 @@ returns-in_err-judge_numbers g c =
     let p = err_from_is_err_and c.from_residual-in_err-judge_numbers.result c.from_residual-in_err-judge_numbers.ensures.1 in
     let judged = c.in_err-judge_numbers.ensures in
     rw (p.1, p.2)
-    (no-numbers (λ (s : Script). parsed s) (λ (p : Parts). pipeline_of p) Means _ _ _ c.in_ok-script.ensures c.in_ok-checked.ensures.value judged.ends judged.risen)
+    (no-numbers (λ (s : Script). parsed s) (λ (p : Parts). pipeline_of p) Means _ _ _ c.in_ok-script.ensures c.in_ok-checked.ensures.value (rw c.numbers_named.ensures at judged.ends) judged.risen)
 
 pub returns : goal.returns
 returns g c =
-    evaluated-read (λ (s : Script). parsed s) (λ (p : Parts). pipeline_of p) _ _ c.in_ok-script.ensures c.in_ok-checked.ensures.value c.in_ok-judge_numbers.ensures.ends
+    evaluated-read (λ (s : Script). parsed s) (λ (p : Parts). pipeline_of p) _ _ c.in_ok-script.ensures c.in_ok-checked.ensures.value (rw c.numbers_named.ensures at c.in_ok-judge_numbers.ensures.ends)

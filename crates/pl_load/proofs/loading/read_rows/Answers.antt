@@ -1,9 +1,9 @@
 use Rattle.std.proofs.Common.{false, refl}
 use Rattle.std.proofs.lemmas.Result.{err_from_is_err_and}
-use Rattle.pl_words.specs.declared.request.InputFile.TheVariants.{Labels, Numbers, Bars}
+use Rattle.pl_words.specs.declared.request.InputFile.TheVariants.{Labels, Bars}
 use Rattle.pl_words.specs.Views.{world_names_of}
-use Rattle.pl_load.proofs.Joined.{is_file, file-read, file-one, labels-one, numbers-one, stops, part-stops, part-stops-later, part-done, stops-later, both-done}
-use Rattle.pl_load.proofs.Works.{after_labels, after_numbers}
+use Rattle.pl_load.proofs.Joined.{is_file, file-read, file-one, labels-one, stops, part-stops, part-stops-later, part-done, stops-later, both-done}
+use Rattle.pl_load.proofs.Works.{after_labels, after_numbers, is_figures}
 use Rattle.pl_load.proofs.DataReads.{AreBarsHeld, AreNumbersHeld}
 use Rattle.pl_load.proofs.loading.read_rows.Goals as goal
 
@@ -18,7 +18,7 @@ returns-in_err-numbers-clause-rows g c = λ asked names.
     let q = world_names_of c.args.names.now in
     rw (p.1, p.2)
     (stops-later (file-read _ asked Labels names.labels (labels-one _ _) c.in_ok-labels.ensures.read)
-    (part-stops (after_labels q c.args.sessions.now c.args.assets.now) (file-read _ asked Numbers names.numbers (numbers-one _ _) c.in_err-numbers.ensures.read) _ (λ held. refl))
+    (part-stops (after_labels q c.args.sessions.now c.args.assets.now) (c.in_err-numbers.ensures.figures asked _ names) _ (λ held. refl))
     (is_file Labels) false (λ f r m. refl))
 
 pub returns-in_err-bars-clause-rows : goal.returns-in_err-bars-clause-rows
@@ -27,9 +27,9 @@ returns-in_err-bars-clause-rows g c = λ asked names.
     let q = world_names_of c.args.names.now in
     rw (p.1, p.2)
     (stops-later (file-read _ asked Labels names.labels (labels-one _ _) c.in_ok-labels.ensures.read)
-    (part-stops-later (after_labels q c.args.sessions.now c.args.assets.now) (file-read _ asked Numbers names.numbers (numbers-one _ _) c.in_ok-numbers.ensures.read)
+    (part-stops-later (after_labels q c.args.sessions.now c.args.assets.now) (c.in_ok-numbers.ensures.figures asked _ names)
     (part-stops (after_numbers q c.args.sessions.now c.args.assets.now) (file-read _ asked Bars names.bars (file-one Bars _) c.in_err-bars.ensures.read) _ (λ held. refl))
-    (is_file Numbers) false (λ f r m. refl)) (is_file Labels) false (λ f r m. refl))
+    is_figures false (λ f r m. refl)) (is_file Labels) false (λ f r m. refl))
 
 pub returns-in_err-adjustments-clause-rows : goal.returns-in_err-adjustments-clause-rows
 returns-in_err-adjustments-clause-rows g c = λ asked names.
@@ -37,10 +37,10 @@ returns-in_err-adjustments-clause-rows g c = λ asked names.
     let q = world_names_of c.args.names.now in
     rw (p.1, p.2)
     (stops-later (file-read _ asked Labels names.labels (labels-one _ _) c.in_ok-labels.ensures.read)
-    (part-stops-later (after_labels q c.args.sessions.now c.args.assets.now) (file-read _ asked Numbers names.numbers (numbers-one _ _) c.in_ok-numbers.ensures.read)
+    (part-stops-later (after_labels q c.args.sessions.now c.args.assets.now) (c.in_ok-numbers.ensures.figures asked _ names)
     (part-stops-later (after_numbers q c.args.sessions.now c.args.assets.now)
     (file-read _ asked Bars names.bars (file-one Bars _) c.in_ok-bars.ensures.read) (c.in_err-adjustments.ensures.revised asked names) (is_file Bars) false (λ f r m. refl))
-    (is_file Numbers) false (λ f r m. refl)) (is_file Labels) false (λ f r m. refl))
+    is_figures false (λ f r m. refl)) (is_file Labels) false (λ f r m. refl))
 
 pub returns-clause-rows : goal.returns-clause-rows
 returns-clause-rows g c = λ asked names.
@@ -48,11 +48,11 @@ returns-clause-rows g c = λ asked names.
     let days = c.args.sessions.now in
     let assets = c.args.assets.now in
     both-done (file-read _ asked Labels names.labels (labels-one _ _) c.in_ok-labels.ensures.read)
-    (part-done (after_labels q days assets) (AreNumbersHeld q days assets c.in_ok-numbers.numbers.rows c.in_ok-bars.bars c.in_ok-adjustments.adjustments)
-    (file-read _ asked Numbers names.numbers (numbers-one _ _) c.in_ok-numbers.ensures.read)
+    (part-done (after_labels q days assets) (AreNumbersHeld q days assets c.in_ok-numbers.numbers c.in_ok-bars.bars c.in_ok-adjustments.adjustments)
+    (c.in_ok-numbers.ensures.figures asked _ names)
     (part-done (after_numbers q days assets) (AreBarsHeld q days assets c.in_ok-bars.bars c.in_ok-adjustments.adjustments)
     (file-read _ asked Bars names.bars (file-one Bars _) c.in_ok-bars.ensures.read) (c.in_ok-adjustments.ensures.revised asked names) (is_file Bars) false (λ f r m. refl)
-    (λ f r m h. record { bars = m; adjustments = h })) (is_file Numbers) false (λ f r m. refl) (λ f r m h. record { numbers = m; others = record { bars = h.bars; adjustments = h.adjustments } }))
+    (λ f r m h. record { bars = m; adjustments = h })) is_figures false (λ f r m. refl) (λ f r m h. record { numbers = m; others = record { bars = h.bars; adjustments = h.adjustments } }))
     (is_file Labels) false (λ f r m. refl)
     (λ f r m h. record { labels = m; numbers = h.numbers; bars = h.others.bars; adjustments = h.others.adjustments })
 

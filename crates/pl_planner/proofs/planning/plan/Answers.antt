@@ -5,13 +5,14 @@ use Rattle.pl_terms.specs.Checked.{pipeline_of}
 use Rattle.pl_terms.specs.Uses.{outputs}
 use Rattle.pl_planner.specs.declared.uses.Use.{Use}
 use Rattle.pl_planner.specs.Cones.{cones_of}
-use Rattle.pl_planner.specs.Uses.{AreUses}
+use Rattle.pl_pipeline.specs.Cones.{reads_of}
+use Rattle.pl_planner.specs.Uses.{AreUsesBy}
 use Rattle.pl_planner.specs.Rows.{most_extra}
 use Rattle.pl_planner.specs.Plans.{IsDeepest}
 use Rattle.pl_planner.proofs.Covers.{is-plan, limits, deepest, is-early, not-early}
 use Rattle.pl_terms.specs.Nodes.{graph_of}
 use Rattle.pl_terms.proofs.Graphs.{graph-long}
-use Rattle.pl_planner.proofs.Held.{kept-mentioned, most-listed}
+use Rattle.pl_planner.proofs.Held.{kept-read, most-listed}
 use Rattle.pl_planner.proofs.Coned.{cones-listed}
 use Rattle.pl_planner.proofs.planning.plan.Goals as goal
 
@@ -37,11 +38,11 @@ invariant_of-result c =
     let slotted = rw lent at c.in-Ok-slot_terms.ensures.slotted in
     let long : length c.in-Ok-slot_terms.slots.items ≡ length c.hold.new.uses.items = c.in-Ok-slot_terms.ensures.size ∙ ap (λ (l : List Use). length l) lent in
     let listed = cones-listed c.graph.result.now c.args.checked.now.graph (cones_of c.in-Ok-gather_cones.cones.items) c.in-Ok-gather_cones.ensures c.graph.ensures.value in
-    let are : AreUses (pipeline_of c.args.checked.now).graph (outputs (pipeline_of c.args.checked.now)) c.hold.new.uses.items =
-    kept-mentioned c.graph-2.result.now c.args.checked.now.graph c.graph-2.ensures.value c.are_asked.ensures.checked.steady (outputs (pipeline_of c.args.checked.now)) c.in-Ok.uses.items c.hold.new.uses.items
+    let are : AreUsesBy (reads_of (pipeline_of c.args.checked.now).graph) (pipeline_of c.args.checked.now).graph (outputs (pipeline_of c.args.checked.now)) c.hold.new.uses.items =
+    kept-read c.graph-2.result.now c.args.checked.now.graph c.graph-2.ensures.value (outputs (pipeline_of c.args.checked.now)) c.in-Ok.uses.items c.hold.new.uses.items
     c.hold.ensures c.in-Ok.ensures.uses in
     let most = most-listed c.graph-3.result.now c.args.checked.now.graph c.graph-3.ensures.value (outputs (pipeline_of c.args.checked.now)) c.hold.new.uses.items c.deref-4.result.now c.bound_of-bound.result c.deref-4.ensures.value
-    c.are_asked.ensures.checked.steady c.bound_of-bound.ensures.value are in
+    c.bound_of-bound.ensures.value are in
     rw (to_z-of_z w64 c.reach_of-reach.result fit)
     (limits c.args.sessions.now c.are_asked.ensures.days.ascend (pipeline_of c.args.checked.now) c.are_asked.ensures.checked c.hold.new.uses.items are c.in-Ok-slot_terms.slots.items slotted long c.args.from c.args.to c.requires.order c.requires.within
     c.in-Ok-gather_rows.extras.items c.in-Ok-gather_rows.ensures
@@ -58,11 +59,11 @@ returns-clause-plan c =
     let slotted = rw lent at c.in-Ok-slot_terms.ensures.slotted in
     let long : length c.in-Ok-slot_terms.slots.items ≡ length c.hold.new.uses.items = c.in-Ok-slot_terms.ensures.size ∙ ap (λ (l : List Use). length l) lent in
     let listed = cones-listed c.graph.result.now c.args.checked.now.graph (cones_of c.in-Ok-gather_cones.cones.items) c.in-Ok-gather_cones.ensures c.graph.ensures.value in
-    let are : AreUses (pipeline_of c.args.checked.now).graph (outputs (pipeline_of c.args.checked.now)) c.hold.new.uses.items =
-    kept-mentioned c.graph-2.result.now c.args.checked.now.graph c.graph-2.ensures.value c.are_asked.ensures.checked.steady (outputs (pipeline_of c.args.checked.now)) c.in-Ok.uses.items c.hold.new.uses.items
+    let are : AreUsesBy (reads_of (pipeline_of c.args.checked.now).graph) (pipeline_of c.args.checked.now).graph (outputs (pipeline_of c.args.checked.now)) c.hold.new.uses.items =
+    kept-read c.graph-2.result.now c.args.checked.now.graph c.graph-2.ensures.value (outputs (pipeline_of c.args.checked.now)) c.in-Ok.uses.items c.hold.new.uses.items
     c.hold.ensures c.in-Ok.ensures.uses in
     let most = most-listed c.graph-3.result.now c.args.checked.now.graph c.graph-3.ensures.value (outputs (pipeline_of c.args.checked.now)) c.hold.new.uses.items c.deref-4.result.now c.bound_of-bound.result c.deref-4.ensures.value
-    c.are_asked.ensures.checked.steady c.bound_of-bound.ensures.value are in
+    c.bound_of-bound.ensures.value are in
     rw (to_z-of_z w64 c.reach_of-reach.result fit)
     (is-plan c.args.sessions.now c.are_asked.ensures.days.ascend (pipeline_of c.args.checked.now) c.are_asked.ensures.checked c.hold.new.uses.items are c.in-Ok-slot_terms.slots.items slotted long c.args.from c.args.to c.requires.order c.requires.within
     c.in-Ok-gather_rows.extras.items c.in-Ok-gather_rows.ensures
@@ -77,8 +78,8 @@ reach_of-reach-requires c = rw c.deref.ensures.value (record {
 
 pub bound_of-bound-requires-clause-uses : goal.bound_of-bound-requires-clause-uses
 bound_of-bound-requires-clause-uses c =
-    let are : AreUses (pipeline_of c.args.checked.now).graph (outputs (pipeline_of c.args.checked.now)) c.hold.new.uses.items =
-    kept-mentioned c.graph-2.result.now c.args.checked.now.graph c.graph-2.ensures.value c.are_asked.ensures.checked.steady (outputs (pipeline_of c.args.checked.now)) c.in-Ok.uses.items c.hold.new.uses.items
+    let are : AreUsesBy (reads_of (pipeline_of c.args.checked.now).graph) (pipeline_of c.args.checked.now).graph (outputs (pipeline_of c.args.checked.now)) c.hold.new.uses.items =
+    kept-read c.graph-2.result.now c.args.checked.now.graph c.graph-2.ensures.value (outputs (pipeline_of c.args.checked.now)) c.in-Ok.uses.items c.hold.new.uses.items
     c.hold.ensures c.in-Ok.ensures.uses in
     let size : length c.hold.new.uses.items ≡ length (graph_of c.args.checked.now.graph) = are.size in
     ap (λ (l : List Use). length l) c.deref-4.ensures.value ∙ size ∙ graph-long c.args.checked.now.graph ∙ ap (λ ns. length ns) (sym c.graph-3.ensures.value)
@@ -86,8 +87,8 @@ bound_of-bound-requires-clause-uses c =
 pub slot_terms-requires : goal.slot_terms-requires
 slot_terms-requires c =
     let long : length c.deref-6.result.now ≡ length c.hold.new.uses.items = ap (λ (l : List Use). length l) c.deref-6.ensures.value in
-    let are : AreUses (pipeline_of c.args.checked.now).graph (outputs (pipeline_of c.args.checked.now)) c.hold.new.uses.items =
-    kept-mentioned c.graph-2.result.now c.args.checked.now.graph c.graph-2.ensures.value c.are_asked.ensures.checked.steady (outputs (pipeline_of c.args.checked.now)) c.in-Ok.uses.items c.hold.new.uses.items
+    let are : AreUsesBy (reads_of (pipeline_of c.args.checked.now).graph) (pipeline_of c.args.checked.now).graph (outputs (pipeline_of c.args.checked.now)) c.hold.new.uses.items =
+    kept-read c.graph-2.result.now c.args.checked.now.graph c.graph-2.ensures.value (outputs (pipeline_of c.args.checked.now)) c.in-Ok.uses.items c.hold.new.uses.items
     c.hold.ensures c.in-Ok.ensures.uses in
     omega (arith, long, are.size, c.are_asked.ensures.few)
 

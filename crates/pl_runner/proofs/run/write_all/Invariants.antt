@@ -1,5 +1,5 @@
 use Rattle.std.proofs.Common.{◌≡◌, ℕ, ◌≤◌, ◌<◌, ◌+◌, ◌-◌, ◌*◌, ◌++◌, ◌+ℤ◌, length}
-use Rattle.pl_pipeline.specs.Graph.{bound}
+use Rattle.pl_planner.specs.Columns.{most_held}
 use Rattle.pl_pipeline.specs.Table.{table}
 use Rattle.pl_spec.specs.Limits.{saturated}
 use Rattle.pl_outside.specs.Taken.{IsWrittenIn}
@@ -31,6 +31,6 @@ invariant-loop-i g l =
       sum : l.totals.sum +ℤ rows_sum w.texts rest ≡ rows_sum w.texts whole;
       few : l.totals.rows ≤ l.i * (l.size * length w.assets);
       done : (n : ℕ) × (l.steps ≡ l.fn.steps + n) × (l.applied ≡ saturated n) × (n + steps_from w p l.asked.plan.now l.size l.i ≡ run_steps w p l.asked.plan.now l.size);
-      peak : 0 < l.i → l.peak ≡ bound p.graph (outputs p);
+      peak : 0 < l.i → l.peak ≡ most_held p.graph (outputs p);
       buffers : AreBuffers w p l.asked.plan.now l.size l.buffers;
     }
