@@ -2,12 +2,10 @@
 use Rattle.std.proofs.Common.{◌≡◌, ◌+◌, ℕ, pos, length, subst, ap, ◌∙◌, refl}
 use Rattle.std.specs.Int.RustNames.{unsigned_abs}
 use Rattle.pl_spec.specs.World.{World}
-use Rattle.pl_planner.specs.Columns.{most_held}
 use Rattle.pl_pipeline.specs.Table.{Pipeline, table, sum_of_cells}
-use Rattle.pl_terms.specs.Uses.{outputs}
 use Rattle.pl_planner.specs.Plans.{Planned}
 use Rattle.pl_runner.specs.declared.run.RunReport.{RunReport}
-use Rattle.pl_runner.specs.Runs.{IsReport, run_steps}
+use Rattle.pl_runner.specs.Runs.{IsReport, peak_of, run_steps}
 use Rattle.pl_table.specs.declared.numbers.Numbers.{Numbers}
 use Rattle.pl_bench.specs.StatedWorld.{stated_world}
 use Rattle.pl_bench.specs.Pipeline.{bench_pipeline}
@@ -19,7 +17,7 @@ use Rattle.pl_world.specs.Worlds.{owned_world, world_of}
 
 -- what a report tells of the table of a plan's range
 abbrev Tells : World → Pipeline → ℕ → ℕ → RunReport → Type 0
-Tells w p from to r = (r.rows ≡ length (table w p from to)) × (pos r.cells ≡ sum_of_cells w.texts (table w p from to)) × (r.peak ≡ most_held p.graph (outputs p))
+Tells w p from to r = (r.rows ≡ length (table w p from to)) × (pos r.cells ≡ sum_of_cells w.texts (table w p from to)) × (r.peak ≡ peak_of p)
 
 report-of : (w : World) (p : Pipeline) (plan : Planned) (chunk from to : ℕ) (r : RunReport) → plan.from ≡ from → plan.to ≡ to → IsReport w p plan chunk r
     → Tells w p from to r

@@ -6,7 +6,7 @@ use Rattle.pl_planner.specs.Columns.{most_held}
 use Rattle.pl_pipeline.specs.Table.{Row, table, sum_of_cells}
 use Rattle.pl_terms.specs.Uses.{outputs}
 use Rattle.pl_planner.specs.Plans.{Planned}
-use Rattle.pl_runner.specs.Runs.{run_steps}
+use Rattle.pl_runner.specs.Runs.{peak_of, run_steps}
 use Rattle.pl_table.specs.declared.numbers.Numbers.{Numbers}
 use Rattle.pl_table.specs.Numbers.{numbers_line}
 use Rattle.pl_bench.specs.StatedWorld.{stated_world}
@@ -17,7 +17,10 @@ use Rattle.pl_bench.specs.Plan.{IsBenchPlan}
 abbrev pub bench_rows : World → List Row
 bench_rows w = table w bench_pipeline 252 599
 
--- how many arrays are held at once
+-- how many arrays are held at once, and how many may be
+abbrev pub bench_peak : ℕ
+bench_peak = peak_of bench_pipeline
+
 abbrev pub bench_bound : ℕ
 bench_bound = most_held bench_pipeline.graph (outputs bench_pipeline)
 
@@ -26,7 +29,7 @@ bench_bound = most_held bench_pipeline.graph (outputs bench_pipeline)
 pub record AreNumbersOf (w : World) (n : Numbers) : Type 0 where
   pub rows : n.rows ≡ length (bench_rows w)
   pub cells : pos n.cells ≡ sum_of_cells w.texts (bench_rows w)
-  pub peak : n.peak ≡ bench_bound
+  pub peak : n.peak ≡ bench_peak
   pub bound : n.bound ≡ bench_bound
 
 abbrev pub AreNumbers : ℕ → Numbers → Type 0
@@ -37,7 +40,7 @@ abbrev pub line_of : Numbers → List ℕ
 line_of n = numbers_line n.rows n.cells n.peak n.bound
 
 abbrev pub world_line : World → List ℕ
-world_line w = numbers_line (length (bench_rows w)) (unsigned_abs (sum_of_cells w.texts (bench_rows w))) bench_bound bench_bound
+world_line w = numbers_line (length (bench_rows w)) (unsigned_abs (sum_of_cells w.texts (bench_rows w))) bench_peak bench_bound
 
 unfoldable pub bench_line : ℕ → List ℕ
 bench_line number = world_line (stated_world number)

@@ -8,7 +8,6 @@ use Rattle.pl_parts.specs.Texts.{sessions_text, assets_text, bars_text, labels_t
 use Rattle.pl_pipeline.specs.Table.{Pipeline, Row, table, sum_of_cells}
 use Rattle.pl_pipeline.specs.Text.{text}
 use Rattle.pl_planner.specs.Columns.{most_held}
-use Rattle.pl_spec.specs.Limits.{saturated}
 use Rattle.pl_terms.specs.Uses.{outputs}
 use Rattle.pl_planner.specs.Text.{plan_text}
 use Rattle.pl_syntax.specs.Canonical.{script_text}
@@ -18,7 +17,7 @@ use Rattle.pl_payouts.specs.Texts.{payouts_text}
 use Rattle.pl_derivation.specs.Texts as lines
 use Rattle.pl_derivation.specs.Right.{first_wrong}
 use Rattle.pl_derivation.specs.Walks.{derivation}
-use Rattle.pl_runner.specs.Runs.{run_steps}
+use Rattle.pl_runner.specs.Runs.{applied_in, peak_of, run_steps}
 use Rattle.pl_runner.specs.Feeds.{daily_steps}
 use Rattle.pl_world.specs.Present.{has_numbers, present_numbers}
 use Rattle.pl_words.specs.declared.request.InputFile.TheVariants.{Pipeline as PipelineFile}
@@ -146,11 +145,11 @@ abbrev pub present_in : World → Pipeline → ℕ → ℕ → Option ℕ
 present_in w p from to = if has_numbers p then Some (present_numbers w p from to) else None
 
 -- The numbers of a table: how many rows it has, the sum of their cells modulo 2 ^ 64, how many arrays are held
--- at once, which is as many as may be, its steps, as far as 64 bits count, and what is present.
+-- at once and how many may be, how many adjustments are applied, as far as 64 bits count, and what is present.
 abbrev pub numbers_of : List (List ℕ) → Pipeline → List Row → ℕ → Option ℕ → List ℕ
 numbers_of texts p rows steps present =
     let most = most_held p.graph (outputs p) in
-    stats_line (length rows) (unsigned_abs (sum_of_cells texts rows)) most most (saturated steps) present
+    stats_line (length rows) (unsigned_abs (sum_of_cells texts rows)) (peak_of p) most (applied_in p steps) present
 
 abbrev pub table_stats : World → Pipeline → List Row → ℕ → Option ℕ → List ℕ
 table_stats w p rows steps present = numbers_of w.texts p rows steps present

@@ -13,7 +13,7 @@ use Rattle.pl_table.specs.Outcomes.{rows_of_sessions}
 use Rattle.pl_exec.specs.declared.chunk.Chunk.{Chunk}
 use Rattle.pl_runner.specs.Chunks.{chunk_at, chunk_count}
 use Rattle.pl_table.proofs.SessionRows.{times-more}
-use Rattle.pl_runner.specs.Runs.{run_steps, steps_of_chunk}
+use Rattle.pl_runner.specs.Runs.{chunks_steps, steps_of_chunk}
 
 -- ---- sessions
 
@@ -97,8 +97,8 @@ steps-end w p plan size i h =
     let none : chunk_count plan.from plan.to size - i ≡ 0 = omega arith in
     ap (λ (n : ℕ). sum_by (steps_of_chunk w p plan) (map (chunk_at plan.from plan.to size) (range_with_len i n))) none
 
-pub steps-all : (w : World) (p : Pipeline) (plan : Planned) (size : ℕ) → run_steps w p plan size ≡ steps_from w p plan size 0
-unfolding run_steps
+pub steps-all : (w : World) (p : Pipeline) (plan : Planned) (size : ℕ) → chunks_steps w p plan size ≡ steps_from w p plan size 0
+unfolding chunks_steps
 steps-all w p plan size =
     let all : chunk_count plan.from plan.to size ≡ chunk_count plan.from plan.to size - 0 = omega arith in
     ap (λ (n : ℕ). sum_by (steps_of_chunk w p plan) (map (chunk_at plan.from plan.to size) (range_with_len 0 n))) all

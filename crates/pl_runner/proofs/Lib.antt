@@ -7,6 +7,7 @@ pub mod ChunkWork
 pub mod ChunkRows
 pub mod Lists
 pub mod Merges
+pub mod Followers
 pub mod Following
 pub mod Agrees
 pub mod Work

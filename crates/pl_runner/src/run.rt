@@ -6,15 +6,19 @@ ghost use Rattle.pl_pipeline.specs.Table.{table};
 ghost use Rattle.pl_pipeline.specs.Text.{text};
 ghost use Rattle.pl_world.specs.Worlds.{IsMade, world_of};
 ghost use Rattle.pl_terms.specs.Checked.{pipeline_of};
+ghost use Rattle.pl_terms.specs.Uses.{outputs};
+ghost use Rattle.pl_planner.specs.Columns.{most_held};
 ghost use Rattle.pl_planner.specs.Plans.{IsPlanOf};
 ghost use Rattle.pl_table.specs.Asked.{IsAsked, asked_pipeline, asked_table, asked_text, asked_world};
 ghost use Rattle.pl_table.specs.Outcomes.{lines, rows_of_sessions};
 ghost use Rattle.pl_runner.specs.Buffers.{AreBuffers, AreBuffersFor};
-ghost use Rattle.pl_runner.specs.Runs.{IsChunkDone, IsReport, run_steps, steps_of_chunk};
+ghost use Rattle.pl_runner.specs.Feeds.{daily_steps};
+ghost use Rattle.pl_runner.specs.Runs.{IsChunkDone, IsReport, Reports, chunks_steps, run_steps, steps_of_chunk};
 ghost use Rattle.pl_table.specs.declared.error.RunError.TheVariants as RunError;
 
 use crate::buffers::Buffers;
 use crate::columns::put_columns;
+use crate::daily::run_daily;
 use crate::pieces::{chunk_at, chunk_count};
 use crate::release::release_outputs;
 use pl_exec::{Chunk, ChunkReport, execute_chunk};
@@ -41,8 +45,8 @@ pub struct RunReport {
 }
 
 /// Writes the table of a plan's range, the header and each row in one piece. The sessions are computed in
-/// chunks of `chunk`, the last one perhaps shorter; the text is the same for each size. All memory is taken
-/// before the first byte. The error is that memory ran out, or that the sink counted a fault, and then a
+/// chunks of `chunk`, the last one perhaps shorter; the text is the same for each size. Where a window is over
+/// what moves with the bars, they are computed one by one. All memory is taken before the first byte. The error is that memory ran out, or that the sink counted a fault, and then a
 /// prefix of the text was written.
 pub fn run_table<O: Sink, L: Ledger>(
     alloc: Global,
@@ -107,6 +111,68 @@ fn run_asked<O: Sink, L: Ledger>(
         + run_steps (asked_world asked.now) (asked_pipeline asked.now) asked.now.plan.now chunk }
 {
     is_asked(asked);
+    if asked.plan.has_cones() {
+        run_days(alloc, asked, out, steps)
+    } else {
+        run_chunks(alloc, asked, chunk, out, steps)
+    }
+}
+
+// The same of what is computed session by session.
+fn run_days<O: Sink, L: Ledger>(
+    alloc: Global,
+    asked: &Asked<'_>,
+    out: &mut O,
+    steps: &mut Steps<L>,
+) -> Result<RunReport, RunError>
+    requires asked { IsAsked asked.now }
+    ensures writes { IsErrOf result RunError.Memory
+        ⊎ Writes O.taken O.faults O.sound O.room out.old out.new (asked_text asked.now) result }
+    ensures pieces { IfOk result (λ report. IsWrittenIn O.whole O.calls out.old out.new (1 + report.rows)) }
+    ensures memory { IsErrOf result RunError.Memory → (out.new ≡ out.old) × (steps.new ≡ steps.old) }
+    ensures report { IfOk result (Reports (asked_world asked.now) (asked_table asked.now) 0 0) }
+    ensures cost { OnOk result (steps.new ≡ steps.old
+        + daily_steps (asked_world asked.now) (asked_pipeline asked.now) asked.now.plan.now.to) }
+    ensures at_most { steps.new ≤ steps.old
+        + daily_steps (asked_world asked.now) (asked_pipeline asked.now) asked.now.plan.now.to }
+{
+    match run_daily(alloc, asked, out, steps) {
+        Ok(totals) => Ok(RunReport {
+            rows: totals.rows(),
+            cells: totals.cells(),
+            peak: 0,
+            applied: 0,
+        }),
+        Err(error) => Err(error),
+    }
+}
+
+// The same of what is computed in chunks.
+fn run_chunks<O: Sink, L: Ledger>(
+    alloc: Global,
+    asked: &Asked<'_>,
+    chunk: usize,
+    out: &mut O,
+    steps: &mut Steps<L>,
+) -> Result<RunReport, RunError>
+    requires asked { IsAsked asked.now }
+    requires some { 1 ≤ chunk }
+    requires most { chunk ≤ most_chunk }
+    // Where memory ran out nothing was written; else the text of the table is.
+    ensures writes { IsErrOf result RunError.Memory
+        ⊎ Writes O.taken O.faults O.sound O.room out.old out.new (asked_text asked.now) result }
+    // A sink that takes each piece whole got the header and each row in one call.
+    ensures pieces { IfOk result (λ report. IsWrittenIn O.whole O.calls out.old out.new (1 + report.rows)) }
+    ensures memory { IsErrOf result RunError.Memory → (out.new ≡ out.old) × (steps.new ≡ steps.old) }
+    ensures report { IfOk result (Reports (asked_world asked.now) (asked_table asked.now)
+        (most_held (asked_pipeline asked.now).graph (outputs (asked_pipeline asked.now)))
+        (saturated (chunks_steps (asked_world asked.now) (asked_pipeline asked.now) asked.now.plan.now
+        chunk))) }
+    ensures cost { OnOk result (steps.new ≡ steps.old
+        + chunks_steps (asked_world asked.now) (asked_pipeline asked.now) asked.now.plan.now chunk) }
+    ensures at_most { steps.new ≤ steps.old
+        + chunks_steps (asked_world asked.now) (asked_pipeline asked.now) asked.now.plan.now chunk }
+{
     let header = make_header(alloc, asked.checked, asked.format)?;
     let mut buffers = Buffers::reserve(alloc, asked, chunk)?;
     match write_all(asked, chunk, &header, &mut buffers, out, steps) {
@@ -134,11 +200,14 @@ fn write_all<O: Sink, L: Ledger>(
         (asked_table asked.now)) result }
     // The pieces, the report and the steps of a run that comes to its end.
     ensures done { IfOk result (λ report. IsWrittenIn O.whole O.calls out.old out.new (1 + report.rows)
-        × IsReport (asked_world asked.now) (asked_pipeline asked.now) asked.now.plan.now size report
+        × Reports (asked_world asked.now) (asked_table asked.now)
+        (most_held (asked_pipeline asked.now).graph (outputs (asked_pipeline asked.now)))
+        (saturated (chunks_steps (asked_world asked.now) (asked_pipeline asked.now) asked.now.plan.now size))
+        report
         × (steps.new ≡ steps.old
-        + run_steps (asked_world asked.now) (asked_pipeline asked.now) asked.now.plan.now size)) }
+        + chunks_steps (asked_world asked.now) (asked_pipeline asked.now) asked.now.plan.now size)) }
     ensures at_most { steps.new ≤ steps.old
-        + run_steps (asked_world asked.now) (asked_pipeline asked.now) asked.now.plan.now size }
+        + chunks_steps (asked_world asked.now) (asked_pipeline asked.now) asked.now.plan.now size }
 {
     write_bytes(out, header)?;
     let mut totals = Totals::none();

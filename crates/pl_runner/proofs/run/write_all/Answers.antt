@@ -13,7 +13,7 @@ use Rattle.pl_table.specs.Sums.{rows_sum}
 use Rattle.pl_table.proofs.RowSums.{rows_sum-append}
 use Rattle.pl_table.proofs.SessionRows.{lines-append, times-more}
 use Rattle.pl_runner.specs.Chunks.{chunk_at, chunk_count}
-use Rattle.pl_runner.specs.Runs.{run_steps, steps_of_chunk}
+use Rattle.pl_runner.specs.Runs.{chunks_steps, steps_of_chunk}
 use Rattle.pl_runner.proofs.ChunkRows.{start_of, rows-next, rows-end, rows-all, chunk-few, steps-next, steps-end, steps-all}
 use Rattle.pl_runner.proofs.run.write_all.Goals as goal
 
@@ -112,7 +112,7 @@ returns g c =
     let sum : c.loop-i.totals.sum ≡ rows_sum w.texts (table w p plan.from plan.to) = omega (arith, ints, ap (rows_sum w.texts) none, c.loop-i.invariant.sum) in
     let done = c.loop-i.invariant.done in
     let last = steps-end w p plan c.args.size c.loop-i.i after in
-    let n : done.0 ≡ run_steps w p plan c.args.size = omega (arith, last, done.3) in
+    let n : done.0 ≡ chunks_steps w p plan c.args.size = omega (arith, last, done.3) in
     record {
       writes = writing-end (writing-over (ap (lines w p c.args.asked.now.format) none) c.loop-i.invariant.writing);
       done = (

@@ -11,7 +11,7 @@ use Rattle.pl_table.specs.Outcomes.{lines, rows_of_sessions}
 use Rattle.pl_table.specs.Sums.{rows_sum}
 use Rattle.pl_runner.specs.Chunks.{chunk_count}
 use Rattle.pl_runner.specs.Buffers.{AreBuffers}
-use Rattle.pl_runner.specs.Runs.{run_steps}
+use Rattle.pl_runner.specs.Runs.{chunks_steps}
 use Rattle.pl_runner.proofs.ChunkRows.{start_of, steps_from}
 use Rattle.pl_runner.proofs.run.write_all.Given as goal
 
@@ -30,7 +30,7 @@ invariant-loop-i g l =
       rows : l.totals.rows + length rest ≡ length whole;
       sum : l.totals.sum +ℤ rows_sum w.texts rest ≡ rows_sum w.texts whole;
       few : l.totals.rows ≤ l.i * (l.size * length w.assets);
-      done : (n : ℕ) × (l.steps ≡ l.fn.steps + n) × (l.applied ≡ saturated n) × (n + steps_from w p l.asked.plan.now l.size l.i ≡ run_steps w p l.asked.plan.now l.size);
+      done : (n : ℕ) × (l.steps ≡ l.fn.steps + n) × (l.applied ≡ saturated n) × (n + steps_from w p l.asked.plan.now l.size l.i ≡ chunks_steps w p l.asked.plan.now l.size);
       peak : 0 < l.i → l.peak ≡ most_held p.graph (outputs p);
       buffers : AreBuffers w p l.asked.plan.now l.size l.buffers;
     }
