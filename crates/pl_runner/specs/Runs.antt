@@ -64,11 +64,11 @@ pub record AreTotals (w : World) (all : List Row) (totals : Totals) : Type 0 whe
 
 -- the same of a report, with the greatest number of arrays that were held at once and how many adjustments
 -- were applied
-pub record Reports (w : World) (all : List Row) (peak applied : ℕ) (report : RunReport) : Type 0 where
+pub record Reports (w : World) (all : List Row) (held acted : ℕ) (report : RunReport) : Type 0 where
   pub rows : report.rows ≡ length all
   pub cells : pos report.cells ≡ sum_of_cells w.texts all
-  pub peak : report.peak ≡ peak
-  pub applied : report.applied ≡ applied
+  pub peak : report.peak ≡ held
+  pub applied : report.applied ≡ acted
 
 -- how many rows there are, the sum of their cells, the greatest number of arrays that were held at once, and
 -- the steps of the traversals, as far as 64 bits count
