@@ -17,3 +17,7 @@ pub mod Spans
 pub mod Stands
 pub mod Stretches
 pub mod Trips
+pub mod Seen
+pub mod SeenGiven
+pub mod SeenRows
+pub mod SeenReads

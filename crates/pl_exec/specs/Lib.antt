@@ -4,3 +4,4 @@ pub mod ChunkInputs
 pub mod RowsInside
 pub mod Slotted
 pub mod Tasks
+pub mod Views

@@ -2,6 +2,7 @@
 //! from the arrays of the terms that it mentions, which are released after their last user.
 #![tactic(auto)]
 
+mod anew;
 mod chunk;
 mod chunk_inputs;
 mod columns;
@@ -14,6 +15,7 @@ mod leaves;
 mod points;
 mod rows;
 mod term_session;
+mod views;
 mod windows;
 
 pub use chunk::{Chunk, ChunkReport, execute_chunk};
