@@ -16,28 +16,28 @@ use Rattle.pl_exec.specs.Views.{AreSeenLanes, IsSeenLane, lane_of, lanes_long, s
 pub lane-some : (t : Task) (i d : ℕ) (cone : List (ℕ × ℕ)) (cells : List ℤ) (u : ℕ) (lane : List ℤ) → AreSeenLanes t i d cone cells → lane_of cone cells u ≡ Some lane
     → (m : ℕ) × HasDepth u m cone × IsSeenLane t u i d m lane
 lane-some t i d [] cells u lane seen e = absurd (let no : ◌≡◌ {A = Option (List ℤ)} None (Some lane) = e in cc)
-lane-some t i d (c ∷ cone) cells u lane seen e = here (c.0 == u) refl
+lane-some t i d (c ∷ cone) cells u lane seen e = here (c.0 == u) refl (λ h. lane-some t i d cone (drop c.1 cells) u lane seen.1 h)
   where
-    here : (b : Bool) → (c.0 == u) ≡ b → (m : ℕ) × HasDepth u m (c ∷ cone) × IsSeenLane t u i d m lane
-    here true f =
+    here : (b : Bool) → (c.0 == u) ≡ b → (lane_of cone (drop c.1 cells) u ≡ Some lane → (m : ℕ) × HasDepth u m cone × IsSeenLane t u i d m lane) → (m : ℕ) × HasDepth u m (c ∷ cone) × IsSeenLane t u i d m lane
+    here true f more =
         let same : c.0 ≡ u = eqb-true c.0 u f in
         let own : ◌≡◌ {A = Option (List ℤ)} (Some (take c.1 cells)) (Some lane) = ap (λ b. cond b (Some (take c.1 cells)) (lane_of cone (drop c.1 cells) u)) (sym f) ∙ e in
         let is : take c.1 cells ≡ lane = cc in
         (c.1, inl (ap (λ k. (k, c.1)) same), subst (λ l. IsSeenLane t u i d c.1 l) is (subst (λ k. IsSeenLane t k i d c.1 (take c.1 cells)) same seen.0))
-    here false f =
-        let r = lane-some t i d cone (drop c.1 cells) u lane seen.1 (ap (λ b. cond b (Some (take c.1 cells)) (lane_of cone (drop c.1 cells) u)) (sym f) ∙ e) in
+    here false f more =
+        let r = more (ap (λ b. cond b (Some (take c.1 cells)) (lane_of cone (drop c.1 cells) u)) (sym f) ∙ e) in
         (r.0, inr r.1, r.2)
 
 pub lane-none : (cone : List (ℕ × ℕ)) (cells : List ℤ) (u m : ℕ) → lane_of cone cells u ≡ None → HasDepth u m cone → ⊥
 lane-none [] cells u m e h = h
-lane-none (c ∷ cone) cells u m e h = here (c.0 == u) refl
+lane-none (c ∷ cone) cells u m e h = here (c.0 == u) refl (λ k. lane-none cone (drop c.1 cells) u m k)
   where
-    here : (b : Bool) → (c.0 == u) ≡ b → ⊥
-    here true f =
+    here : (b : Bool) → (c.0 == u) ≡ b → (lane_of cone (drop c.1 cells) u ≡ None → HasDepth u m cone → ⊥) → ⊥
+    here true f more =
         let own : ◌≡◌ {A = Option (List ℤ)} (Some (take c.1 cells)) None = ap (λ b. cond b (Some (take c.1 cells)) (lane_of cone (drop c.1 cells) u)) (sym f) ∙ e in absurd (let no : ◌≡◌ {A = Option (List ℤ)} (Some (take c.1 cells)) None = own in cc)
-    here false f = elim h [
+    here false f more = elim h [
       | inl g ↦ true≢false (sym (eq-eqb c.0 u (ap (λ (q : ℕ × ℕ). q.0) g)) ∙ f)
-      | inr g ↦ lane-none cone (drop c.1 cells) u m (ap (λ b. cond b (Some (take c.1 cells)) (lane_of cone (drop c.1 cells) u)) (sym f) ∙ e) g
+      | inr g ↦ more (ap (λ b. cond b (Some (take c.1 cells)) (lane_of cone (drop c.1 cells) u)) (sym f) ∙ e) g
     ]
 
 pub long-more : (cone : List (ℕ × ℕ)) (c : ℕ × ℕ) → lanes_long (cone ++ c ∷ []) ≡ lanes_long cone + c.1

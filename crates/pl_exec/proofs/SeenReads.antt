@@ -8,6 +8,7 @@ use Rattle.pl_spec.proofs.Windows.{length-downward}
 use Rattle.pl_pipeline.specs.Cones.{Borders, HasDepth, moves_at}
 use Rattle.pl_pipeline.specs.Term as spec
 use Rattle.pl_pipeline.specs.Term.Input.{BarColumn, TermInput}
+use Rattle.pl_pipeline.proofs.Unfolds.{stands}
 use Rattle.pl_laws.proofs.ConeDepths.{depths-once}
 use Rattle.pl_planner.proofs.Pipelines.{is-pipeline}
 use Rattle.pl_values.specs.Arrays.{Fills, Holds, window_up_to}
@@ -101,6 +102,14 @@ module _ (v : View) (is : IsView v) (u m : ℕ) (own : HasDepth u m (cone_on v))
   pub cone-known : u < length g
   cone-known = let l = is-lower g ok k u m own in let n = is.course.run.known in omega arith
 
+  -- a lane begins at session 0 or later
+  lane-early : (y j : ℕ) → y < length g → HasDepth y j (cone_on v) → j ≤ v.session
+  lane-early y j l deep =
+      let n = stands g y l in
+      let e = is.early y j n.0 deep n.1 in
+      let s = ((is-pipeline (task_on v).pipeline is.course.chunk.task.checked).windows y n.0 n.1).0 in
+      omega arith
+
   module _ (n : spec.Node) (node : slice_get g u ≡ Some n) where
     pub read-some : 1 ≤ n.window
     read-some = ((is-pipeline (task_on v).pipeline is.course.chunk.task.checked).windows u n node).0
@@ -139,7 +148,7 @@ module _ (v : View) (is : IsView v) (u m : ℕ) (own : HasDepth u m (cone_on v))
             let once : j.0 ≡ s.0 = depths-once g ok k y j.0 s.0 j.1 deep in
             let far = j.2 in
             let w = many-is in
-            (s.0, omega arith, s.2));
+            (s.0, omega arith, lane-early y s.0 (let l = input-lower in let h = cone-known in omega arith) deep, s.2));
         own = λ e. here e (moves_at g y) refl;
       }
         where

@@ -95,7 +95,7 @@ pub record IsView (v : View) : Type 0 where
 -- Term u is read on the m sessions before: it has a lane, which is long enough, or it does not move and its
 -- array is there.
 pub record IsSeenTerm (v : View) (cone : List (ℕ × ℕ)) (lanes : List ℤ) (u m : ℕ) : Type 0 where
-  pub lane : (l : List ℤ) → lane_of cone lanes u ≡ Some l → (k : ℕ) × (m ≤ k) × IsSeenLane (task_on v) u v.i v.session k l
+  pub lane : (l : List ℤ) → lane_of cone lanes u ≡ Some l → (k : ℕ) × (m ≤ k) × (k ≤ v.session) × IsSeenLane (task_on v) u v.i v.session k l
   pub own : lane_of cone lanes u ≡ None → (moves_at (graph_in (task_on v)) u ≡ false) × IsRead (task_on v) v.course.now.workspace.now v.session (m + 1) u
 
 -- the lower terms of the cone have their lanes

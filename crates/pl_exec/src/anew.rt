@@ -1,5 +1,5 @@
 //! What the terms of a cone are worth for an asset on the sessions before one, as they are seen on that.
-ghost use Rattle.std.specs.Prelude.{◌≡◌, ◌+◌, ◌-◌, ◌<◌, ◌≤◌, ℕ, IfSome, Some, get_or, length, option_map, pos, slice_get};
+ghost use Rattle.std.specs.Prelude.{◌≡◌, ◌+◌, ◌-◌, ◌<◌, ◌≤◌, ℕ, IfSome, Some, drop, get_or, length, option_map, pos, take};
 ghost use Rattle.pl_spec.specs.World.{exists};
 ghost use Rattle.pl_pipeline.specs.Cones.{HasDepth};
 ghost use Rattle.pl_terms.specs.Nodes.{node_of, number_of};
@@ -57,7 +57,11 @@ fn is_kept_on(view: &View<'_>, node: &Node, session: usize) -> bool
     ensures { result ≡ is_kept (task_on view.now).world (task_on view.now).pipeline (sids_in (task_on view.now))
         (node_of node.now).mask view.now.i session }
 {
-    exists_on(view, session) && passes_on(view, mask_of(node), session)
+    if exists_on(view, session) {
+        passes_on(view, mask_of(node), session)
+    } else {
+        false
+    }
 }
 
 // Puts the empty value on the sessions before on which the asset is not kept.
@@ -112,6 +116,21 @@ fn term_anew(view: &View<'_>, cone: &[ConeTerm], lanes: &[i64], own: ConeTerm, o
     keep_seen(view, node_of(chunk, own.term), empty, out);
 }
 
+// Puts the lane of one term of the cone behind those of the lower ones, which end at `start`.
+fn put_anew(view: &View<'_>, cone: &[ConeTerm], own: ConeTerm, start: usize, scratch: &mut [i64])
+    requires view { IsView view.now }
+    requires own { HasDepth own.term.0 own.depth (cone_on view.now) }
+    requires lower { AreLower view.now own.term.0 (pairs_of cone.now) (take start scratch.old) }
+    requires room { start + own.depth ≤ length scratch.old }
+    ensures long { length scratch.new ≡ length scratch.old }
+    ensures front { take start scratch.new ≡ take start scratch.old }
+    ensures lane { IsSeenLane (task_on view.now) own.term.0 view.now.i view.now.session own.depth
+        (take own.depth (drop start scratch.new)) }
+{
+    let (lanes, rest) = scratch.split_at_mut(start);
+    term_anew(view, cone, lanes, own, &mut rest[..own.depth]);
+}
+
 /// What each term of the cone is seen as on the sessions before, in ascending order, one lane after the other.
 pub(crate) fn anew(view: &View<'_>, cone: &[ConeTerm], scratch: &mut [i64])
     requires view { IsView view.now }
@@ -123,8 +142,7 @@ pub(crate) fn anew(view: &View<'_>, cone: &[ConeTerm], scratch: &mut [i64])
     let mut start = 0;
     for q in 0..cone.len() {
         let own = cone[q];
-        let (lanes, rest) = scratch.split_at_mut(start);
-        term_anew(view, &cone[..q], lanes, own, &mut rest[..own.depth]);
+        put_anew(view, &cone[..q], own, start, scratch);
         start += own.depth;
     }
 }
