@@ -21,3 +21,4 @@ pub mod Seen
 pub mod SeenGiven
 pub mod SeenRows
 pub mod SeenReads
+pub mod SeenLanes

@@ -103,7 +103,7 @@ module _ (v : View) (is : IsView v) (u m : ℕ) (own : HasDepth u m (cone_on v))
   cone-known = let l = is-lower g ok k u m own in let n = is.course.run.known in omega arith
 
   -- a lane begins at session 0 or later
-  lane-early : (y j : ℕ) → y < length g → HasDepth y j (cone_on v) → j ≤ v.session
+  pub lane-early : (y j : ℕ) → y < length g → HasDepth y j (cone_on v) → j ≤ v.session
   lane-early y j l deep =
       let n = stands g y l in
       let e = is.early y j n.0 deep n.1 in
