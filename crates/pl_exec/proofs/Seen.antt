@@ -1,15 +1,14 @@
 -- The terms of a cone: their lanes, which are lower, and what they read.
-use Rattle.std.proofs.Common.{◌≡◌, ℕ, zero, suc, ◌+◌, ◌-◌, ◌<◌, ◌≤◌, ◌⊎◌, ◌==◌, Bool, true, false, cond, List, [], ◌∷◌, ◌++◌, ℤ, pos, length, take, drop, get_or, Option, Some, None, slice_get, refl, sym, ◌∙◌, ap, subst, arith, inl, inr}
+use Rattle.std.proofs.Common.{◌≡◌, ℕ, zero, suc, ◌+◌, ◌-◌, ◌<◌, ◌≤◌, ◌⊎◌, ◌==◌, Bool, true, false, cond, List, [], ◌∷◌, ◌++◌, ℤ, length, take, drop, Option, Some, None, slice_get, refl, sym, ◌∙◌, ap, subst, arith, inl, inr}
 use Rattle.std.proofs.lemmas.Bool.{true≢false, eqb-true, eq-eqb, cases_lt}
 use Rattle.std.proofs.lemmas.List.{take-append-le, drop-append-le, length-drop, take_all}
-use Rattle.pl_pipeline.specs.Term.{Graph, IsGraph, Node, Input}
-use Rattle.pl_pipeline.specs.Term.Input.{BarColumn, TermInput}
-use Rattle.pl_pipeline.specs.Cones.{Borders, Follows, HasDepth, cone_depths, depths_below, entry, mark, marks_of, more_marks, moves_at, windowed_at}
+use Rattle.pl_pipeline.specs.Term.{Graph, IsGraph, Node}
+use Rattle.pl_pipeline.specs.Term.Input.{TermInput}
+use Rattle.pl_pipeline.specs.Cones.{Borders, Follows, HasDepth, cone_depths, depths_below, entry, mark, more_marks, moves_at}
 use Rattle.pl_laws.proofs.ConeDepths.{depths-greatest, depths-sound}
 use Rattle.pl_laws.proofs.ConeInputs.{cone-lower}
-use Rattle.pl_values.specs.Arrays.{Fills}
 use Rattle.pl_exec.specs.Tasks.{Task}
-use Rattle.pl_exec.specs.Views.{AreSeenLanes, IsSeenLane, lane_of, lanes_long, seen_in}
+use Rattle.pl_exec.specs.Views.{AreSeenLanes, IsSeenLane, lane_of, lanes_long}
 
 -- ---- lanes
 

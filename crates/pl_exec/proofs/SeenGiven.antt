@@ -1,5 +1,5 @@
 -- What a term of a cone is seen as on the sessions before one, over what it reads.
-use Rattle.std.proofs.Common.{◌≡◌, ℕ, ◌+◌, ◌-◌, ◌<◌, ◌≤◌, ◌⊎◌, ◌==◌, Bool, true, false, ℤ, pos, List, Option, Some, length, get_or, All, refl, sym, ◌∙◌, ap, subst, arith, slice_get, inl, inr}
+use Rattle.std.proofs.Common.{◌≡◌, ℕ, ◌+◌, ◌-◌, ◌<◌, ◌≤◌, ◌==◌, true, false, ℤ, pos, List, Option, Some, length, get_or, All, refl, sym, ◌∙◌, ap, subst, arith, slice_get, inl, inr}
 use Rattle.std.proofs.lemmas.Bool.{true≢false, eqb-true}
 use Rattle.pl_spec.specs.Rounding.{IsCell}
 use Rattle.pl_pipeline.specs.Cones.{HasDepth}
@@ -24,7 +24,7 @@ use Rattle.pl_terms.specs.declared.row.Family.{Family}
 use Rattle.pl_terms.specs.declared.row.Family.TheVariants as families
 use Rattle.pl_exec.specs.declared.views.View.{View}
 use Rattle.pl_exec.specs.Tasks.{graph_in, sids_in}
-use Rattle.pl_exec.specs.Views.{AreSeenGiven, IsSeenInput, IsSeenLane, IsView, cone_on, seen_in, task_on}
+use Rattle.pl_exec.specs.Views.{AreSeenGiven, IsSeenInput, IsSeenLane, IsView, cone_on, task_on}
 use Rattle.pl_exec.proofs.SeenRows.{IsMoving, input-cells, input-long, moving-kind, point-asks, point-law, window-law}
 use Rattle.pl_exec.proofs.Seen.{is-moving}
 

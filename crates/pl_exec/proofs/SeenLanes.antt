@@ -1,14 +1,14 @@
 -- The lanes of a cone in a row, one term after the other.
-use Rattle.std.proofs.Common.{◌≡◌, ℕ, zero, suc, ◌+◌, ◌<◌, ◌≤◌, List, [], ◌∷◌, ◌++◌, ℤ, length, take, drop, get_or, Option, Some, None, slice_get, refl, sym, ◌∙◌, ap, subst, arith, map}
+use Rattle.std.proofs.Common.{◌≡◌, ℕ, zero, suc, ◌+◌, ◌<◌, ◌≤◌, List, [], ◌∷◌, ◌++◌, ℤ, length, take, drop, get_or, Option, Some, None, slice_get, refl, sym, ◌∙◌, ap, subst, arith}
 use Rattle.std.proofs.Math.Seq.{take-add}
 use Rattle.std.proofs.lemmas.List.{drop-append-le, drop_all, length-drop, length-take-le, take-append-drop, take-append-le, take_all}
 use Rattle.std.specs.List.{take-map}
-use Rattle.pl_pipeline.specs.Cones.{HasDepth, cone_depths, marks_of, windowed_at}
+use Rattle.pl_pipeline.specs.Cones.{HasDepth}
 use Rattle.pl_planner.specs.Cones.{pair_of, pairs_of}
 use Rattle.pl_planner.specs.declared.cones.ConeTerm.{ConeTerm}
 use Rattle.pl_exec.specs.declared.views.View.{View}
 use Rattle.pl_exec.specs.Tasks.{Task, graph_in}
-use Rattle.pl_exec.specs.Views.{AreLower, AreSeenLanes, IsSeenLane, IsView, cone_on, lanes_long, task_on}
+use Rattle.pl_exec.specs.Views.{AreLower, AreSeenLanes, IsSeenLane, cone_on, lanes_long, task_on}
 use Rattle.pl_exec.proofs.Seen.{at-depth, in-taken, lanes-more, stand-before}
 
 -- the front of two lists, and the back

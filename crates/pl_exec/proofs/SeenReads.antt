@@ -1,11 +1,10 @@
 -- The cells that the terms of a cone read on the sessions before a view.
-use Rattle.std.proofs.Common.{◌≡◌, ℕ, ◌+◌, ◌-◌, ◌*◌, ◌<◌, ◌≤◌, Bool, true, false, ℤ, pos, List, length, take, drop, get_or, map, Option, Some, None, slice_get, refl, sym, ◌∙◌, ap, subst, arith}
-use Rattle.std.proofs.lemmas.Bool.{true≢false}
+use Rattle.std.proofs.Common.{◌≡◌, ℕ, ◌+◌, ◌-◌, ◌*◌, ◌<◌, ◌≤◌, Bool, true, false, ℤ, pos, List, length, take, drop, Some, None, slice_get, refl, sym, ◌∙◌, ap, subst, arith}
 use Rattle.std.proofs.lemmas.List.{length-map}
 use Rattle.pl_spec.specs.Rounding.{IsCell}
 use Rattle.pl_spec.specs.Window.{downward}
 use Rattle.pl_spec.proofs.Windows.{length-downward}
-use Rattle.pl_pipeline.specs.Cones.{Borders, HasDepth, moves_at}
+use Rattle.pl_pipeline.specs.Cones.{HasDepth, moves_at}
 use Rattle.pl_pipeline.specs.Term as spec
 use Rattle.pl_pipeline.specs.Term.Input.{BarColumn, TermInput}
 use Rattle.pl_pipeline.proofs.Unfolds.{stands}

@@ -1,13 +1,13 @@
 -- Cells in a row, seen from one session: parts of them, the windows in them, and what terms give over them.
-use Rattle.std.proofs.Common.{◌≡◌, ℕ, zero, suc, ◌+◌, ◌-◌, ◌*◌, ◌<◌, ◌≤◌, ◌⊎◌, Bool, true, false, not, cond, ℤ, pos, List, [], ◌∷◌, Option, Some, None, length, map, take, drop, get_or, All, refl, sym, subst, ◌∙◌, ap, arith, slice_get, nat_lt, inl, inr, ◌||◌}
+use Rattle.std.proofs.Common.{◌≡◌, ℕ, zero, suc, ◌+◌, ◌-◌, ◌<◌, ◌≤◌, ◌⊎◌, Bool, true, false, not, ℤ, pos, List, [], Option, Some, None, length, map, take, drop, get_or, All, refl, sym, subst, ◌∙◌, ap, arith, slice_get, nat_lt, inl, inr, ◌||◌}
 use Rattle.std.proofs.Math.Seq.{drop-nil}
-use Rattle.std.proofs.lemmas.List.{ext_get_or, get_or-take, get_or-drop, length-map, length-take, length-take-le, length-drop, get_or_default}
+use Rattle.std.proofs.lemmas.List.{ext_get_or, get_or-take, get_or-drop, length-map, length-take, length-take-le, length-drop}
 use Rattle.std.proofs.lemmas.Bool.{true≢false}
-use Rattle.pl_spec.specs.Rounding.{IsCell, MISSING}
+use Rattle.pl_spec.specs.Rounding.{IsCell}
 use Rattle.pl_spec.specs.World.{World}
 use Rattle.pl_spec.specs.Window.{before, downward, seen_cell}
 use Rattle.pl_spec.proofs.Windows.{before-pos, length-downward}
-use Rattle.pl_pipeline.proofs.Cells.{missing-cell, chosen-cell}
+use Rattle.pl_pipeline.proofs.Cells.{missing-cell}
 use Rattle.pl_pipeline.proofs.Steady.{steady-own}
 use Rattle.pl_pipeline.proofs.Trees.{term_at-node}
 use Rattle.pl_pipeline.specs.Cones.{moves_at}
@@ -17,18 +17,18 @@ use Rattle.pl_pipeline.specs.declared.WindowKind.{WindowKind}
 use Rattle.pl_pipeline.specs.Pointwise.{pointwise}
 use Rattle.pl_pipeline.specs.Term.{Term, Node, Graph, Input, IsGraph, term_at, input_tree, number_tree, trees}
 use Rattle.pl_pipeline.specs.Term.Input.{BarColumn, TermInput}
-use Rattle.pl_pipeline.specs.Value.{View, From, view_of, seen_from, keeps_window, keeps_point, seen_window, is_steady, value}
+use Rattle.pl_pipeline.specs.Value.{From, view_of, keeps_window, keeps_point, is_steady}
 use Rattle.pl_pipeline.specs.Table.{Pipeline, in_array}
 use Rattle.pl_terms.specs.Sorts.{Place, Filter, sort_at, point_places, has_parameters}
 use Rattle.pl_lanes.specs.Flags.{IsFlag}
 use Rattle.pl_cross.specs.Arrays.{sid_in}
 use Rattle.pl_factors.specs.Lanes.{HasWindows, window_at}
 use Rattle.pl_factors.proofs.Following.{cells_at}
-use Rattle.pl_pointwise.specs.Operands.{IsOperation, AreOperands, ArePlaced, AreCells, AreFlags, operation}
-use Rattle.pl_values.specs.Arrays.{Fills, cell_of, empty_cell, is_kept, chosen, window_up_to}
+use Rattle.pl_pointwise.specs.Operands.{IsOperation, AreOperands, ArePlaced, operation}
+use Rattle.pl_values.specs.Arrays.{Fills, cell_of, empty_cell, is_kept, chosen}
 use Rattle.pl_values.specs.Families.{windowed, TakesWindows}
 use Rattle.pl_values.specs.Laws.{IsNode}
-use Rattle.pl_values.specs.Views.{seen_of, input_seen, operand_seen, AreWindowsSeen, AreOperandsSeen}
+use Rattle.pl_values.specs.Views.{seen_of, input_seen, operand_seen, AreWindowsSeen}
 use Rattle.pl_exec.specs.Views.{IsSeenInput}
 use Rattle.pl_values.proofs.Operations.{used, uses-its-own, place-at, term-at, fills-all, has-cells}
 use Rattle.pl_values.proofs.Typed.{filter-sort}

@@ -1,5 +1,5 @@
 -- What the terms of a cone are seen as from a session, for one asset on the sessions before it.
-use Rattle.std.specs.Prelude.{◌≡◌, ℕ, ◌+◌, ◌-◌, ◌<◌, ◌≤◌, ◌==◌, if◌then◌else◌, true, false, ℤ, pos, List, [], ◌∷◌, length, map, take, drop, get_or, Option, Some, None, slice_get}
+use Rattle.std.specs.Prelude.{◌≡◌, ℕ, ◌+◌, ◌-◌, ◌<◌, ◌≤◌, ◌==◌, if◌then◌else◌, false, ℤ, pos, List, [], ◌∷◌, length, take, drop, get_or, Option, Some, None, slice_get}
 use Rattle.pl_spec.specs.declared.Column.{Column}
 use Rattle.pl_spec.specs.declared.Column.TheVariants.{OpenPrice, High, Low, Close, Volume}
 use Rattle.pl_spec.specs.Rounding.{IsCell}

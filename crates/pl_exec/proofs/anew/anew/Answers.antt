@@ -1,9 +1,9 @@
-use Rattle.std.proofs.Common.{◌≡◌, suc, ◌+◌, ◌≤◌, ◌∙◌, ap, sym, subst, arith, take, length, get_or}
+use Rattle.std.proofs.Common.{◌≡◌, suc, ◌+◌, ◌∙◌, ap, sym, subst, arith, take, length, get_or}
 use Rattle.std.proofs.lemmas.List.{take_all}
-use Rattle.pl_planner.specs.Cones.{pair_of, pairs_of}
+use Rattle.pl_planner.specs.Cones.{pair_of}
 use Rattle.pl_planner.specs.declared.cones.ConeTerm.{ConeTerm}
 use Rattle.pl_exec.specs.Views.{AreLower, AreSeenLanes, cone_on, lanes_long, task_on}
-use Rattle.pl_exec.proofs.SeenLanes.{all-lanes, cone-at, cone-has, cone-room, long-next, long-taken, lower-lanes, next-lane, pairs-long, pairs-taken}
+use Rattle.pl_exec.proofs.SeenLanes.{all-lanes, cone-at, cone-has, cone-room, long-next, lower-lanes, next-lane, pairs-long, pairs-taken}
 use Rattle.pl_exec.proofs.anew.anew.Goals as goal
 
 abbrev blank : ConeTerm

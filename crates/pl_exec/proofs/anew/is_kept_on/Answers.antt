@@ -1,4 +1,4 @@
-use Rattle.std.proofs.Common.{rules, ◌≡◌, ℕ, ◌∙◌, ap, sym, refl, IfSome, Option, Some, None, option_map}
+use Rattle.std.proofs.Common.{◌≡◌, ℕ, sym, IfSome, Option, Some, None, option_map}
 use Rattle.pl_terms.specs.Nodes.{node_of, number_of}
 use Rattle.pl_terms.specs.declared.node.TermId.{TermId}
 use Rattle.pl_exec.proofs.anew.is_kept_on.Goals as goal

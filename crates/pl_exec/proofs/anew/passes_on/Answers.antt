@@ -1,4 +1,4 @@
-use Rattle.std.proofs.Common.{rules, ◌≡◌, ◌≤◌, ◌<◌, ◌+◌, ◌∙◌, ap, arith, sym, subst, w64, FitsSigned, get_or, pos, IfSome, Option, Some, option_map}
+use Rattle.std.proofs.Common.{rules, ◌∙◌, ap, arith, sym, subst, w64, FitsSigned, IfSome, Option, option_map}
 use Rattle.std.proofs.lemmas.Int.{to_z-of_z}
 use Rattle.pl_spec.specs.Cells.{is_true}
 use Rattle.pl_terms.specs.Nodes.{number_of}

@@ -1,4 +1,4 @@
-use Rattle.std.proofs.Common.{◌≡◌, ◌∙◌, ◌++◌, ap, sym, subst, arith, take, drop, length}
+use Rattle.std.proofs.Common.{◌∙◌, ◌++◌, ap, sym, subst, take, drop}
 use Rattle.pl_exec.specs.Views.{IsSeenLane, task_on}
 use Rattle.pl_exec.proofs.SeenLanes.{back-is, front-is}
 use Rattle.pl_exec.proofs.anew.put_anew.Goals as goal

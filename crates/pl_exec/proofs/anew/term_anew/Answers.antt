@@ -1,4 +1,4 @@
-use Rattle.std.proofs.Common.{rules, ◌≡◌, ◌∙◌, ◌+◌, ◌-◌, ◌<◌, ◌≤◌, ap, sym, subst, arith, w64, to_z, of_z, FitsSigned, get_or, length, pos}
+use Rattle.std.proofs.Common.{rules, ◌∙◌, ◌+◌, ◌-◌, ◌<◌, ap, sym, subst, arith, w64, to_z, of_z, FitsSigned, get_or, length, pos}
 use Rattle.std.proofs.lemmas.Int.{to_z-of_z}
 use Rattle.pl_pipeline.specs.Term.{term_at}
 use Rattle.pl_pipeline.specs.Value.{number_of, empty, sort_kind}

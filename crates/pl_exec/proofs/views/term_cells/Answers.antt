@@ -1,7 +1,6 @@
-use Rattle.std.proofs.Common.{◌≡◌, ◌≤◌, ◌∙◌, ap, sym, subst, arith, List, ℤ, Option, Some, None, option_map}
+use Rattle.std.proofs.Common.{◌≡◌, ◌∙◌, ap, sym, subst, arith, List, ℤ, Option, Some, None, option_map}
 use Rattle.std.specs.Borrow.{Bor}
-use Rattle.pl_planner.specs.Cones.{pairs_of}
-use Rattle.pl_exec.specs.Views.{IsSeenLane, lane_of, task_on}
+use Rattle.pl_exec.specs.Views.{IsSeenLane, task_on}
 use Rattle.pl_exec.proofs.SeenReads.{lane-end, own-seen}
 use Rattle.pl_exec.proofs.views.term_cells.Goals as goal
 
