@@ -1,9 +1,12 @@
 -- Windows of bars, by their traversals, and of terms, by their arrays.
-use Rattle.std.proofs.Common.{◌≡◌, ℕ, zero, suc, ◌+◌, ◌<◌, ◌≤◌, ℤ, pos, List, [], length, take, drop, Option, None, Some, slice_get, refl, sym, ◌∙◌, ap, subst, arith}
+use Rattle.std.proofs.Common.{◌≡◌, ℕ, zero, suc, ◌+◌, ◌<◌, ◌≤◌, true, false, not, ℤ, pos, List, [], length, take, drop, Option, None, Some, slice_get, refl, sym, ◌∙◌, ap, subst, arith}
 use Rattle.std.proofs.lemmas.List.{drop_all, take_all}
 use Rattle.pl_spec.specs.declared.Column.{Column}
 use Rattle.pl_spec.specs.Window.{bar_window}
 use Rattle.pl_pipeline.specs.Term as spec
+use Rattle.pl_pipeline.specs.Cones.{moves_at}
+use Rattle.pl_terms.specs.Sorts.{is_windowed}
+use Rattle.pl_values.proofs.KindFamilies.{window_kind}
 use Rattle.pl_adjarray.specs.Buffered.{Buffered}
 use Rattle.pl_adjarray.specs.Stillness.{IsStill}
 use Rattle.pl_adjarray.specs.Traversals.{Traversal}
@@ -13,7 +16,7 @@ use Rattle.pl_exec.specs.declared.term_session.TermSession.{TermSession}
 use Rattle.pl_exec.specs.declared.windows.Bars.{Bars}
 use Rattle.pl_exec.specs.declared.chunk_inputs.Array.{Array}
 use Rattle.pl_exec.specs.declared.windows.Source.TheVariants.{InNone, InColumn, InTerm}
-use Rattle.pl_exec.specs.Tasks.{assets_in, window_of_term}
+use Rattle.pl_exec.specs.Tasks.{assets_in, graph_in, window_of_term}
 use Rattle.pl_exec.specs.ChunkInputs.{AreBars, AreStill, HasBarsAt, IsColumnAt, IsColumnReach, IsLent, IsLentAt, IsLentReach, IsReach, IsTermLent, IsTermSession, buffer_at, buffered, column_traversal, node_at, one_col, place_among, place_in, task_at, traversal_at}
 use Rattle.pl_exec.proofs.Places.{IsFirst, first_place, new_first, sid_of_place}
 
@@ -80,7 +83,11 @@ module _ (t : TermSession) (is : IsTermSession t) (i : ℕ) (asset : i < assets_
 
 -- ---- by where they lie
 
-module _ (t : TermSession) (is : IsTermSession t) (i more : ℕ) (cells : List ℤ) where
+-- what a window holds is seen as it is
+still_input : (t : TermSession) → IsTermSession t → is_windowed (node_at t).kind ≡ true → (p u : ℕ) → slice_get (node_at t).inputs p ≡ Some (spec.TermInput u) → moves_at (graph_in (task_at t)) u ≡ false
+still_input t is kind p u e = let f = window_kind (node_at t).kind kind in ap not (is.chunk.task.checked.steady t.term.0 (node_at t) is.node f.0 f.1 p u e)
+
+module _ (t : TermSession) (is : IsTermSession t) (kind : is_windowed (node_at t).kind ≡ true) (i more : ℕ) (cells : List ℤ) where
   pub none_reach : cells ≡ [] → IsLentReach t InNone i more cells
   none_reach e p lent = here (slice_get (node_at t).inputs p) lent
     where
@@ -103,7 +110,7 @@ module _ (t : TermSession) (is : IsTermSession t) (i more : ℕ) (cells : List �
   term_lent_reach a w p lent = here (slice_get (node_at t).inputs p) refl lent
     where
       here : (o : Option spec.Input) → slice_get (node_at t).inputs p ≡ o → IsLent (task_at t) (node_at t) o (InTerm a) → IsReach t o i more cells
-      here (Some (spec.TermInput u)) e l = w u (record { read = is.ready.inputs p u e; array = l })
+      here (Some (spec.TermInput u)) e l = w u (record { still = still_input t is kind p u e; read = is.ready.inputs p u e; array = l })
       here o e l = absurd l
 
 -- the input whose windows lie in a traversal or in an array
@@ -114,9 +121,9 @@ column_of t q lent = here (slice_get (node_at t).inputs lent.0) refl lent.1
     here (Some (spec.BarColumn c)) e l = (lent.0, (c, (e, l)))
     here o e l = absurd l
 
-pub term_of : (t : TermSession) → IsTermSession t → (a : Array) → IsLentAt t (InTerm a) → (u : ℕ) × IsTermLent t u a
-term_of t is a lent = here (slice_get (node_at t).inputs lent.0) refl lent.1
+pub term_of : (t : TermSession) → IsTermSession t → is_windowed (node_at t).kind ≡ true → (a : Array) → IsLentAt t (InTerm a) → (u : ℕ) × IsTermLent t u a
+term_of t is kind a lent = here (slice_get (node_at t).inputs lent.0) refl lent.1
   where
     here : (o : Option spec.Input) → slice_get (node_at t).inputs lent.0 ≡ o → IsLent (task_at t) (node_at t) o (InTerm a) → (u : ℕ) × IsTermLent t u a
-    here (Some (spec.TermInput u)) e l = (u, record { read = is.ready.inputs lent.0 u e; array = l })
+    here (Some (spec.TermInput u)) e l = (u, record { still = still_input t is kind lent.0 u e; read = is.ready.inputs lent.0 u e; array = l })
     here o e l = absurd l

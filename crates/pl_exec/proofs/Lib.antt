@@ -22,3 +22,4 @@ pub mod SeenGiven
 pub mod SeenRows
 pub mod SeenReads
 pub mod SeenLanes
+pub mod SeenStretch

@@ -14,7 +14,10 @@ use Rattle.pl_pipeline.specs.Term.Input.{BarColumn, TermInput}
 use Rattle.pl_pipeline.specs.Graph.{contains, columns_at, input_column}
 use Rattle.pl_assets.specs.Labels.{AreLabels}
 use Rattle.pl_cross.specs.Arrays.{HasTexts}
-use Rattle.pl_values.specs.Inputs.{input_window, IsEntryRow}
+use Rattle.pl_values.specs.Inputs.{IsEntryRow}
+use Rattle.pl_values.specs.Views.{input_seen}
+use Rattle.pl_pipeline.specs.Cones.{moves_at}
+use Rattle.pl_pipeline.specs.Value.{From}
 use Rattle.pl_terms.specs.declared.row.Family.{Family}
 use Rattle.pl_terms.specs.declared.row.Family.TheVariants as families
 use Rattle.pl_terms.specs.Checked.{IsChecked, pipeline_of}
@@ -301,8 +304,9 @@ pub record IsArrayOf (t : Task) (u : ℕ) (a : Array) : Type 0 where
   pub low : a.low ≡ low_in t u
   pub end : a.low + a.count ≡ t.to + 1
 
--- in the array of its term
+-- in the array of its term, whose values are seen as they are
 pub record IsTermLent (t : TermSession) (u : ℕ) (a : Array) : Type 0 where
+  pub still : moves_at (graph_in (task_at t)) u ≡ false
   pub read : IsRead (task_at t) t.workspace.now t.session (node_at t).window u
   pub array : IsArrayOf (task_at t) u a
 
@@ -347,9 +351,13 @@ IsColumnAt t q = (p : ℕ) × ((c : Column) × ((slice_get (node_at t).inputs p 
 
 -- ---- windows on sessions in a row
 
+-- the window of an input of the term for the asset in place i on session s, all of it as it is seen on that
+abbrev pub window_seen : TermSession → Option spec.Input → ℕ → ℕ → List ℤ
+window_seen t o i s = input_seen (task_at t).world (task_at t).pipeline (sids_in (task_at t)) (node_at t).window o (From (pos s)) i s
+
 -- the cells of an input of the term for an asset, in its windows on the session and on `more` later ones
 pub record IsReach (t : TermSession) (o : Option spec.Input) (i more : ℕ) (cells : List ℤ) : Type 0 where
-  pub windows : (m : ℕ) → m ≤ more → window_at (node_at t).window m cells ≡ input_window (task_at t).world (task_at t).pipeline (sids_in (task_at t)) (node_at t).window o i (t.session + m)
+  pub windows : (m : ℕ) → m ≤ more → window_at (node_at t).window m cells ≡ window_seen t o i (t.session + m)
   pub long : HasWindows (node_at t).window (more + 1) cells
 
 abbrev pub IsColumnReach : TermSession → ℕ → ℕ → ℕ → List ℤ → Type 0

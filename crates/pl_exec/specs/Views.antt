@@ -1,5 +1,5 @@
 -- What the terms of a cone are seen as from a session, for one asset on the sessions before it.
-use Rattle.std.specs.Prelude.{◌≡◌, ℕ, ◌+◌, ◌-◌, ◌<◌, ◌≤◌, ◌==◌, if◌then◌else◌, false, ℤ, pos, List, [], ◌∷◌, length, take, drop, get_or, Option, Some, None, slice_get}
+use Rattle.std.specs.Prelude.{◌≡◌, ℕ, ◌+◌, ◌-◌, ◌<◌, ◌≤◌, ◌==◌, if◌then◌else◌, false, ℤ, pos, List, [], ◌∷◌, length, take, drop, get_or, Option, Some, None, slice_get, All}
 use Rattle.pl_spec.specs.declared.Column.{Column}
 use Rattle.pl_spec.specs.declared.Column.TheVariants.{OpenPrice, High, Low, Close, Volume}
 use Rattle.pl_spec.specs.Rounding.{IsCell}
@@ -12,7 +12,9 @@ use Rattle.pl_pipeline.specs.Term.Input.{BarColumn, TermInput}
 use Rattle.pl_pipeline.specs.Value.{From}
 use Rattle.pl_cross.specs.Arrays.{sid_in}
 use Rattle.pl_values.specs.Arrays.{Fills, chosen, empty_cell, is_kept}
-use Rattle.pl_values.specs.Views.{seen_of}
+use Rattle.pl_values.specs.Views.{input_seen, seen_of}
+use Rattle.pl_laws.specs.SeenLaws.{IsStillBetween}
+use Rattle.pl_factors.specs.Lanes.{window_at}
 use Rattle.pl_exec.specs.declared.views.SeenBars.{SeenBars}
 use Rattle.pl_exec.specs.declared.views.View.{View}
 use Rattle.pl_exec.specs.ChunkInputs.{IsCourse, IsRead, task_in}
@@ -104,3 +106,16 @@ pub record AreLower (v : View) (u : ℕ) (cone : List (ℕ × ℕ)) (lanes : Lis
   pub all : (y m : ℕ) → y < u → HasDepth y m (cone_on v) → HasDepth y m cone
   pub seen : AreSeenLanes (task_on v) v.i v.session cone lanes
   pub long : lanes_long cone ≤ length lanes
+
+-- ---- a stretch of sessions
+
+-- A stretch of n sessions after session d: what is seen of the asset's bars from one of its sessions is seen so from
+-- each later one.
+abbrev pub IsStretch : Task → ℕ → ℕ → ℕ → Type 0
+IsStretch t i d n = (r s : ℕ) → d ≤ r → r ≤ s → s ≤ d + n → (low : ℤ) → IsStillBetween t.world (sid_in (sids_in t) i) low (pos r) (pos s)
+
+-- The windows of term u on session d and n later ones follow on each other in the list, each as it is seen on its
+-- session.
+pub record AreSeenWindows (t : Task) (u i size d n : ℕ) (lane : List ℤ) : Type 0 where
+  pub windows : (m : ℕ) → m ≤ n → window_at size m lane ≡ input_seen t.world t.pipeline (sids_in t) size (Some (TermInput u)) (From (pos (d + m))) i (d + m)
+  pub cells : All IsCell lane

@@ -9,6 +9,7 @@ mod columns;
 mod compute;
 mod course;
 mod fill;
+mod follow;
 mod keep;
 mod kinds;
 mod leaves;

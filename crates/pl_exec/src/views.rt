@@ -104,9 +104,9 @@ fn own_cells<'v>(view: &View<'v>, term: TermId, many: usize) -> &'v [i64]
     cells_up_to(&array, view.i, view.session - 1 - array.low, many)
 }
 
-// What a term is seen as on the `many` sessions before: of one that moves in its lane, of another in its
-// array.
-fn term_cells<'v>(
+/// What a term is seen as on the `many` sessions before: of one that moves in its lane, of another in its
+/// array.
+pub(crate) fn term_cells<'v>(
     view: &View<'v>,
     cone: &[ConeTerm],
     lanes: &'v [i64],

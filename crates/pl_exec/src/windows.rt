@@ -191,6 +191,7 @@ fn reach_in<'t>(
     more: usize,
 ) -> &'t [i64]
     requires term_session { IsTermSession term_session.now }
+    requires kind { is_windowed (node_at term_session.now).kind ≡ true }
     requires bars { HasBars term_session.now.chunk.now term_session.now.term.0
         (node_at term_session.now) (one_col term_session.now.chunk.now i)
         term_session.now.session (bars_now bars) }

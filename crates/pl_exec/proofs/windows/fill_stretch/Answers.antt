@@ -1,11 +1,21 @@
-use Rattle.std.proofs.Common.{◌≡◌, ◌≤◌, ◌<◌, ◌+◌, ◌-◌, ◌∙◌, ap, arith, length, subst, sym}
+use Rattle.std.proofs.Common.{◌≡◌, true, ◌≤◌, ◌<◌, ◌+◌, ◌-◌, ◌∙◌, ap, arith, length, subst, sym}
 use Rattle.pl_terms.specs.Kinds.{kind_of}
+use Rattle.pl_terms.specs.Sorts.{is_windowed}
 use Rattle.pl_factors.specs.Lanes.{AreValues, TakesLanes}
 use Rattle.pl_exec.specs.declared.term_session.TermSession.{TermSession}
 use Rattle.pl_exec.specs.Tasks.{assets_in}
 use Rattle.pl_exec.specs.ChunkInputs.{HasBars, IsLentAt, IsLentReach, bars_now, node_at, node_in, one_col, task_at}
 use Rattle.pl_exec.proofs.Stretches.{lanes_taken, stretch_given}
 use Rattle.pl_exec.proofs.windows.fill_stretch.Goals as goal
+
+pub reach_in-first-requires-clause-kind : goal.reach_in-first-requires-clause-kind
+reach_in-first-requires-clause-kind c = subst (λ (t : TermSession). is_windowed (node_at t).kind ≡ true) (sym c.on_session-term_session.ensures.is) c.requires.kind
+
+pub reach_in-second-requires-clause-kind : goal.reach_in-second-requires-clause-kind
+reach_in-second-requires-clause-kind c = subst (λ (t : TermSession). is_windowed (node_at t).kind ≡ true) (sym c.on_session-term_session.ensures.is) c.requires.kind
+
+pub reach_in-third-requires-clause-kind : goal.reach_in-third-requires-clause-kind
+reach_in-third-requires-clause-kind c = subst (λ (t : TermSession). is_windowed (node_at t).kind ≡ true) (sym c.on_session-term_session.ensures.is) c.requires.kind
 
 pub reach_in-first-requires-clause-bars : goal.reach_in-first-requires-clause-bars
 reach_in-first-requires-clause-bars c = subst (λ (t : TermSession). HasBars t.chunk.now t.term.0 (node_at t) (one_col t.chunk.now c.args.lane.now.i) t.session (bars_now c.args.bars)) (sym c.on_session-term_session.ensures.is) c.requires.bars
