@@ -1,5 +1,5 @@
 -- Windows of a term on a stretch of sessions, each as it is seen on its session.
-use Rattle.std.proofs.Common.{◌≡◌, ℕ, suc, ◌+◌, ◌-◌, ◌*◌, ◌<◌, ◌≤◌, ℤ, pos, negsuc, ◌≤ℤ◌, List, [], ◌++◌, Some, slice_get, length, map, filter, take, drop, get_or, refl, sym, ◌∙◌, ap, subst, arith, All, inl, inr}
+use Rattle.std.proofs.Common.{◌≡◌, ℕ, ◌+◌, ◌-◌, ◌*◌, ◌<◌, ◌≤◌, ℤ, pos, negsuc, ◌≤ℤ◌, List, [], ◌++◌, Some, slice_get, length, filter, take, drop, get_or, sym, ◌∙◌, ap, subst, arith, inl, inr}
 use Rattle.std.proofs.lemmas.Bool.{cases_lt}
 use Rattle.std.proofs.lemmas.Int.{ints}
 use Rattle.std.proofs.lemmas.Option.{slice_get-get_or}
@@ -12,7 +12,6 @@ use Rattle.pl_spec.proofs.Windows.{length-downward}
 use Rattle.pl_pipeline.specs.Graph.{reach}
 use Rattle.pl_pipeline.specs.Table.{in_array}
 use Rattle.pl_pipeline.specs.Term.{Term, term_at}
-use Rattle.pl_pipeline.specs.Term.Input.{TermInput}
 use Rattle.pl_laws.specs.SeenLaws.{IsOnStretch, IsStillBetween}
 use Rattle.pl_laws.proofs.Views.{on-stretch, quiet-still}
 use Rattle.pl_terms.specs.Checked.{IsChecked}

@@ -1,4 +1,4 @@
-use Rattle.std.proofs.Common.{◌+◌, ◌∙◌, ◌++◌, ap, ap₂, arith, subst, sym, length}
+use Rattle.std.proofs.Common.{◌+◌, ◌++◌, ap₂, subst, sym}
 use Rattle.pl_exec.specs.Views.{AreSeenWindows, task_on}
 use Rattle.pl_exec.proofs.SeenStretch.{lane-windows}
 use Rattle.pl_exec.proofs.follow.put_lane.Goals as goal
