@@ -12,6 +12,7 @@ use Rattle.pl_spec.proofs.Windows.{length-downward}
 use Rattle.pl_pipeline.specs.Graph.{reach}
 use Rattle.pl_pipeline.specs.Table.{in_array}
 use Rattle.pl_pipeline.specs.Term.{Term, term_at}
+use Rattle.pl_pipeline.specs.Term.Input.{TermInput}
 use Rattle.pl_laws.specs.SeenLaws.{IsOnStretch, IsStillBetween}
 use Rattle.pl_laws.proofs.Views.{on-stretch, quiet-still}
 use Rattle.pl_terms.specs.Checked.{IsChecked}
@@ -35,10 +36,11 @@ use Rattle.pl_adjarray.proofs.ColumnWorlds.{own_events}
 use Rattle.pl_adjarray.proofs.Quiet.{within_none}
 use Rattle.pl_adjarray.proofs.Slides.{days_le}
 use Rattle.pl_exec.specs.declared.chunk_inputs.ChunkInputs.{ChunkInputs}
+use Rattle.pl_exec.specs.declared.course.Lane.{Lane}
 use Rattle.pl_exec.specs.declared.chunk_inputs.Array.{Array}
 use Rattle.pl_exec.specs.declared.views.View.{View}
 use Rattle.pl_exec.specs.Tasks.{Task, assets_in, cell_in, sids_in}
-use Rattle.pl_exec.specs.ChunkInputs.{AreChunkInputs, IsArrayOf, IsRead, buffered, one_col, task_of}
+use Rattle.pl_exec.specs.ChunkInputs.{AreChunkInputs, IsArrayOf, IsReach, IsReached, IsRead, buffered, node_in, one_col, session_in, task_in, task_of}
 use Rattle.pl_exec.specs.Views.{AreSeenWindows, IsSeenLane, IsStretch, IsView, seen_in, task_on}
 use Rattle.pl_exec.proofs.Held.{held}
 use Rattle.pl_exec.proofs.Places.{sid_of_place}
@@ -195,3 +197,19 @@ quiet-stretch j is i k asset c d n late quiet r s from by to low =
     subst (λ a. IsStillBetween (task_of j).world a low (pos r) (pos s)) (sym (sid_of_place j.world.assets.now j.cols.now i asset))
     (still-between (buffered j k c (one_col j i)) j.world.assets.now j.world.labels.now.rows j.world.labels.now.texts j.world.numbers.now.rows is.made.parts is.made.world 0 (omega arith) (is.task.columns.within i 0 asset) d n
     (omega (arith, within, last, late)) quiet r s from by to low)
+
+-- a lane has the windows that a formula takes there
+pub lane-reached : (l : Lane) (j p u before more : ℕ) (lane : List ℤ) → slice_get (node_in l.course.now).inputs p ≡ Some (TermInput u) → before + 1 ≡ (node_in l.course.now).window → length lane ≡ before + more + 1
+    → AreSeenWindows (task_in l.course.now) u l.i (before + 1) (l.course.now.low + j) more lane → IsReached l j p (more + 1) lane
+lane-reached l j p u before more lane input size long seen =
+    let windows = subst (λ s. AreSeenWindows (task_in l.course.now) u l.i s (l.course.now.low + j) more lane) size seen in
+    let less : more + 1 - 1 ≡ more = omega arith in
+    record {
+      reach = subst (λ o. IsReach (session_in l.course.now j) o l.i (more + 1 - 1) lane) (sym input)
+          (record {
+            windows = λ m h. windows.windows m (omega (arith, h, less));
+            long = λ some. omega (arith, long, size);
+          });
+      cells = windows.cells;
+    }
+

@@ -1,5 +1,5 @@
 -- What the code has of a chunk's work, and what is there when a term is computed.
-use Rattle.std.specs.Prelude.{◌≡◌, ◌≢◌, ℕ, zero, suc, ◌+◌, ◌<◌, ◌≤◌, ◌*◌, ◌^◌, Bool, true, false, if◌then◌else◌, ◌==◌, ℤ, pos, ◌<ℤ◌, ◌≤ℤ◌, List, [], ◌∷◌, length, filter_map, take, get_or, Option, Some, None, slice_get, AllPairs}
+use Rattle.std.specs.Prelude.{◌≡◌, ◌≢◌, ℕ, zero, suc, ◌+◌, ◌-◌, ◌<◌, ◌≤◌, ◌*◌, ◌^◌, Bool, true, false, if◌then◌else◌, ◌==◌, ℤ, pos, ◌<ℤ◌, ◌≤ℤ◌, List, [], ◌∷◌, length, filter_map, take, get_or, Option, Some, None, slice_get, All, AllPairs}
 use Rattle.pl_spec.specs.Limits.{most_assets, most_terms}
 use Rattle.pl_spec.specs.Rounding.{IsCell}
 use Rattle.pl_spec.specs.declared.Column.{Column}
@@ -392,6 +392,11 @@ pub record IsLane (l : Lane) : Type 0 where
   pub course : IsCourse l.course.now
   pub lent : AreLent (task_in l.course.now) (node_in l.course.now) l.sources.now
   pub asset : l.i < assets_in (task_in l.course.now)
+
+-- the cells of the input in place p, in its windows on n sessions from session j of the course on
+pub record IsReached (l : Lane) (j p n : ℕ) (row : List ℤ) : Type 0 where
+  pub reach : IsReach (session_in l.course.now j) (slice_get (node_in l.course.now).inputs p) l.i (n - 1) row
+  pub cells : All IsCell row
 
 -- the rows of the input in a place for an asset alone
 abbrev pub rows_at : Lane → ℕ → Buffered

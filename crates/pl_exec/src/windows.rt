@@ -6,7 +6,7 @@ ghost use Rattle.pl_adjarray.specs.Buffered.{applied_at};
 ghost use Rattle.pl_adjarray.specs.Stillness.{IsStill};
 ghost use Rattle.pl_terms.specs.Sorts.{is_windowed};
 ghost use Rattle.pl_exec.specs.Tasks.{assets_in};
-ghost use Rattle.pl_exec.specs.ChunkInputs.{AreLent, AreMoved, AreStill, AreStillNow, GoOn, GoesOn, HasBars, HasBegun, HaveBegun, IsColumnAt, IsColumnReach, IsCourse, IsGivenOn, IsLane, IsLent, IsLentAt, IsLentReach, IsMaskLent, IsTermSession, advanced, bars_now, counted, node_at, node_in, one_col, passed, place_in, task_at, task_in};
+ghost use Rattle.pl_exec.specs.ChunkInputs.{AreLent, AreMoved, AreStill, AreStillNow, GoOn, GoesOn, HasBars, HasBegun, HaveBegun, IsColumnAt, IsColumnReach, IsCourse, IsGivenOn, IsLane, IsLent, IsLentAt, IsLentReach, IsMaskLent, IsReached, IsTermSession, advanced, bars_now, counted, node_at, node_in, one_col, passed, place_in, task_at, task_in};
 
 use crate::chunk_inputs::{Array, array_of};
 use crate::columns::place_of;
@@ -209,6 +209,32 @@ fn reach_in<'t>(
     }
 }
 
+/// What a formula or a filter gives over windows of an asset that follow on each other: those on some sessions
+/// in a row, from session `j` of the course on.
+pub(crate) fn fill_reached(
+    lane: &Lane<'_>,
+    j: usize,
+    first: &[i64],
+    second: &[i64],
+    third: &[i64],
+    out: &mut [i64],
+)
+    requires lane { IsLane lane.now }
+    requires kind { is_windowed (node_in lane.now.course.now).kind ≡ true }
+    requires first { IsReached lane.now j 0 (length out.old) first.now }
+    requires second { IsReached lane.now j 1 (length out.old) second.now }
+    requires third { IsReached lane.now j 2 (length out.old) third.now }
+    requires some { 0 < length out.old }
+    requires within { j + length out.old ≤ lane.now.course.now.count }
+    ensures long { length out.new ≡ length out.old }
+    ensures values { (m : ℕ) → m < length out.old
+        → IsGivenOn lane.now.course.now lane.now.i (j + m) (get_or out.new m (pos 0)) }
+{
+    let node = lane.course.node;
+    let kind = kind_of(node);
+    fill_values(kind, window_of(node), first, second, third, out);
+}
+
 /// What a formula or a filter gives over the windows of an asset on some sessions in a row, from session `j`
 /// of the course on, on which nothing changes in the traversals.
 pub(crate) fn fill_stretch(lane: &Lane<'_>, bars: Option<&Bars<'_>>, j: usize, out: &mut [i64])
@@ -229,13 +255,5 @@ pub(crate) fn fill_stretch(lane: &Lane<'_>, bars: Option<&Bars<'_>>, j: usize, o
     let first = reach_in(&term_session, &lane.sources.first, bars, lane.i, more);
     let second = reach_in(&term_session, &lane.sources.second, bars, lane.i, more);
     let third = reach_in(&term_session, &lane.sources.third, bars, lane.i, more);
-    let kind = kind_of(term_session.node);
-    fill_values(
-        kind,
-        window_of(term_session.node),
-        first,
-        second,
-        third,
-        out,
-    );
+    fill_reached(lane, j, first, second, third, out);
 }
