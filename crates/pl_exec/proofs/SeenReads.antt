@@ -158,7 +158,7 @@ module _ (v : View) (is : IsView v) (u m : ℕ) (own : HasDepth u m (cone_on v))
           here e false still = (
             still,
             subst (λ x. IsRead (task_on v) v.course.now.workspace.now v.session (x + 1) y) many-is
-            (is.beside y (m + (n.window - 1)) (input-beside g ok k u m own n node q y input still)),
+                (is.beside y (m + (n.window - 1)) (input-beside g ok k u m own n node q y input still)),
           )
 
       pub term-input : (x : ℕ) (cells : List ℤ) → x ≡ many → IsSeenLane (task_on v) y v.i v.session x cells

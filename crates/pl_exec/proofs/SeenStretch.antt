@@ -212,4 +212,3 @@ lane-reached l j p u before more lane input size long seen =
           });
       cells = windows.cells;
     }
-
