@@ -54,8 +54,8 @@ bars_of b Low = b.low.now
 bars_of b Close = b.close.now
 bars_of b Volume = b.volume.now
 
--- The cells of an input in the windows of size sessions on each of the m sessions before d, all seen from d: of a
--- bar column those of the sessions before each, of a term those up to it.
+-- The cells of an input in the windows of size sessions on each of the m sessions before d, all seen from d:
+-- of a bar column those of the sessions before each, of a term those up to it.
 abbrev pub IsSeenInput : World → Pipeline → List ℕ → ℕ → ℕ → Option spec.Input → ℕ → ℕ → List ℤ → Type 0
 IsSeenInput w p sids i d None size m cells = cells ≡ []
 IsSeenInput w p sids i d (Some (BarColumn c)) size m cells =
@@ -109,13 +109,13 @@ pub record AreLower (v : View) (u : ℕ) (cone : List (ℕ × ℕ)) (lanes : Lis
 
 -- ---- a stretch of sessions
 
--- A stretch of n sessions after session d: what is seen of the asset's bars from one of its sessions is seen so from
--- each later one.
+-- A stretch of n sessions after session d: what is seen of the asset's bars from one of its sessions is seen
+-- so from each later one.
 abbrev pub IsStretch : Task → ℕ → ℕ → ℕ → Type 0
 IsStretch t i d n = (r s : ℕ) → d ≤ r → r ≤ s → s ≤ d + n → (low : ℤ) → IsStillBetween t.world (sid_in (sids_in t) i) low (pos r) (pos s)
 
--- The windows of term u on session d and n later ones follow on each other in the list, each as it is seen on its
--- session.
+-- The windows of term u on session d and n later ones follow on each other in the list, each as it is seen
+-- on its session.
 pub record AreSeenWindows (t : Task) (u i size d n : ℕ) (lane : List ℤ) : Type 0 where
   pub windows : (m : ℕ) → m ≤ n → window_at size m lane ≡ input_seen t.world t.pipeline (sids_in t) size (Some (TermInput u)) (From (pos (d + m))) i (d + m)
   pub cells : All IsCell lane

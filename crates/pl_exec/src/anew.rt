@@ -54,8 +54,8 @@ fn is_kept_on(view: &View<'_>, node: &Node, session: usize) -> bool
     requires early { session < view.now.session }
     requires read { (u : ℕ) → (node_of node.now).mask ≡ Some u
         → IsRead (task_on view.now) view.now.course.now.workspace.now session 1 u }
-    ensures { result ≡ is_kept (task_on view.now).world (task_on view.now).pipeline (sids_in (task_on view.now))
-        (node_of node.now).mask view.now.i session }
+    ensures { result ≡ is_kept (task_on view.now).world (task_on view.now).pipeline
+        (sids_in (task_on view.now)) (node_of node.now).mask view.now.i session }
 {
     if exists_on(view, session) {
         passes_on(view, mask_of(node), session)
@@ -131,12 +131,13 @@ fn put_anew(view: &View<'_>, cone: &[ConeTerm], own: ConeTerm, start: usize, scr
     term_anew(view, cone, lanes, own, &mut rest[..own.depth]);
 }
 
-/// What each term of the cone is seen as on the sessions before, in ascending order, one lane after the other.
+/// What each term of the cone is seen as on the sessions before, ascending, one lane after the other.
 pub(crate) fn anew(view: &View<'_>, cone: &[ConeTerm], scratch: &mut [i64])
     requires view { IsView view.now }
     requires cone { pairs_of cone.now ≡ cone_on view.now }
     requires room { lanes_long (cone_on view.now) ≤ length scratch.old }
-    ensures lanes { AreSeenLanes (task_on view.now) view.now.i view.now.session (cone_on view.now) scratch.new }
+    ensures lanes { AreSeenLanes (task_on view.now) view.now.i view.now.session (cone_on view.now)
+        scratch.new }
     ensures long { length scratch.new ≡ length scratch.old }
 {
     let mut start = 0;

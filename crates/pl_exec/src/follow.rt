@@ -24,8 +24,8 @@ fn cells_after<'v>(view: &View<'v>, term: TermId, count: usize) -> &'v [i64]
     cells_from(&array, view.i, view.session - array.low, count)
 }
 
-/// Puts the windows of a term on a stretch into a lane: what the term is seen as on the `before` sessions before
-/// the view's, and its own cells on that and on `more` later ones.
+/// Puts the windows of a term on a stretch into a lane: what the term is seen as on the `before` sessions
+/// before the view's, and its own cells on that and on `more` later ones.
 pub(crate) fn put_lane(
     view: &View<'_>,
     cone: &[ConeTerm],

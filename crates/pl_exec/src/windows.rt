@@ -209,8 +209,8 @@ fn reach_in<'t>(
     }
 }
 
-/// What a formula or a filter gives over windows of an asset that follow on each other: those on some sessions
-/// in a row, from session `j` of the course on.
+/// What a formula or a filter gives over windows of an asset that follow on each other: those on some
+/// sessions in a row, from session `j` of the course on.
 pub(crate) fn fill_reached(
     lane: &Lane<'_>,
     j: usize,
