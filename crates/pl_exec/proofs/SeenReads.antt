@@ -1,5 +1,5 @@
 -- The cells that the terms of a cone read on the sessions before a view.
-use Rattle.std.proofs.Common.{◌≡◌, ℕ, ◌+◌, ◌-◌, ◌*◌, ◌<◌, ◌≤◌, Bool, true, false, ℤ, pos, List, length, take, drop, Some, None, slice_get, refl, sym, ◌∙◌, ap, subst, arith}
+use Rattle.std.proofs.Common.{◌≡◌, ℕ, ◌+◌, ◌-◌, ◌*◌, ◌<◌, ◌≤◌, Bool, true, false, ℤ, pos, List, length, take, drop, Some, None, slice_get, refl, sym, ◌∙◌, ap, subst, arith, inl, inr}
 use Rattle.std.proofs.lemmas.List.{length-map}
 use Rattle.pl_spec.specs.Rounding.{IsCell}
 use Rattle.pl_spec.specs.Window.{downward}
@@ -15,10 +15,11 @@ use Rattle.pl_exec.specs.declared.chunk_inputs.Array.{Array}
 use Rattle.pl_exec.specs.declared.views.View.{View}
 use Rattle.pl_exec.specs.Tasks.{assets_in, cell_in, graph_in, sids_in}
 use Rattle.pl_exec.specs.ChunkInputs.{IsArrayOf, IsRead}
-use Rattle.pl_exec.specs.Views.{AreLower, IsSeenInput, IsSeenLane, IsSeenTerm, IsView, bar_in, cone_on, lane_of, seen_in, task_on}
+use Rattle.pl_exec.specs.Views.{AreLower, IsSeenInput, IsSeenLane, IsSeenTerm, IsUnchanged, IsView, bar_in, cone_on, lane_of, seen_in, task_on}
 use Rattle.pl_exec.proofs.Held.{held}
 use Rattle.pl_exec.proofs.Seen.{input-beside, input-deep, is-lower, is-moving, lane-none, lane-some}
 use Rattle.pl_exec.proofs.SeenRows.{end-fills, steady-seen}
+use Rattle.pl_exec.proofs.SeenStretch.{quiet-lane}
 use Rattle.pl_exec.proofs.Spans.{at_downward, end_within, size_within, window_is}
 
 -- the cells up to the session before one, in a row
@@ -76,8 +77,8 @@ lane-end v u many k lane few far seen =
     rw e (end-fills (seen_in (task_on v) u v.i v.session) (v.session - k) (v.session - many) (k - many) many (omega arith) k lane seen (omega arith))
 
 -- its own cells, where it does not move
-pub own-seen : (v : View) (u many : ℕ) (cells : List ℤ) → moves_at (graph_in (task_on v)) u ≡ false → Fills (λ j. cell_in (task_on v) u v.i (v.session - many + j)) many cells → IsSeenLane (task_on v) u v.i v.session many cells
-own-seen v u many cells still own = record {
+steady-lane : (v : View) (u many : ℕ) (cells : List ℤ) → moves_at (graph_in (task_on v)) u ≡ false → Fills (λ j. cell_in (task_on v) u v.i (v.session - many + j)) many cells → IsSeenLane (task_on v) u v.i v.session many cells
+steady-lane v u many cells still own = record {
   long = own.long;
   each = λ j h. own.each j h ∙ sym (same (v.session - many + j));
   cell = λ j h. subst IsCell (sym (same (v.session - many + j))) (own.cell j h);
@@ -85,6 +86,11 @@ own-seen v u many cells still own = record {
   where
     same : (s : ℕ) → seen_in (task_on v) u v.i v.session s ≡ cell_in (task_on v) u v.i s
     same s = steady-seen (task_on v).world (task_on v).pipeline (sids_in (task_on v)) u v.i v.session s still
+
+-- or where it is unchanged
+pub own-seen : (v : View) → IsView v → (u many : ℕ) (cells : List ℤ) → many ≤ v.session → IsUnchanged v u many → Fills (λ j. cell_in (task_on v) u v.i (v.session - many + j)) many cells → IsSeenLane (task_on v) u v.i v.session many cells
+own-seen v is u many cells far (inl still) own = steady-lane v u many cells still own
+own-seen v is u many cells far (inr stretch) own = quiet-lane (task_on v) is.course.chunk.task.checked u v.i v.session many far stretch cells own
 
 -- ---- what a term of the cone reads
 
@@ -151,12 +157,12 @@ module _ (v : View) (is : IsView v) (u m : ℕ) (own : HasDepth u m (cone_on v))
         own = λ e. here e (moves_at g y) refl;
       }
         where
-          here : lane_of cone lanes y ≡ None → (b : Bool) → moves_at g y ≡ b → (moves_at g y ≡ false) × IsRead (task_on v) v.course.now.workspace.now v.session (many + 1) y
+          here : lane_of cone lanes y ≡ None → (b : Bool) → moves_at g y ≡ b → IsUnchanged v y many × IsRead (task_on v) v.course.now.workspace.now v.session (many + 1) y
           here e true moves =
               let j = input-deep g ok k u m own n node q y input moves in
               absurd (lane-none cone lanes y j.0 e (lower.all y j.0 input-lower j.1))
           here e false still = (
-            still,
+            inl still,
             subst (λ x. IsRead (task_on v) v.course.now.workspace.now v.session (x + 1) y) many-is
                 (is.beside y (m + (n.window - 1)) (input-beside g ok k u m own n node q y input still)),
           )

@@ -119,6 +119,20 @@ module _ (t : Task) (checked : IsChecked t.pipeline) (y i d more : ℕ) (stretch
       cells = All-append IsCell xs ys (fills-all IsCell _ before xs earlier earlier.cell) (fills-all IsCell _ (more + 1) ys own own.cell);
     }
 
+-- the own cells of a term on a stretch are what it is seen as from the last session of it
+pub quiet-lane : (t : Task) → IsChecked t.pipeline → (y i d before : ℕ) → before ≤ d → IsStretch t i (d - before) before → (xs : List ℤ) → Fills (λ j. cell_in t y i (d - before + j)) before xs → IsSeenLane t y i d before xs
+quiet-lane t checked y i d before far stretch xs own = record {
+  long = own.long;
+  each = λ j h. own.each j h ∙ sym (same j h);
+  cell = λ j h. subst IsCell (sym (same j h)) (own.cell j h);
+}
+  where
+    same : (j : ℕ) → j < before → seen_in t y i d (d - before + j) ≡ cell_in t y i (d - before + j)
+    same j h =
+        let e : d - before + before ≡ d = omega arith in
+        subst (λ s. seen_in t y i s (d - before + j) ≡ cell_in t y i (d - before + j)) e
+        (seen-within t checked y i (d - before) before stretch before (d - before + j) (omega arith) (omega arith) (omega arith))
+
 -- ---- own cells of a term from the view's session on
 
 module _ (v : View) (is : IsView v) (u count : ℕ) (read : IsRead (task_on v) v.course.now.workspace.now v.session 1 u) (late : v.session + count ≤ v.course.now.chunk.now.to + 1) (some : 1 ≤ count)

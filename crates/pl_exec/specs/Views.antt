@@ -1,5 +1,5 @@
 -- What the terms of a cone are seen as from a session, for one asset on the sessions before it.
-use Rattle.std.specs.Prelude.{◌≡◌, ℕ, ◌+◌, ◌-◌, ◌<◌, ◌≤◌, ◌==◌, if◌then◌else◌, false, ℤ, pos, List, [], ◌∷◌, length, take, drop, get_or, Option, Some, None, slice_get, All}
+use Rattle.std.specs.Prelude.{◌≡◌, ◌⊎◌, ℕ, ◌+◌, ◌-◌, ◌<◌, ◌≤◌, ◌==◌, if◌then◌else◌, false, ℤ, pos, List, [], ◌∷◌, length, take, drop, get_or, Option, Some, None, slice_get, All}
 use Rattle.pl_spec.specs.declared.Column.{Column}
 use Rattle.pl_spec.specs.declared.Column.TheVariants.{OpenPrice, High, Low, Close, Volume}
 use Rattle.pl_spec.specs.Rounding.{IsCell}
@@ -94,11 +94,21 @@ pub record IsView (v : View) : Type 0 where
   pub beside : (b m : ℕ) → Borders (graph_in (task_on v)) v.course.now.term.0 b m
       → IsRead (task_on v) v.course.now.workspace.now v.session (m + 1) b
 
--- Term u is read on the m sessions before: it has a lane, which is long enough, or it does not move and its
--- array is there.
+-- A stretch of n sessions after session d: what is seen of the asset's bars from one of its sessions is seen so from
+-- each later one.
+abbrev pub IsStretch : Task → ℕ → ℕ → ℕ → Type 0
+IsStretch t i d n = (r s : ℕ) → d ≤ r → r ≤ s → s ≤ d + n → (low : ℤ) → IsStillBetween t.world (sid_in (sids_in t) i) low (pos r) (pos s)
+
+-- What term u is seen as on the m sessions before is what it was there: it does not move, or the bars of the asset
+-- stand still.
+abbrev pub IsUnchanged : View → ℕ → ℕ → Type 0
+IsUnchanged v u m = (moves_at (graph_in (task_on v)) u ≡ false) ⊎ IsStretch (task_on v) v.i (v.session - m) m
+
+-- Term u is read on the m sessions before: it has a lane, which is long enough, or it is unchanged and its array
+-- is there.
 pub record IsSeenTerm (v : View) (cone : List (ℕ × ℕ)) (lanes : List ℤ) (u m : ℕ) : Type 0 where
   pub lane : (l : List ℤ) → lane_of cone lanes u ≡ Some l → (k : ℕ) × (m ≤ k) × (k ≤ v.session) × IsSeenLane (task_on v) u v.i v.session k l
-  pub own : lane_of cone lanes u ≡ None → (moves_at (graph_in (task_on v)) u ≡ false) × IsRead (task_on v) v.course.now.workspace.now v.session (m + 1) u
+  pub own : lane_of cone lanes u ≡ None → IsUnchanged v u m × IsRead (task_on v) v.course.now.workspace.now v.session (m + 1) u
 
 -- the lower terms of the cone have their lanes
 pub record AreLower (v : View) (u : ℕ) (cone : List (ℕ × ℕ)) (lanes : List ℤ) : Type 0 where
@@ -108,11 +118,6 @@ pub record AreLower (v : View) (u : ℕ) (cone : List (ℕ × ℕ)) (lanes : Lis
   pub long : lanes_long cone ≤ length lanes
 
 -- ---- a stretch of sessions
-
--- A stretch of n sessions after session d: what is seen of the asset's bars from one of its sessions is seen so from
--- each later one.
-abbrev pub IsStretch : Task → ℕ → ℕ → ℕ → Type 0
-IsStretch t i d n = (r s : ℕ) → d ≤ r → r ≤ s → s ≤ d + n → (low : ℤ) → IsStillBetween t.world (sid_in (sids_in t) i) low (pos r) (pos s)
 
 -- The windows of term u on session d and n later ones follow on each other in the list, each as it is seen on its
 -- session.

@@ -104,8 +104,8 @@ fn own_cells<'v>(view: &View<'v>, term: TermId, many: usize) -> &'v [i64]
     cells_up_to(&array, view.i, view.session - 1 - array.low, many)
 }
 
-/// What a term is seen as on the `many` sessions before: of one that moves in its lane, of another in its
-/// array.
+/// What a term is seen as on the `many` sessions before: of one that moves in its lane, of an unchanged one in
+/// its array.
 pub(crate) fn term_cells<'v>(
     view: &View<'v>,
     cone: &[ConeTerm],

@@ -29,4 +29,6 @@ returns-in-Some c =
 
 pub returns-in-None : goal.returns-in-None
 returns-in-None c =
-    own-seen c.args.view.now c.args.term.0 c.args.many c.own_cells.result.now (c.requires.seen.own (missing _ _ c.lane_of.ensures c.in-None.is)).0 c.own_cells.ensures
+    let own = c.requires.seen.own (missing _ _ c.lane_of.ensures c.in-None.is) in
+    let early = own.1.early in
+    own-seen c.args.view.now c.requires.view c.args.term.0 c.args.many c.own_cells.result.now (omega (arith, early)) own.0 c.own_cells.ensures
